@@ -1,7 +1,7 @@
 -- The sets of conditions that are made of others.
 use Rattle.std.proofs.Common.{◌+◌, ◌≤◌, ◌||◌, ℕ, Bool, true, false, cond, List, [], ◌∷◌, ◌++◌, arith}
 use Rattle.std.specs.List.{AllByRecursion}
-use Rattle.acc_forms.specs.Joined.{all_of, conj, conjuncts, disj, disjuncts, is_false, is_true, listed, some_of}
+use Rattle.acc_forms.specs.Joined.{and_of, conj, conjuncts, disj, disjuncts, is_false, is_true, parts_list, some_of}
 use Rattle.acc_forms.specs.Shift.{shift, shifts}
 use Rattle.aut_base.proofs.lists.AllByRecursion.{AllByRecursion-append}
 use Rattle.aut_base.specs.Formula.{And, EachSetsBelow, False, Fin, FormulaTree, FormulaTrees, Inf, Or, SetsBelow, True, more, none, trees}
@@ -32,7 +32,7 @@ mutual
   each_shift k m n le none below = tt
   each_shift k m n le (more f fs) below = (sets_shift k m n le f below.0, each_shift k m n le fs below.1)
 
-each_listed : (n : ℕ) (fs : FormulaTrees) → EachSetsBelow n fs → AllByRecursion (SetsBelow n) (listed fs)
+each_listed : (n : ℕ) (fs : FormulaTrees) → EachSetsBelow n fs → AllByRecursion (SetsBelow n) (parts_list fs)
 each_listed n none below = tt
 each_listed n (more f fs) below = (below.0, each_listed n fs below.1)
 
@@ -40,7 +40,7 @@ each_trees : (n : ℕ) (fs : List FormulaTree) → AllByRecursion (SetsBelow n) 
 each_trees n [] below = tt
 each_trees n (f ∷ fs) below = (below.0, each_trees n fs below.1)
 
-pub sets_all_of : (n : ℕ) (fs : List FormulaTree) → AllByRecursion (SetsBelow n) fs → SetsBelow n (all_of fs)
+pub sets_all_of : (n : ℕ) (fs : List FormulaTree) → AllByRecursion (SetsBelow n) fs → SetsBelow n (and_of fs)
 sets_all_of n [] below = tt
 sets_all_of n (f ∷ []) below = below.0
 sets_all_of n (f ∷ g ∷ fs) below = (below.0, below.1.0, each_trees n fs below.1.1)
@@ -73,7 +73,7 @@ sets_either n false f g one two = two
 pub sets_conj : (n : ℕ) (f g : FormulaTree) → SetsBelow n f → SetsBelow n g → SetsBelow n (conj f g)
 sets_conj n f g one two =
     let parts = AllByRecursion-append (SetsBelow n) (conjuncts f) (conjuncts g) (sets_conjuncts n f one) (sets_conjuncts n g two) in
-    sets_either n (is_false f || is_false g) False (all_of (conjuncts f ++ conjuncts g)) tt (sets_all_of n (conjuncts f ++ conjuncts g) parts)
+    sets_either n (is_false f || is_false g) False (and_of (conjuncts f ++ conjuncts g)) tt (sets_all_of n (conjuncts f ++ conjuncts g) parts)
 
 pub sets_disj : (n : ℕ) (f g : FormulaTree) → SetsBelow n f → SetsBelow n g → SetsBelow n (disj f g)
 sets_disj n f g one two =

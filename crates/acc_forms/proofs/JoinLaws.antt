@@ -9,19 +9,19 @@ use Rattle.aut_base.specs.declared.formula.Formula.{Formula}
 use Rattle.aut_base.specs.declared.formula.Formula.TheVariants as formula
 use Rattle.aut_base.specs.declared.formula.Formulas.{Formulas}
 use Rattle.aut_base.proofs.trees.FormulaTrees.{formula_tree-And, formula_tree-Or}
-use Rattle.acc_forms.specs.Joined.{listed, conjuncts, disjuncts, conj, disj}
-use Rattle.acc_forms.specs.inner.Join.{joined, outweighs, is_all, is_neutral, parts_under, node, parts_pass}
+use Rattle.acc_forms.specs.Joined.{parts_list, conjuncts, disjuncts, conj, disj}
+use Rattle.acc_forms.specs.inner.Join.{joined_by, outweighs, is_all, is_neutral, parts_under, node, parts_pass}
 use Rattle.acc_forms.specs.declared.join.Join.{Join}
 use Rattle.acc_forms.specs.declared.join.Join.TheVariants as join
 use Rattle.acc_forms.proofs.Parts.{met-all_of, met-some_of}
 use Rattle.aut_base.proofs.lists.Steps.{all_more, all_not_here, any_here, any_more}
 use Rattle.aut_base.proofs.numbers.Truth.{and-true, or-false}
 
-listed-trees : (fs : List FormulaTree) → listed (trees fs) ≡ fs
+listed-trees : (fs : List FormulaTree) → parts_list (trees fs) ≡ fs
 listed-trees [] = refl
 listed-trees (f ∷ fs) = ap (λ gs. f ∷ gs) (listed-trees fs)
 
-trees-listed : (fs : FormulaTrees) → trees (listed fs) ≡ fs
+trees-listed : (fs : FormulaTrees) → trees (parts_list fs) ≡ fs
 trees-listed none = refl
 trees-listed (more f fs) = ap (more f) (trees-listed fs)
 
@@ -67,35 +67,35 @@ is_the_neutral join.All = is_sink join.Any
 is_the_neutral join.Any = is_sink join.All
 
 -- a join, by whether one of the two outweighs
-by_weight : (j : Join) (f g : FormulaTree) (b : Bool) → (outweighs j f || outweighs j g) ≡ b → joined j f g ≡ cond b (sink j) (node j (parts_under j f ++ parts_under j g))
+by_weight : (j : Join) (f g : FormulaTree) (b : Bool) → (outweighs j f || outweighs j g) ≡ b → joined_by j f g ≡ cond b (sink j) (node j (parts_under j f ++ parts_under j g))
 by_weight join.All f g b h = ap (λ x. cond x False (node join.All (conjuncts f ++ conjuncts g))) h
 by_weight join.Any f g b h = ap (λ x. cond x True (node join.Any (disjuncts f ++ disjuncts g))) h
 
-pub joined_parts : (j : Join) (f g : FormulaTree) → outweighs j f ≡ false → outweighs j g ≡ false → node j (parts_under j f ++ parts_under j g) ≡ joined j f g
+pub joined_parts : (j : Join) (f g : FormulaTree) → outweighs j f ≡ false → outweighs j g ≡ false → node j (parts_under j f ++ parts_under j g) ≡ joined_by j f g
 joined_parts j f g first second = sym (by_weight j f g false (or_from (outweighs j f) (outweighs j g) first second))
 
 -- a join that is its first condition, or its second
-pub first_outweighs : (j : Join) (f g : FormulaTree) → outweighs j f ≡ true → f ≡ joined j f g
+pub first_outweighs : (j : Join) (f g : FormulaTree) → outweighs j f ≡ true → f ≡ joined_by j f g
 first_outweighs j f g h = is_sink j f h ∙ sym (by_weight j f g true (or_left (outweighs j f) (outweighs j g) h))
 
-pub second_outweighs : (j : Join) (f g : FormulaTree) → outweighs j g ≡ true → g ≡ joined j f g
+pub second_outweighs : (j : Join) (f g : FormulaTree) → outweighs j g ≡ true → g ≡ joined_by j f g
 second_outweighs j f g h = is_sink j g h ∙ sym (by_weight j f g true (or_right (outweighs j f) (outweighs j g) h))
 
-neutral_right : (j : Join) (f : FormulaTree) → f ≡ joined j f (neutral j)
+neutral_right : (j : Join) (f : FormulaTree) → f ≡ joined_by j f (neutral j)
 neutral_right join.All True = refl
 neutral_right join.All False = refl
 neutral_right join.All (Inf set neg) = refl
 neutral_right join.All (Fin set neg) = refl
-neutral_right join.All (And a b cs) = ap (And a b) (sym (ap trees (append-nil (listed cs)) ∙ trees-listed cs))
+neutral_right join.All (And a b cs) = ap (And a b) (sym (ap trees (append-nil (parts_list cs)) ∙ trees-listed cs))
 neutral_right join.All (Or a b cs) = refl
 neutral_right join.Any True = refl
 neutral_right join.Any False = refl
 neutral_right join.Any (Inf set neg) = refl
 neutral_right join.Any (Fin set neg) = refl
 neutral_right join.Any (And a b cs) = refl
-neutral_right join.Any (Or a b cs) = ap (Or a b) (sym (ap trees (append-nil (listed cs)) ∙ trees-listed cs))
+neutral_right join.Any (Or a b cs) = ap (Or a b) (sym (ap trees (append-nil (parts_list cs)) ∙ trees-listed cs))
 
-neutral_left : (j : Join) (g : FormulaTree) → g ≡ joined j (neutral j) g
+neutral_left : (j : Join) (g : FormulaTree) → g ≡ joined_by j (neutral j) g
 neutral_left join.All True = refl
 neutral_left join.All False = refl
 neutral_left join.All (Inf set neg) = refl
@@ -109,11 +109,11 @@ neutral_left join.Any (Fin set neg) = refl
 neutral_left join.Any (And a b cs) = refl
 neutral_left join.Any (Or a b cs) = ap (Or a b) (sym (trees-listed cs))
 
-pub second_neutral : (j : Join) (f g : FormulaTree) → is_neutral j g ≡ true → f ≡ joined j f g
-second_neutral j f g h = neutral_right j f ∙ ap (joined j f) (sym (is_the_neutral j g h))
+pub second_neutral : (j : Join) (f g : FormulaTree) → is_neutral j g ≡ true → f ≡ joined_by j f g
+second_neutral j f g h = neutral_right j f ∙ ap (joined_by j f) (sym (is_the_neutral j g h))
 
-pub first_neutral : (j : Join) (f g : FormulaTree) → is_neutral j f ≡ true → g ≡ joined j f g
-first_neutral j f g h = neutral_left j g ∙ ap (λ x. joined j x g) (sym (is_the_neutral j f h))
+pub first_neutral : (j : Join) (f g : FormulaTree) → is_neutral j f ≡ true → g ≡ joined_by j f g
+first_neutral j f g h = neutral_left j g ∙ ap (λ x. joined_by j x g) (sym (is_the_neutral j f h))
 
 -- parts looked at one after the other, until one decides
 pub pass_more : (j : Join) (p : FormulaTree → Bool) (fs : List FormulaTree) (k : ℕ) (f : FormulaTree) → slice_get fs k ≡ Some f → parts_pass j p (drop k fs) ≡ parts_pass j p fs
@@ -144,11 +144,11 @@ module _ (cycle : List (List ℕ)) where
   met-node join.Any (f ∷ []) = sym (met-alone join.Any f)
   met-node join.Any (a ∷ b ∷ cs) = met-some_of cycle a b cs
 
-  all-listed : (fs : FormulaTrees) → list_all (met cycle) (listed fs) ≡ all_met cycle fs
+  all-listed : (fs : FormulaTrees) → list_all (met cycle) (parts_list fs) ≡ all_met cycle fs
   all-listed none = refl
   all-listed (more f fs) = ap (λ b. met cycle f && b) (all-listed fs)
 
-  any-listed : (fs : FormulaTrees) → list_any (met cycle) (listed fs) ≡ some_met cycle fs
+  any-listed : (fs : FormulaTrees) → list_any (met cycle) (parts_list fs) ≡ some_met cycle fs
   any-listed none = refl
   any-listed (more f fs) = ap (λ b. met cycle f || b) (any-listed fs)
 
@@ -178,7 +178,7 @@ module _ (cycle : List (List ℕ)) where
   sink_second join.All b = and_right b false refl
   sink_second join.Any b = or_right b true refl
 
-  met-joined : (j : Join) (f g : FormulaTree) → met cycle (joined j f g) ≡ agree j (met cycle f) (met cycle g)
+  met-joined : (j : Join) (f g : FormulaTree) → met cycle (joined_by j f g) ≡ agree j (met cycle f) (met cycle g)
   met-joined j f g =
       ⊎_elim
       (λ yes. ap (met cycle) (by_weight j f g true yes)

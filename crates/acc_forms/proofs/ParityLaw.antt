@@ -57,8 +57,8 @@ module _ (cycle : List (List ℕ)) where
   later : (more set : ℕ) → carried set ≡ false → met cycle (parity_from (suc more) set) ≡ met cycle (parity_from more (set + 1))
   later more set is = met-first (is_odd set) set (parity_from more (set + 1)) ∙ ap (λ c. cond c (is_odd set) (met cycle (parity_from more (set + 1)))) is
 
-  one_more : (set : ℕ) → ((k : ℕ) → k < set → ¬ (IsCarried cycle k)) → carried set ≡ false → (k : ℕ) → k < set + 1 → ¬ (IsCarried cycle k)
-  one_more set below is k within carries =
+  none_up_to_next : (set : ℕ) → ((k : ℕ) → k < set → ¬ (IsCarried cycle k)) → carried set ≡ false → (k : ℕ) → k < set + 1 → ¬ (IsCarried cycle k)
+  none_up_to_next set below is k within carries =
       ⊎_elim
       (λ less. below k less carries)
       (λ least. let same : k ≡ set = omega arith in both_ways (carried set) is (subst (λ j. carried j ≡ true) same carries))
@@ -73,12 +73,12 @@ module _ (cycle : List (List ℕ)) where
       (λ is. found n set (omega arith) below is (sym (here zero set is) ∙ holds))
       (λ is.
       let whole : set + 1 ≡ n = omega arith in
-      inr (record { none_carried = λ k within. one_more set below is k (omega arith); odd = subst (λ m. is_odd m ≡ true) whole (sym (last set is) ∙ holds) }))
+      inr (record { none_carried = λ k within. none_up_to_next set below is k (omega arith); odd = subst (λ m. is_odd m ≡ true) whole (sym (last set is) ∙ holds) }))
       (cases_Bool (carried set))
   says (suc more) set n e below holds =
       ⊎_elim
       (λ is. found n set (omega arith) below is (sym (here (suc more) set is) ∙ holds))
-      (λ is. says more (set + 1) n (omega arith) (one_more set below is) (sym (later more set is) ∙ holds))
+      (λ is. says more (set + 1) n (omega arith) (none_up_to_next set below is) (sym (later more set is) ∙ holds))
       (cases_Bool (carried set))
 
   -- the least one that is carried is where the first is that is
@@ -102,12 +102,12 @@ module _ (cycle : List (List ℕ)) where
   means zero set n e below odd =
       ⊎_elim
       (λ is. here zero set is ∙ same_least n set below is (omega arith) odd)
-      (λ is. last set is ∙ none_odd n set (omega arith) (one_more set below is) odd)
+      (λ is. last set is ∙ none_odd n set (omega arith) (none_up_to_next set below is) odd)
       (cases_Bool (carried set))
   means (suc more) set n e below odd =
       ⊎_elim
       (λ is. here (suc more) set is ∙ same_least n set below is (omega arith) odd)
-      (λ is. later more set is ∙ means more (set + 1) n (omega arith) (one_more set below is) odd)
+      (λ is. later more set is ∙ means more (set + 1) n (omega arith) (none_up_to_next set below is) odd)
       (cases_Bool (carried set))
 
   pub met-parity_says : (n : ℕ) → 1 ≤ n → met cycle (parity_min_odd n) ≡ true → MinIsOdd n cycle

@@ -9,7 +9,7 @@ use Rattle.aut_base.proofs.trees.FormulaSizes.{formula_size-at}
 use Rattle.aut_base.proofs.trees.FormulaTrees.{formula_tree-And, formula_tree-Or}
 use Rattle.acc_forms.specs.Atoms.{has_fin, some_fin}
 use Rattle.acc_forms.specs.Dual.{dual, duals}
-use Rattle.acc_forms.specs.Joined.{all_of, some_of}
+use Rattle.acc_forms.specs.Joined.{and_of, some_of}
 use Rattle.acc_forms.specs.Shift.{shift, shifts}
 
 all_met-trees : (cycle : List (List ℕ)) (fs : List FormulaTree) → all_met cycle (trees fs) ≡ list_all (met cycle) fs
@@ -21,7 +21,7 @@ some_met-trees cycle [] = refl
 some_met-trees cycle (f ∷ fs) = ap (λ b. met cycle f || b) (some_met-trees cycle fs)
 
 -- the truth of parts under an And or an Or, where they are at least two
-pub met-all_of : (cycle : List (List ℕ)) (a b : FormulaTree) (cs : List FormulaTree) → met cycle (all_of (a ∷ b ∷ cs)) ≡ list_all (met cycle) (a ∷ b ∷ cs)
+pub met-all_of : (cycle : List (List ℕ)) (a b : FormulaTree) (cs : List FormulaTree) → met cycle (and_of (a ∷ b ∷ cs)) ≡ list_all (met cycle) (a ∷ b ∷ cs)
 met-all_of cycle a b cs = ap (λ rest. met cycle a && (met cycle b && rest)) (all_met-trees cycle cs)
 
 pub met-some_of : (cycle : List (List ℕ)) (a b : FormulaTree) (cs : List FormulaTree) → met cycle (some_of (a ∷ b ∷ cs)) ≡ list_any (met cycle) (a ∷ b ∷ cs)
@@ -55,7 +55,7 @@ dual-And p q parts =
 
 pub dual-Or : (p q : Formulas) → formula_list q ≡ map dual (formula_list p) → formula_tree (And q) ≡ dual (formula_tree (Or p))
 dual-Or p q parts =
-    formula_tree-And q ∙ ap all_of parts
+    formula_tree-And q ∙ ap and_of parts
     ∙ sym (ap dual (formula_tree-Or p) ∙ ap (λ rest. FormulaTree.And (dual (formula_parts p).first) (dual (formula_parts p).second) rest) (duals-trees (formula_parts p).others))
 
 shifts-trees : (n : ℕ) (fs : List FormulaTree) → shifts n (trees fs) ≡ trees (map (shift n) fs)
@@ -65,7 +65,7 @@ shifts-trees n (f ∷ fs) = ap (λ rest. more (shift n f) rest) (shifts-trees n 
 -- the condition whose parts are the shifted ones
 pub shift-And : (n : ℕ) (p q : Formulas) → formula_list q ≡ map (shift n) (formula_list p) → formula_tree (And q) ≡ shift n (formula_tree (And p))
 shift-And n p q parts =
-    formula_tree-And q ∙ ap all_of parts
+    formula_tree-And q ∙ ap and_of parts
     ∙ sym (ap (shift n) (formula_tree-And p) ∙ ap (λ rest. FormulaTree.And (shift n (formula_parts p).first) (shift n (formula_parts p).second) rest) (shifts-trees n (formula_parts p).others))
 
 pub shift-Or : (n : ℕ) (p q : Formulas) → formula_list q ≡ map (shift n) (formula_list p) → formula_tree (Or q) ≡ shift n (formula_tree (Or p))

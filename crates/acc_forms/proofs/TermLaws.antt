@@ -7,7 +7,7 @@ use Rattle.aut_base.specs.declared.formula.Formula.TheVariants as formula
 use Rattle.aut_base.specs.declared.formula.Formulas.{Formulas}
 use Rattle.aut_base.proofs.trees.FormulaTrees.{formula_tree-And, formula_tree-Or}
 use Rattle.acc_forms.specs.Joined.{conj, disj}
-use Rattle.acc_forms.specs.Terms.{terms, each_terms, choices, literal_tree, some_term_met, of_term, of_terms}
+use Rattle.acc_forms.specs.Terms.{terms, each_terms, choices, literal_formula, some_term_met, of_term, of_terms}
 use Rattle.acc_forms.specs.declared.literal.Literal.{Literal}
 use Rattle.acc_forms.proofs.JoinLaws.{met-conj, met-disj}
 use Rattle.acc_forms.proofs.TermLists.{any-pairs}
@@ -15,7 +15,7 @@ use Rattle.aut_base.proofs.numbers.Truth.{and-true, or-false}
 use Rattle.std.proofs.Math.Bool.{and_assoc, or_assoc}
 
 abbrev holds : List (List ℕ) → Literal → Bool
-holds cycle literal = met cycle (literal_tree literal)
+holds cycle literal = met cycle (literal_formula literal)
 
 module _ (cycle : List (List ℕ)) where
   mutual
@@ -49,12 +49,12 @@ module _ (cycle : List (List ℕ)) where
 
 -- a term's literals joined to what there is
 met-fold_conj : (cycle : List (List ℕ)) (f : FormulaTree) (literals : List Literal)
-    → met cycle (fold (λ g literal. conj g (literal_tree literal)) f literals) ≡ (met cycle f && list_all (holds cycle) literals)
+    → met cycle (fold (λ g literal. conj g (literal_formula literal)) f literals) ≡ (met cycle f && list_all (holds cycle) literals)
 met-fold_conj cycle f [] = sym (and-true (met cycle f))
 met-fold_conj cycle f (l ∷ ls) =
-    met-fold_conj cycle (conj f (literal_tree l)) ls
-    ∙ ap (λ b. b && list_all (holds cycle) ls) (met-conj cycle f (literal_tree l))
-    ∙ and_assoc (met cycle f) (met cycle (literal_tree l)) (list_all (holds cycle) ls)
+    met-fold_conj cycle (conj f (literal_formula l)) ls
+    ∙ ap (λ b. b && list_all (holds cycle) ls) (met-conj cycle f (literal_formula l))
+    ∙ and_assoc (met cycle f) (met cycle (literal_formula l)) (list_all (holds cycle) ls)
 
 met-of_term : (cycle : List (List ℕ)) (literals : List Literal) → met cycle (of_term literals) ≡ list_all (holds cycle) literals
 met-of_term cycle literals = met-fold_conj cycle True literals

@@ -8,13 +8,13 @@ use Rattle.acc_forms.specs.declared.literal.Literal.{Literal}
 use Rattle.acc_forms.specs.declared.literal.Literal.TheVariants.{Inf, Fin}
 
 -- the atom, as a condition
-abbrev pub literal_tree : Literal → FormulaTree
-literal_tree (Inf set neg) = FormulaTree.Inf set neg
-literal_tree (Fin set neg) = FormulaTree.Fin set neg
+abbrev pub literal_formula : Literal → FormulaTree
+literal_formula (Inf set neg) = FormulaTree.Inf set neg
+literal_formula (Fin set neg) = FormulaTree.Fin set neg
 
 -- whether all atoms of some term hold on the cycle
 abbrev pub some_term_met : List (List ℕ) → List (List Literal) → Bool
-some_term_met cycle terms = list_any (λ term. list_all (λ literal. met cycle (literal_tree literal)) term) terms
+some_term_met cycle terms = list_any (λ term. list_all (λ literal. met cycle (literal_formula literal)) term) terms
 
 -- each term of the first with each of the second joined to it; the choice from the first varies slowest
 abbrev pub pairs : List (List Literal) → List (List Literal) → List (List Literal)
@@ -49,7 +49,7 @@ count terms = max (length terms) (div_ceil (literals terms) 1024)
 
 -- the condition that all literals of a term hold
 abbrev pub of_term : List Literal → FormulaTree
-of_term literals = fold (λ f literal. conj f (literal_tree literal)) True literals
+of_term literals = fold (λ f literal. conj f (literal_formula literal)) True literals
 
 -- The condition that has these terms. Law: it holds on a cycle exactly where all atoms of some term do.
 abbrev pub of_terms : List (List Literal) → FormulaTree

@@ -3,7 +3,7 @@
 ghost use Rattle.std.specs.Prelude.{◌≡◌, ℕ, ◌<◌, ◌≤◌, ◌&&◌, ◌||◌, ◌++◌, List, drop, length, IfOk, OnOk, IfSome, IfNone, ◌∷◌, [], false};
 ghost use Rattle.aut_base.specs.Formula.{formula_tree, formula_list, met, trees};
 ghost use Rattle.acc_forms.specs.Joined.{conj, disj};
-ghost use Rattle.acc_forms.specs.inner.Join.{joined, outweighs, is_all, is_neutral, parts_under, node};
+ghost use Rattle.acc_forms.specs.inner.Join.{joined_by, outweighs, is_all, is_neutral, parts_under, node};
 
 use aut_base::{Formula, Formulas, Memory};
 use std::alloc::Global;
@@ -90,7 +90,7 @@ impl Join {
 
 /// Two conditions joined, where the second is copied.
 pub(crate) fn join_to(alloc: Global, join: Join, f: Formula, g: &Formula) -> Result<Formula, Memory>
-    ensures { IfOk result (λ new. formula_tree new ≡ joined join (formula_tree f) (formula_tree g.now)) }
+    ensures { IfOk result (λ new. formula_tree new ≡ joined_by join (formula_tree f) (formula_tree g.now)) }
 {
     if join.outweighs(&f) || join.is_neutral(g) {
         return Ok(f);

@@ -19,12 +19,12 @@ pub type Literals = Seq<Literal>;
 pub type Terms = Seq<Literals>;
 
 impl Literal {
-    ghost use Rattle.acc_forms.specs.Terms.{literal_tree};
+    ghost use Rattle.acc_forms.specs.Terms.{literal_formula};
 
     /// The atom as a condition.
     #[tactic(auto, using(aut_base::proofs::trees::FormulaTrees::formula_trees))]
     pub(crate) fn formula(self) -> Formula
-        ensures { formula_tree result ≡ literal_tree self }
+        ensures { formula_tree result ≡ literal_formula self }
     {
         match self {
             Literal::Inf { set, neg } => Formula::Inf { set, neg },

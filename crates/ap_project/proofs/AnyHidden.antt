@@ -7,7 +7,7 @@ use Rattle.aut_base.proofs.lists.Copies.{length-copies}
 use Rattle.std.proofs.Math.Nat.{le-mul_of_pos_right}
 use Rattle.aut_base.proofs.words.SameWord.{same_word_same_verdict}
 use Rattle.aut_base.specs.Acceptance.{Accepts, IsPath}
-use Rattle.aut_base.specs.Automaton.{Automaton, TreeEdge}
+use Rattle.aut_base.specs.Automaton.{Automaton, LabelledEdge}
 use Rattle.aut_base.specs.Formula.{met}
 use Rattle.aut_base.specs.Label.{LabelTree, holds_at, truth}
 use Rattle.aut_base.specs.Word.{NameSet, SpellsSame, copies}
@@ -63,7 +63,7 @@ module _ (name : List ℕ) (a h : Automaton) (is : IsHidden Any name a h) where
       let R : NameSet → NameSet → Type 0 = λ s t. s ≡ without name t in
       accepts_carried R h h step (λ s there. there) refl _ _ u v (map_related R (without name) (λ s. refl) u) (map_related R (without name) (λ s. refl) v) r
     where
-      step : (f : TreeEdge) (s t : NameSet) → s ≡ without name t → Contains h.edges f → truth (holds_at h.names s) f.label ≡ true → Forth h f t
+      step : (f : LabelledEdge) (s t : NameSet) → s ≡ without name t → Contains h.edges f → truth (holds_at h.names s) f.label ≡ true → Forth h f t
       step f s t same there holds =
           let old = is.back f s there holds in
           let at_without = subst (λ z. hidden_truth Any name a.names old.edge.label z ≡ true) same old.holds in
@@ -74,12 +74,12 @@ module _ (name : List ℕ) (a h : Automaton) (is : IsHidden Any name a h) where
           record { edge = new.edge; there = new.there; twin = record { from = same_from; to = same_to; marks = same_marks }; holds = new.holds }
 
   -- a path of a over letters that are the same but for the name
-  record Chosen (p : ℕ) (xs : List NameSet) (es : List TreeEdge) (q : ℕ) : Type 0 where
+  record Chosen (p : ℕ) (xs : List NameSet) (es : List LabelledEdge) (q : ℕ) : Type 0 where
     letters : List NameSet
-    way : List TreeEdge
+    way : List LabelledEdge
     same : Related (SameBut name) xs letters
     leads : IsPath a p letters way q
-    marks : map (λ (e : TreeEdge). e.marks) way ≡ map (λ (e : TreeEdge). e.marks) es
+    marks : map (λ (e : LabelledEdge). e.marks) way ≡ map (λ (e : LabelledEdge). e.marks) es
 
   record Letter (x : NameSet) (l : LabelTree) : Type 0 where
     letter : NameSet
@@ -92,7 +92,7 @@ module _ (name : List ℕ) (a h : Automaton) (is : IsHidden Any name a h) where
     | inr present ↦ record { letter = including name x; same = but_including name x; holds = present }
   ]
 
-  chosen : (p q : ℕ) (xs : List NameSet) (es : List TreeEdge) → IsPath h p xs es q → Chosen p xs es q
+  chosen : (p q : ℕ) (xs : List NameSet) (es : List LabelledEdge) → IsPath h p xs es q → Chosen p xs es q
   chosen p q [] [] path = record { letters = []; way = []; same = tt; leads = path; marks = refl }
   chosen p q [] (e ∷ es) path = absurd path
   chosen p q (x ∷ xs) [] path = absurd path
@@ -134,7 +134,7 @@ module _ (name : List ℕ) (a h : Automaton) (is : IsHidden Any name a h) where
           leads = subst (λ w. IsPath a r.start w way.way r.state) (sym (append-nil way.letters)) way.leads;
           positive = omega arith;
           returns = subst (λ w. IsPath a r.state w cycle.way r.state) (sym (append-nil cycle.letters)) cycle.leads;
-          meets = ap (λ marks. met marks a.formula) cycle.marks ∙ (ap (met (map (λ (e : TreeEdge). e.marks) r.cycle)) (sym is.formula) ∙ r.meets);
+          meets = ap (λ marks. met marks a.formula) cycle.marks ∙ (ap (met (map (λ (e : LabelledEdge). e.marks) r.cycle)) (sym is.formula) ∙ r.meets);
         };
       }
 

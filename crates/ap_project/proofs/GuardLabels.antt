@@ -9,7 +9,7 @@ use Rattle.std.specs.List.{slice_index_or}
 use Rattle.std.specs.Map.{lookup}
 use Rattle.std.proofs.lemmas.Bool.{eqb-true}
 use Rattle.aut_base.proofs.canonical.CanonicalTruth.{label_of-same, truth_below}
-use Rattle.aut_base.specs.CanonicalLabel.{label_of}
+use Rattle.aut_base.specs.CanonicalLabel.{label_of_truth}
 use Rattle.aut_base.specs.Label.{holds_at, truth}
 use Rattle.aut_base.specs.Valuation.{holds_in, letter_of, truth_on}
 use Rattle.aut_base.specs.Word.{NameSet}
@@ -23,7 +23,7 @@ use Rattle.ap_project.proofs.Letters.{but_including, but_without, has_name, lack
 use Rattle.ap_project.proofs.OtherNames.{apart, is_left}
 use Rattle.ap_project.specs.Hiding.{SameBut, hidden_label, hidden_truth, hidden_value, including, names_without, without}
 use Rattle.ap_project.specs.declared.hide.Hide.{Hide}
-use Rattle.ap_project.specs.inner.HiddenGuards.{AreHidden, ArePlaces, AreWithin, IsHiddenGuard, IsPut, hidden_in, name_at, same_guard}
+use Rattle.ap_project.specs.inner.HiddenGuards.{AreHidden, ArePlacesOfNames, ArePlacesWithin, IsHiddenGuard, IsGuardInserted, hidden_in, name_at, same_guard}
 
 other_number : (a b : ℕ) → nat_eq a b ≡ false → a ≢ b
 other_number a b e = grind arith
@@ -56,13 +56,13 @@ pub table_kept : {s t more_s more_t : Store} → Keeps s more_s → Keeps t more
     → AreHidden s t how prop to entries → AreHidden more_s more_t how prop to entries
 table_kept first second how prop to entries are = λ g h found. hidden_kept first second how prop to g h (are g h found)
 
-pub table_more : (s t : Store) (how : Hide) (prop : ℕ) (to : List ℕ) (old new : List (Guard × Guard)) (g found : Guard) → IsPut old new g found → AreHidden s t how prop to old
+pub table_more : (s t : Store) (how : Hide) (prop : ℕ) (to : List ℕ) (old new : List (Guard × Guard)) (g found : Guard) → IsGuardInserted old new g found → AreHidden s t how prop to old
     → IsHiddenGuard s t how prop to g found → AreHidden s t how prop to new
-table_more s t how prop to old new g found put are is = λ q h e. by q h (same_guard g q) refl (sym (put q) ∙ e)
+table_more s t how prop to old new g found put are is = λ q h e. by_cases q h (same_guard g q) refl (sym (put q) ∙ e)
   where
-    by : (q h : Guard) (b : Bool) → same_guard g q ≡ b → cond (same_guard g q) (Some found) (lookup (same_guard q) old) ≡ Some h → IsHiddenGuard s t how prop to q h
-    by q h false differ e = are q h (sym (ap (λ b. cond b (Some found) (lookup (same_guard q) old)) differ) ∙ e)
-    by q h true same e =
+    by_cases : (q h : Guard) (b : Bool) → same_guard g q ≡ b → cond (same_guard g q) (Some found) (lookup (same_guard q) old) ≡ Some h → IsHiddenGuard s t how prop to q h
+    by_cases q h false differ e = are q h (sym (ap (λ b. cond b (Some found) (lookup (same_guard q) old)) differ) ∙ e)
+    by_cases q h true same e =
         let value : found ≡ h = same_Some found h (sym (ap (λ b. cond b (Some found) (lookup (same_guard q) old)) same) ∙ e) in
         let place = eqb-true g.place q.place same in
         let key : g ≡ q = λ i. record { place = place i } in
@@ -94,7 +94,8 @@ only_hidden s more how prop g hidden one within is k on = is.truth set ∙ ((λ 
         (λ i. if test i then b else set j) ∙ sym (λ i. if test i then b else unset j))
 
 -- Each proposition on which it depends has its place among the others, if there are others.
-pub hidden_goes_below : (s more : Store) (how : Hide) (prop : ℕ) (to : List ℕ) (g hidden : Guard) (count : ℕ) → prop < s.names → (count ≡ 0 → s.names ≡ 1) → length to ≡ more.names → AreWithin count to
+pub hidden_goes_below : (s more : Store) (how : Hide) (prop : ℕ) (to : List ℕ) (g hidden : Guard) (count : ℕ) → prop < s.names → (count ≡ 0 → s.names ≡ 1) → length to ≡ more.names
+    → ArePlacesWithin count to
     → IsGuardOf more (hidden_in s how prop g) hidden → GoesBelow count (λ k. slice_index_or to k 0) more hidden
 hidden_goes_below s more how prop to g hidden zero within alone long places is k less = inr (only_hidden s more how prop g hidden (alone (λ i. 0)) within is k)
 hidden_goes_below s more how prop to g hidden (suc count) within alone long places is k less = all_go_below (suc count) to more hidden long (places (omega arith)) k less
@@ -102,7 +103,7 @@ hidden_goes_below s more how prop to g hidden (suc count) within alone long plac
 -- the label over the other names
 module _ (s t : Store) (names : List (List ℕ)) (how : Hide) (prop : ℕ) (to : List ℕ) (g h : Guard) (within : prop < length names) (differ : AllPairs (λ p q. p ≢ q) names)
     (old_names : s.names ≡ length names) (new_names : t.names ≡ length (names_without (name_at names prop) names))
-    (placed : ArePlaces names (names_without (name_at names prop) names) to) (is : IsHiddenGuard s t how prop to g h) where
+    (placed : ArePlacesOfNames names (names_without (name_at names prop) names) to) (is : IsHiddenGuard s t how prop to g h) where
   abbrev others : List (List ℕ)
   others = names_without (name_at names prop) names
 
@@ -110,14 +111,14 @@ module _ (s t : Store) (names : List (List ℕ)) (how : Hide) (prop : ℕ) (to :
   set_at : (v : List Bool) → length v ≡ length others → (b : Bool) (y : NameSet) → SameBut (name_at names prop) (letter_of others v) y → contains y (name_at names prop) ≡ b
       → truth_in s g (with_prop (λ k. holds_in v (slice_index_or to k 0)) prop b) ≡ truth (holds_at names y) (label_in s g)
   set_at v long b y but here = truth_below s.names (with_prop (λ k. holds_in v (slice_index_or to k 0)) prop b) (holds_at names y) (label_in s g) (label_in_below s g)
-      (λ k less. by k (omega (arith, less, old_names)) (nat_eq k prop) refl)
+      (λ k less. by_cases k (omega (arith, less, old_names)) (nat_eq k prop) refl)
     where
-      by : (k : ℕ) → k < length names → (e : Bool) → nat_eq k prop ≡ e → with_prop (λ k. holds_in v (slice_index_or to k 0)) prop b k ≡ holds_at names y k
-      by k less true e =
+      by_cases : (k : ℕ) → k < length names → (e : Bool) → nat_eq k prop ≡ e → with_prop (λ k. holds_in v (slice_index_or to k 0)) prop b k ≡ holds_at names y k
+      by_cases k less true e =
           let same = eqb-true k prop e in
           ap (λ c. if c then b else holds_in v (slice_index_or to k 0)) e
           ∙ (sym here ∙ sym (ap (holds_at names y) same ∙ holds_there names prop (name_at names prop) y (slice_get-get_or names prop [] within)))
-      by k less false e =
+      by_cases k less false e =
           let q = name_at names k in
           let at : slice_get names k ≡ Some q = slice_get-get_or names k [] less in
           let other : q ≢ name_at names prop = apart names differ k prop (other_number k prop e) less within in
@@ -133,4 +134,4 @@ module _ (s t : Store) (names : List (List ℕ)) (how : Hide) (prop : ℕ) (to :
       is.truth (holds_in v) ∙ (λ i. hidden_value how (set_at v (long ∙ new_names) false (without n x) (but_without n x) (lacks_name n x) i)
       (set_at v (long ∙ new_names) true (including n x) (but_including n x) (has_name n x) i)) in
       sym (label_in_settled t h) ∙ (label_of-same t.names (truth_on (label_in t h)) (λ v. hidden_truth how n names (label_in s g) (letter_of others v)) at
-      ∙ ap (λ m. label_of m (λ v. hidden_truth how n names (label_in s g) (letter_of others v))) new_names)
+      ∙ ap (λ m. label_of_truth m (λ v. hidden_truth how n names (label_in s g) (letter_of others v))) new_names)

@@ -9,12 +9,12 @@ use Rattle.aut_base.proofs.canonical.CanonicalAutomata.{labels_below}
 use Rattle.aut_base.proofs.canonical.CanonicalBelow.{label_of_below}
 use Rattle.aut_base.proofs.canonical.CanonicalTruth.{truth_below}
 use Rattle.aut_base.proofs.numbers.Truth.{or_same}
-use Rattle.aut_base.specs.Automaton.{Automaton, IsEdgeOf, IsWellFormed, TreeEdge}
+use Rattle.aut_base.specs.Automaton.{Automaton, IsEdgeOf, IsWellFormed, LabelledEdge}
 use Rattle.aut_base.specs.Label.{AllBelow, LabelTree, holds_at, truth}
 use Rattle.aut_base.specs.Word.{NameSet}
 use Rattle.aut_core.proofs.JoinedNames.{among}
 use Rattle.aut_core.proofs.Made.{parts_from}
-use Rattle.aut_core.specs.Core.{AreParts, Core, IsCore, automaton_of, edge_of}
+use Rattle.aut_core.specs.SymbolicAutomata.{AreSymbolicParts, SymbolicAutomaton, IsWellFormedSymbolic, automaton_of, edge_of}
 use Rattle.aut_core.specs.OtherNames.{is_among}
 use Rattle.label_guards.specs.Store.{Has, label_in}
 use Rattle.ap_project.proofs.HiddenLabels.{holds_there, label_says, others_differ}
@@ -28,7 +28,7 @@ use Rattle.ap_project.specs.inner.HiddenGuards.{hidden_link}
 use Rattle.ap_project.specs.declared.hide.Hide.{Hide}
 use Rattle.ap_project.specs.declared.hide.Hide.TheVariants.{Any, Absent, Present}
 
-abbrev hidden_edge : Hide → List ℕ → List (List ℕ) → TreeEdge → TreeEdge
+abbrev hidden_edge : Hide → List ℕ → List (List ℕ) → LabelledEdge → LabelledEdge
 hidden_edge how name names e = record e { label = hidden_label how name names e.label }
 
 -- the automaton over the other names
@@ -36,7 +36,8 @@ abbrev pub over_others : Hide → List ℕ → Automaton → Automaton
 over_others how name a = record a { names = names_without name a.names; edges = map (hidden_edge how name a.names) a.edges }
 
 -- the edges of its links
-pub hidden_edges : (how : Hide) (name : List ℕ) (prop : ℕ) (a : Core) → slice_get a.names prop ≡ Some name → map (hidden_link how prop a) a.links ≡ (over_others how name (automaton_of a)).edges
+pub hidden_edges : (how : Hide) (name : List ℕ) (prop : ℕ) (a : SymbolicAutomaton) → slice_get a.names prop ≡ Some name
+    → map (hidden_link how prop a) a.links ≡ (over_others how name (automaton_of a)).edges
 hidden_edges how name prop a at =
     ap (λ n. map (λ l. record (edge_of a.store l) { label = hidden_label how n a.names (label_in a.store l.guard) }) a.links) (get_or_from_slice_get a.names prop name [] at)
     ∙ sym (map-map (hidden_edge how name a.names) (edge_of a.store) a.links)
@@ -48,19 +49,19 @@ pub hidden_lacking : (how : Hide) (name : List ℕ) (a : Automaton) → is_among
 hidden_lacking how name a lacking = ap (λ b. if b then over_others how name a else a) lacking
 
 pub names_hidden : (how : Hide) (name : List ℕ) (a : Automaton) → (hidden how name a).names ≡ names_without name a.names
-names_hidden how name a = by (is_among a.names name) refl
+names_hidden how name a = by_cases (is_among a.names name) refl
   where
-    by : (b : Bool) → is_among a.names name ≡ b → (hidden how name a).names ≡ names_without name a.names
-    by true there = ap (λ (h : Automaton). h.names) (hidden_there how name a there)
-    by false lacking = ap (λ (h : Automaton). h.names) (hidden_lacking how name a lacking) ∙ sym (all_left name a.names lacking)
+    by_cases : (b : Bool) → is_among a.names name ≡ b → (hidden how name a).names ≡ names_without name a.names
+    by_cases true there = ap (λ (h : Automaton). h.names) (hidden_there how name a there)
+    by_cases false lacking = ap (λ (h : Automaton). h.names) (hidden_lacking how name a lacking) ∙ sym (all_left name a.names lacking)
 
 -- what all automata over other names share with their own
 kept_hidden : {T : Type 0} (part : Automaton → T) (how : Hide) (name : List ℕ) (a : Automaton) → part (over_others how name a) ≡ part a → part (hidden how name a) ≡ part a
-kept_hidden part how name a kept = by (is_among a.names name) refl
+kept_hidden part how name a kept = by_cases (is_among a.names name) refl
   where
-    by : (b : Bool) → is_among a.names name ≡ b → part (hidden how name a) ≡ part a
-    by true there = ap part (hidden_there how name a there) ∙ kept
-    by false lacking = ap part (hidden_lacking how name a lacking)
+    by_cases : (b : Bool) → is_among a.names name ≡ b → part (hidden how name a) ≡ part a
+    by_cases true there = ap part (hidden_there how name a there) ∙ kept
+    by_cases false lacking = ap part (hidden_lacking how name a lacking)
 
 pub states_hidden : (how : Hide) (name : List ℕ) (a : Automaton) → (hidden how name a).states ≡ a.states
 states_hidden how name a = kept_hidden (λ (h : Automaton). h.states) how name a refl
@@ -77,7 +78,7 @@ others_are_hidden how name a formed = relabelled_is_hidden how name a (over_othe
   says = λ e x there. label_says how name a.names e.label formed.names_differ (All-contains (λ d. AllBelow (length a.names) d.label) a.edges e (labels_below a formed) there) x;
 })
 
-same_edges : (es : List TreeEdge) → es ≡ map (λ (e : TreeEdge). record e { label = e.label }) es
+same_edges : (es : List LabelledEdge) → es ≡ map (λ (e : LabelledEdge). record e { label = e.label }) es
 same_edges [] = refl
 same_edges (e ∷ es) = ap (λ ds. e ∷ ds) (same_edges es)
 
@@ -111,19 +112,19 @@ itself_is_hidden how name a lacking formed = relabelled_is_hidden how name a a (
 })
 
 pub hidden_accepts : HiddenAccepts
-hidden_accepts how name a formed = by (is_among a.names name) refl
+hidden_accepts how name a formed = by_cases (is_among a.names name) refl
   where
-    by : (b : Bool) → is_among a.names name ≡ b → AcceptsHidden how name a (hidden how name a)
-    by true there = subst (λ (h : Automaton). AcceptsHidden how name a h) (sym (hidden_there how name a there))
+    by_cases : (b : Bool) → is_among a.names name ≡ b → AcceptsHidden how name a (hidden how name a)
+    by_cases true there = subst (λ (h : Automaton). AcceptsHidden how name a h) (sym (hidden_there how name a there))
         (accepts_hidden how name a (over_others how name a) (others_are_hidden how name a formed))
-    by false lacking = subst (λ (h : Automaton). AcceptsHidden how name a h) (sym (hidden_lacking how name a lacking)) (accepts_hidden how name a a (itself_is_hidden how name a lacking formed))
+    by_cases false lacking = subst (λ (h : Automaton). AcceptsHidden how name a h) (sym (hidden_lacking how name a lacking)) (accepts_hidden how name a a (itself_is_hidden how name a lacking formed))
 
 others_well_formed : (how : Hide) (name : List ℕ) (a : Automaton) → IsWellFormed a → IsWellFormed (over_others how name a)
 others_well_formed how name a formed = record {
   names_differ = others_differ name a.names formed.names_differ;
   starts_differ = formed.starts_differ;
   starts = formed.starts;
-  in_order = subst IsNonDecreasing (sym (map-map (λ (e : TreeEdge). e.from) (hidden_edge how name a.names) a.edges)) formed.in_order;
+  in_order = subst IsNonDecreasing (sym (map-map (λ (e : LabelledEdge). e.from) (hidden_edge how name a.names) a.edges)) formed.in_order;
   edges = All-map (IsEdgeOf (over_others how name a)) (hidden_edge how name a.names) a.edges
       (All-weaker (IsEdgeOf a) (λ e. IsEdgeOf (over_others how name a) (hidden_edge how name a.names e))
       (λ e h. record { from = h.from; to = h.to; label = label_of_below (length (names_without name a.names)) _; marks = h.marks; marks_rise = h.marks_rise }) a.edges formed.edges);
@@ -131,8 +132,8 @@ others_well_formed how name a formed = record {
 }
 
 -- the parts of an automaton with a name hidden that it has
-pub others_parts : (how : Hide) (name : List ℕ) (old c : Core) → IsCore old → automaton_of c ≡ over_others how name (automaton_of old)
-    → c.store.names ≡ length (names_without name old.names) → All (λ l. Has c.store l.guard) c.links → AreParts c
+pub others_parts : (how : Hide) (name : List ℕ) (old c : SymbolicAutomaton) → IsWellFormedSymbolic old → automaton_of c ≡ over_others how name (automaton_of old)
+    → c.store.names ≡ length (names_without name old.names) → All (λ l. Has c.store l.guard) c.links → AreSymbolicParts c
 others_parts how name old c core same count has =
     let names_are : c.names ≡ names_without name old.names = λ i. (same i).names in
     parts_from c (subst IsWellFormed (sym same) (others_well_formed how name (automaton_of old) core.well_formed))

@@ -36,18 +36,18 @@ but_including name x q apart = sym (has_including name x q ∙ ap (λ b. b || se
 
 -- what a letter says of one name, with another or that one taken out of it or put into it
 pub without_alike : (name : List ℕ) (x y : NameSet) (q : List ℕ) → (q ≢ name → set.contains x q ≡ set.contains y q) → set.contains (without name x) q ≡ set.contains (without name y) q
-without_alike name x y q but = has_without name x q ∙ (by (same_name q name) (set.contains x q) (set.contains y q) (λ differ. but (apart_from q name differ)) ∙ sym (has_without name y q))
+without_alike name x y q but = has_without name x q ∙ (by_cases (same_name q name) (set.contains x q) (set.contains y q) (λ differ. but (apart_from q name differ)) ∙ sym (has_without name y q))
   where
-    by : (b c d : Bool) → (b ≡ false → c ≡ d) → (not b && c) ≡ (not b && d)
-    by true c d e = refl
-    by false c d e = e refl
+    by_cases : (b c d : Bool) → (b ≡ false → c ≡ d) → (not b && c) ≡ (not b && d)
+    by_cases true c d e = refl
+    by_cases false c d e = e refl
 
 pub including_alike : (name : List ℕ) (x y : NameSet) (q : List ℕ) → (q ≢ name → set.contains x q ≡ set.contains y q) → set.contains (including name x) q ≡ set.contains (including name y) q
-including_alike name x y q but = has_including name x q ∙ (by (same_name q name) (set.contains x q) (set.contains y q) (λ differ. but (apart_from q name differ)) ∙ sym (has_including name y q))
+including_alike name x y q but = has_including name x q ∙ (by_cases (same_name q name) (set.contains x q) (set.contains y q) (λ differ. but (apart_from q name differ)) ∙ sym (has_including name y q))
   where
-    by : (b c d : Bool) → (b ≡ false → c ≡ d) → (b || c) ≡ (b || d)
-    by true c d e = refl
-    by false c d e = e refl
+    by_cases : (b c d : Bool) → (b ≡ false → c ≡ d) → (b || c) ≡ (b || d)
+    by_cases true c d e = refl
+    by_cases false c d e = e refl
 
 pub without_same : (name : List ℕ) (x y : NameSet) → SameBut name x y → without name x ≡ without name y
 without_same name x y but = same_from (without name x) (without name y) (λ q. without_alike name x y q (but q))
@@ -62,18 +62,20 @@ pub including_again : (name : List ℕ) (x : NameSet) → including name (withou
 including_again name x = sym (including_same name x (without name x) (but_without name x))
 
 pub absent_itself : (name : List ℕ) (x : NameSet) → set.contains x name ≡ false → without name x ≡ x
-absent_itself name x lacks = same_from (without name x) x (λ q. has_without name x q ∙ by (same_name q name) (set.contains x q) (λ e. ap (set.contains x) (tells_apart exact_bytes q name e) ∙ lacks))
+absent_itself name x lacks = same_from (without name x) x
+    (λ q. has_without name x q ∙ by_cases (same_name q name) (set.contains x q) (λ e. ap (set.contains x) (tells_apart exact_bytes q name e) ∙ lacks))
   where
-    by : (b c : Bool) → (b ≡ true → c ≡ false) → (not b && c) ≡ c
-    by true c e = sym (e refl)
-    by false c e = refl
+    by_cases : (b c : Bool) → (b ≡ true → c ≡ false) → (not b && c) ≡ c
+    by_cases true c e = sym (e refl)
+    by_cases false c e = refl
 
 pub present_itself : (name : List ℕ) (x : NameSet) → set.contains x name ≡ true → including name x ≡ x
-present_itself name x has = same_from (including name x) x (λ q. has_including name x q ∙ by (same_name q name) (set.contains x q) (λ e. ap (set.contains x) (tells_apart exact_bytes q name e) ∙ has))
+present_itself name x has = same_from (including name x) x
+    (λ q. has_including name x q ∙ by_cases (same_name q name) (set.contains x q) (λ e. ap (set.contains x) (tells_apart exact_bytes q name e) ∙ has))
   where
-    by : (b c : Bool) → (b ≡ true → c ≡ true) → (b || c) ≡ c
-    by true c e = sym (e refl)
-    by false c e = refl
+    by_cases : (b c : Bool) → (b ≡ true → c ≡ true) → (b || c) ≡ c
+    by_cases true c e = sym (e refl)
+    by_cases false c e = refl
 
 pub has_name : (name : List ℕ) (x : NameSet) → set.contains (including name x) name ≡ true
 has_name name x = has_including name x name ∙ ap (λ b. b || set.contains x name) (is_same name name refl)

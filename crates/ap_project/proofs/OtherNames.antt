@@ -59,20 +59,20 @@ all_left name (q ∷ qs) e =
     ap (λ b. cond (not b) (q ∷ names_without name qs) (names_without name qs)) first ∙ ap (λ ns. q ∷ ns) rest
 
 -- the names so far
-one_more : (name : List ℕ) (names : List (List ℕ)) (k : ℕ) (x : List ℕ) (is : Bool) → k < length names → x ≡ get_or names k x → text.same_text name x ≡ is
+other_names_up_to_next : (name : List ℕ) (names : List (List ℕ)) (k : ℕ) (x : List ℕ) (is : Bool) → k < length names → x ≡ get_or names k x → text.same_text name x ≡ is
     → names_without name (take (k + 1) names) ≡ names_without name (take k names) ++ cond (not is) (x ∷ []) []
-one_more name names k x is within at e =
+other_names_up_to_next name names k x is within at e =
     ap (names_without name) (take-push names k x within at)
     ∙ (filter-append (λ q. not (text.same_text name q)) (take k names) (x ∷ []) ∙ ap (λ b. names_without name (take k names) ++ cond (not b) (x ∷ []) []) e)
 
 pub left_out : (name : List ℕ) (names others : List (List ℕ)) (k : ℕ) (x : List ℕ) → k < length names → x ≡ get_or names k x → others ≡ names_without name (take k names)
     → text.same_text name x ≡ true → others ≡ names_without name (take (k + 1) names)
-left_out name names others k x within at so_far is = so_far ∙ sym (one_more name names k x true within at is ∙ append-nil _)
+left_out name names others k x within at so_far is = so_far ∙ sym (other_names_up_to_next name names k x true within at is ∙ append-nil _)
 
 pub taken_on : (name : List ℕ) (names others new : List (List ℕ)) (k : ℕ) (x y : List ℕ) → k < length names → x ≡ get_or names k x → others ≡ names_without name (take k names)
     → text.same_text name x ≡ false → y ≡ x → new ≡ others ++ y ∷ [] → new ≡ names_without name (take (k + 1) names)
 taken_on name names others new k x y within at so_far differ same pushed =
-    pushed ∙ (ap (λ ns. ns ++ y ∷ []) so_far ∙ (ap (λ z. names_without name (take k names) ++ z ∷ []) same ∙ sym (one_more name names k x false within at differ)))
+    pushed ∙ (ap (λ ns. ns ++ y ∷ []) so_far ∙ (ap (λ z. names_without name (take k names) ++ z ∷ []) same ∙ sym (other_names_up_to_next name names k x false within at differ)))
 
 pub apart_so_far : (name : List ℕ) (names others : List (List ℕ)) (k : ℕ) (x y : List ℕ) → AllPairs (λ p q. p ≢ q) names → k < length names → x ≡ get_or names k x
     → others ≡ names_without name (take k names) → y ≡ x → All (λ q. q ≢ y) others

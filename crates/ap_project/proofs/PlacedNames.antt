@@ -5,10 +5,10 @@ use Rattle.std.proofs.lemmas.List.{get_or-append-add, get_or_append_left}
 use Rattle.std.proofs.lemmas.List.Elements.{All-push}
 use Rattle.std.proofs.lemmas.Option.{same_Some, slice_get_within}
 use Rattle.aut_base.proofs.lists.Lists.{slice_get-append_left, slice_get-append_right, take-push}
-use Rattle.ap_project.specs.inner.HiddenGuards.{ArePlaces}
+use Rattle.ap_project.specs.inner.HiddenGuards.{ArePlacesOfNames}
 
-push_place : (names others : List (List ℕ)) (to : List ℕ) (x : List ℕ) (place : ℕ) → ArePlaces names others to → (0 < length others → place < length others)
-    → (Contains others x → slice_get others place ≡ Some x) → ArePlaces (names ++ x ∷ []) others (to ++ place ∷ [])
+push_place : (names others : List (List ℕ)) (to : List ℕ) (x : List ℕ) (place : ℕ) → ArePlacesOfNames names others to → (0 < length others → place < length others)
+    → (Contains others x → slice_get others place ≡ Some x) → ArePlacesOfNames (names ++ x ∷ []) others (to ++ place ∷ [])
 push_place names others to x place placed within here = record {
   count = length-append to (place ∷ []) ∙ (ap (λ n. n + 1) placed.count ∙ sym (length-append names (x ∷ [])));
   within = λ some. All-push (λ p. p < length others) to place (placed.within some) (within some);
@@ -25,8 +25,8 @@ push_place names others to x place placed within here = record {
       (cases_lt k (length names));
 }
 
-pub placed_more : (names others : List (List ℕ)) (to more : List ℕ) (k place : ℕ) (x : List ℕ) → k < length names → x ≡ get_or names k x → ArePlaces (take k names) others to
-    → (0 < length others → place < length others) → (Contains others x → slice_get others place ≡ Some x) → more ≡ to ++ place ∷ [] → ArePlaces (take (k + 1) names) others more
+pub placed_more : (names others : List (List ℕ)) (to more : List ℕ) (k place : ℕ) (x : List ℕ) → k < length names → x ≡ get_or names k x → ArePlacesOfNames (take k names) others to
+    → (0 < length others → place < length others) → (Contains others x → slice_get others place ≡ Some x) → more ≡ to ++ place ∷ [] → ArePlacesOfNames (take (k + 1) names) others more
 placed_more names others to more k place x within at placed below here pushed =
-    subst (ArePlaces (take (k + 1) names) others) (sym pushed) (subst (λ ns. ArePlaces ns others (to ++ place ∷ [])) (sym (take-push names k x within at))
+    subst (ArePlacesOfNames (take (k + 1) names) others) (sym pushed) (subst (λ ns. ArePlacesOfNames ns others (to ++ place ∷ [])) (sym (take-push names k x within at))
     (push_place (take k names) others to x place placed below here))

@@ -1,11 +1,11 @@
 -- An automaton with other labels on the same edges hides a name, where each label is true just where it has to be.
 use Rattle.std.proofs.Common.{◌∙◌, Contains, ap, refl, subst, sym}
 use Rattle.aut_base.proofs.lists.Members.{from_map, there_map}
-use Rattle.aut_base.specs.Automaton.{TreeEdge}
+use Rattle.aut_base.specs.Automaton.{LabelledEdge}
 use Rattle.aut_base.specs.Label.{LabelTree, holds_at, truth}
 use Rattle.ap_project.specs.Laws.{RelabelledIsHidden}
 
-abbrev relabelled : (TreeEdge → LabelTree) → TreeEdge → TreeEdge
+abbrev relabelled : (LabelledEdge → LabelTree) → LabelledEdge → LabelledEdge
 relabelled label e = record e { label = label e }
 
 pub relabelled_is_hidden : RelabelledIsHidden
@@ -21,7 +21,7 @@ relabelled_is_hidden hiding name a h is = record {
   back = λ f x there holds. (let found = from_map (relabelled is.label) a.edges f (subst (λ es. Contains es f) is.edges there) in record {
     edge = found.0;
     there = found.1;
-    twin = record { from = ap (λ (d : TreeEdge). d.from) found.2; to = ap (λ (d : TreeEdge). d.to) found.2; marks = ap (λ (d : TreeEdge). d.marks) found.2 };
-    holds = sym (is.says found.0 x found.1) ∙ (ap (λ (d : TreeEdge). truth (holds_at h.names x) d.label) found.2 ∙ holds);
+    twin = record { from = ap (λ (d : LabelledEdge). d.from) found.2; to = ap (λ (d : LabelledEdge). d.to) found.2; marks = ap (λ (d : LabelledEdge). d.marks) found.2 };
+    holds = sym (is.says found.0 x found.1) ∙ (ap (λ (d : LabelledEdge). truth (holds_at h.names x) d.label) found.2 ∙ holds);
   });
 }

@@ -3,7 +3,7 @@ use Rattle.std.proofs.Common.{◌≡◌, ◌∙◌, ◌+◌, ◌*◌, ◌<◌, �
 use Rattle.std.proofs.lemmas.Option.{none-some, same_Some, slice_get-get_or}
 use Rattle.std.specs.FinSet as set
 use Rattle.aut_base.specs.Acceptance.{Accepts, IsPath}
-use Rattle.aut_base.specs.Automaton.{Automaton, TreeEdge}
+use Rattle.aut_base.specs.Automaton.{Automaton, LabelledEdge}
 use Rattle.aut_base.specs.Formula.{met}
 use Rattle.aut_base.specs.Label.{holds_at, truth}
 use Rattle.aut_base.specs.Word.{NameSet, SpellsSame, copies, letter_at}
@@ -76,14 +76,14 @@ unrolled t k u v some more n =
 
 -- the edges of one automaton can be gone at a letter where those of another can at one that is related to it
 abbrev pub Carries : (NameSet → NameSet → Type 0) → Automaton → Automaton → Type 0
-Carries R a b = (e : TreeEdge) (x y : NameSet) → R x y → Contains a.edges e → truth (holds_at a.names x) e.label ≡ true → Forth b e y
+Carries R a b = (e : LabelledEdge) (x y : NameSet) → R x y → Contains a.edges e → truth (holds_at a.names x) e.label ≡ true → Forth b e y
 
-record Carried (b : Automaton) (p : ℕ) (ys : List NameSet) (es : List TreeEdge) (q : ℕ) : Type 0 where
-  way : List TreeEdge
+record Carried (b : Automaton) (p : ℕ) (ys : List NameSet) (es : List LabelledEdge) (q : ℕ) : Type 0 where
+  way : List LabelledEdge
   leads : IsPath b p ys way q
-  marks : map (λ (e : TreeEdge). e.marks) way ≡ map (λ (e : TreeEdge). e.marks) es
+  marks : map (λ (e : LabelledEdge). e.marks) way ≡ map (λ (e : LabelledEdge). e.marks) es
 
-carried : (R : NameSet → NameSet → Type 0) (a b : Automaton) → Carries R a b → (p q : ℕ) (xs ys : List NameSet) (es : List TreeEdge) → Related R xs ys → IsPath a p xs es q → Carried b p ys es q
+carried : (R : NameSet → NameSet → Type 0) (a b : Automaton) → Carries R a b → (p q : ℕ) (xs ys : List NameSet) (es : List LabelledEdge) → Related R xs ys → IsPath a p xs es q → Carried b p ys es q
 carried R a b carries p q [] [] [] are path = record { way = []; leads = path; marks = refl }
 carried R a b carries p q [] [] (e ∷ es) are path = absurd path
 carried R a b carries p q [] (y ∷ ys) es are path = absurd are
@@ -116,5 +116,5 @@ accepts_carried R a b carries starts formula u v x y stems rounds r =
       leads = way.leads;
       positive = r.positive;
       returns = cycle.leads;
-      meets = ap (λ marks. met marks b.formula) cycle.marks ∙ (ap (met (map (λ (e : TreeEdge). e.marks) r.cycle)) (sym formula) ∙ r.meets);
+      meets = ap (λ marks. met marks b.formula) cycle.marks ∙ (ap (met (map (λ (e : LabelledEdge). e.marks) r.cycle)) (sym formula) ∙ r.meets);
     }

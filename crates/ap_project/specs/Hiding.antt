@@ -2,8 +2,8 @@
 use Rattle.std.specs.Prelude.{◌≡◌, ◌≢◌, ◌↔◌, ◌<◌, ◌||◌, ℕ, Bool, not, List, Some, filter, if◌then◌else◌, length, map}
 use Rattle.std.specs.FinSet.{contains, insert, remove}
 use Rattle.aut_base.specs.Acceptance.{Accepts}
-use Rattle.aut_base.specs.Automaton.{Automaton, TreeEdge}
-use Rattle.aut_base.specs.CanonicalLabel.{label_of}
+use Rattle.aut_base.specs.Automaton.{Automaton, LabelledEdge}
+use Rattle.aut_base.specs.CanonicalLabel.{label_of_truth}
 use Rattle.aut_base.specs.Label.{LabelTree, holds_at, truth}
 use Rattle.aut_base.specs.Text.{same_text}
 use Rattle.aut_base.specs.Valuation.{letter_of}
@@ -37,13 +37,13 @@ names_without name names = filter (λ other. not (same_text name other)) names
 -- The canonical label over the other names that is the label with the name hidden: on a valuation it is true exactly
 -- where that is at the letter of the valuation.
 abbrev pub hidden_label : Hide → List ℕ → List (List ℕ) → LabelTree → LabelTree
-hidden_label how name names t = label_of (length (names_without name names)) (λ v. hidden_truth how name names t (letter_of (names_without name names) v))
+hidden_label how name names t = label_of_truth (length (names_without name names)) (λ v. hidden_truth how name names t (letter_of (names_without name names) v))
 
 -- The automaton with the name hidden, which is itself if it doesn't have the name. Else its edges stay, those too whose label
 -- becomes `f`, with the same states and marks in order.
 abbrev pub hidden : Hide → List ℕ → Automaton → Automaton
 hidden how name a =
-    if is_among a.names name then record a { names = names_without name a.names; edges = map (λ (e : TreeEdge). record e { label = hidden_label how name a.names e.label }) a.edges }
+    if is_among a.names name then record a { names = names_without name a.names; edges = map (λ (e : LabelledEdge). record e { label = hidden_label how name a.names e.label }) a.edges }
     else a
 
 -- both letters have the same names, but for this one

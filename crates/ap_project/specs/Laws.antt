@@ -1,7 +1,7 @@
 -- Laws on automata and languages with a name hidden.
 use Rattle.std.specs.Prelude.{◌≡◌, ◌↔◌, ◌<◌, ℕ, true, List, Contains, length, map}
 use Rattle.aut_base.specs.Acceptance.{Accepts}
-use Rattle.aut_base.specs.Automaton.{Automaton, IsWellFormed, TreeEdge}
+use Rattle.aut_base.specs.Automaton.{Automaton, IsWellFormed, LabelledEdge}
 use Rattle.aut_base.specs.Label.{LabelTree, holds_at, truth}
 use Rattle.aut_base.specs.Word.{NameSet}
 use Rattle.ap_project.specs.Hiding.{AcceptsHidden, SomeSays, hidden, hidden_truth, including, without}
@@ -9,21 +9,21 @@ use Rattle.ap_project.specs.declared.hide.Hide.{Hide}
 use Rattle.ap_project.specs.declared.hide.Hide.TheVariants.{Any, Absent, Present}
 
 -- both edges lead between the same states and are in the same acceptance sets
-pub record IsTwin (e f : TreeEdge) : Type 0 where
+pub record IsTwin (e f : LabelledEdge) : Type 0 where
   pub from : e.from ≡ f.from
   pub to : e.to ≡ f.to
   pub marks : e.marks ≡ f.marks
 
 -- a twin of the edge in h, whose label is true at the letter
-pub record Forth (h : Automaton) (e : TreeEdge) (x : NameSet) : Type 0 where
-  pub edge : TreeEdge
+pub record Forth (h : Automaton) (e : LabelledEdge) (x : NameSet) : Type 0 where
+  pub edge : LabelledEdge
   pub there : Contains h.edges edge
   pub twin : IsTwin edge e
   pub holds : truth (holds_at h.names x) edge.label ≡ true
 
 -- a twin of the edge in a, whose label with the name hidden is true at the letter
-pub record Back (how : Hide) (name : List ℕ) (a : Automaton) (f : TreeEdge) (x : NameSet) : Type 0 where
-  pub edge : TreeEdge
+pub record Back (how : Hide) (name : List ℕ) (a : Automaton) (f : LabelledEdge) (x : NameSet) : Type 0 where
+  pub edge : LabelledEdge
   pub there : Contains a.edges edge
   pub twin : IsTwin edge f
   pub holds : hidden_truth how name a.names edge.label x ≡ true
@@ -33,8 +33,8 @@ pub record Back (how : Hide) (name : List ℕ) (a : Automaton) (f : TreeEdge) (x
 pub record IsHidden (how : Hide) (name : List ℕ) (a h : Automaton) : Type 0 where
   pub starts : h.starts ≡ a.starts
   pub formula : h.formula ≡ a.formula
-  pub forth : (e : TreeEdge) (x : NameSet) → Contains a.edges e → hidden_truth how name a.names e.label x ≡ true → Forth h e x
-  pub back : (f : TreeEdge) (x : NameSet) → Contains h.edges f → truth (holds_at h.names x) f.label ≡ true → Back how name a f x
+  pub forth : (e : LabelledEdge) (x : NameSet) → Contains a.edges e → hidden_truth how name a.names e.label x ≡ true → Forth h e x
+  pub back : (f : LabelledEdge) (x : NameSet) → Contains h.edges f → truth (holds_at h.names x) f.label ≡ true → Back how name a f x
 
 -- what h accepts with the name hidden any way, and as absent and as present also where the cycle is empty
 abbrev pub HiddenAny : Type 0
@@ -48,11 +48,11 @@ HiddenPresent = (name : List ℕ) (a h : Automaton) → IsHidden Present name a 
 
 -- h is a with another label on each edge, which is true where the edge's own is with the name hidden
 pub record IsRelabelled (how : Hide) (name : List ℕ) (a h : Automaton) : Type 0 where
-  pub label : TreeEdge → LabelTree
+  pub label : LabelledEdge → LabelTree
   pub starts : h.starts ≡ a.starts
   pub formula : h.formula ≡ a.formula
-  pub edges : h.edges ≡ map (λ (e : TreeEdge). record e { label = label e }) a.edges
-  pub says : (e : TreeEdge) (x : NameSet) → Contains a.edges e → truth (holds_at h.names x) (label e) ≡ hidden_truth how name a.names e.label x
+  pub edges : h.edges ≡ map (λ (e : LabelledEdge). record e { label = label e }) a.edges
+  pub says : (e : LabelledEdge) (x : NameSet) → Contains a.edges e → truth (holds_at h.names x) (label e) ≡ hidden_truth how name a.names e.label x
 
 abbrev pub RelabelledIsHidden : Type 0
 RelabelledIsHidden = (how : Hide) (name : List ℕ) (a h : Automaton) → IsRelabelled how name a h → IsHidden how name a h

@@ -1,7 +1,7 @@
 //! Guards with a proposition hidden, over the other propositions.
 
 ghost use Rattle.std.specs.Prelude.{◌≡◌, ◌<◌, ℕ, IfOk, OnOk, length};
-ghost use Rattle.ap_project.specs.inner.HiddenGuards.{AreHidden, AreWithin, IsHiddenGuard, hidden_in};
+ghost use Rattle.ap_project.specs.inner.HiddenGuards.{AreHidden, ArePlacesWithin, IsHiddenGuard, hidden_in};
 ghost use Rattle.label_guards.specs.Guards.{IsGuardOf};
 ghost use Rattle.label_guards.specs.Store.{Has, Keeps};
 
@@ -33,7 +33,7 @@ pub(crate) fn hidden_guard(
     requires has { Has given.old g }
     requires prop { hiding.now.prop < given.old.names }
     requires count { length hiding.now.to ≡ given.old.names }
-    requires within { AreWithin made.old.names hiding.now.to }
+    requires within { ArePlacesWithin made.old.names hiding.now.to }
     requires alone { made.old.names ≡ 0 → given.old.names ≡ 1 }
     requires done { AreHidden given.old made.old hiding.now.how hiding.now.prop hiding.now.to done.old.entries }
     ensures given { OnOk result (Keeps given.old given.new) }

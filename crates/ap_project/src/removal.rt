@@ -2,9 +2,9 @@
 
 ghost use Rattle.std.specs.Prelude.{◌≡◌, ◌<◌, ◌≤◌, All, Contains, IfOk, OnOk, length, map, slice_get, Some};
 ghost use Rattle.ap_project.specs.Hiding.{AcceptsHidden, hidden, names_without};
-ghost use Rattle.ap_project.specs.inner.HiddenGuards.{ArePlaces, hidden_link, name_at};
+ghost use Rattle.ap_project.specs.inner.HiddenGuards.{ArePlacesOfNames, hidden_link, name_at};
 ghost use Rattle.aut_base.specs.declared.limit.TheConstants.{MOST_NAMES};
-ghost use Rattle.aut_core.specs.Core.{automaton_of, edge_of};
+ghost use Rattle.aut_core.specs.SymbolicAutomata.{automaton_of, edge_of};
 ghost use Rattle.label_guards.specs.Store.{Has};
 
 use crate::guards::{Hiding, hidden_guard};
@@ -27,7 +27,7 @@ pub fn remove_ap(alloc: Global, a: &Automaton, name: &Text, how: Hide) -> Result
     ensures states { IfOk result (λ made. made.states ≡ a.now.states) }
     ensures sets { IfOk result (λ made. made.sets ≡ a.now.sets) }
 {
-    a.whole();
+    a.well_formed();
     without_name(alloc, a, name, how)
 }
 
@@ -35,7 +35,7 @@ pub fn remove_ap(alloc: Global, a: &Automaton, name: &Text, how: Hide) -> Result
 fn without_name(alloc: Global, a: &Automaton, name: &Text, how: Hide) -> Result<Automaton, Memory>
     ensures { IfOk result (λ made. automaton_of made ≡ hidden how name.now (automaton_of a.now)) }
 {
-    a.whole();
+    a.well_formed();
     match a.names().position(name) {
         Some(prop) => without_prop(alloc, a, name, prop, how),
         None => a.copy(alloc),
@@ -53,7 +53,7 @@ fn without_prop(
     requires { slice_get a.now.names prop ≡ Some name.now }
     ensures { IfOk result (λ made. automaton_of made ≡ hidden how name.now (automaton_of a.now)) }
 {
-    a.whole();
+    a.well_formed();
     let names = other_names(alloc, a.names(), name)?;
     let to = places_among(alloc, a.names(), &names)?;
     let hiding = Hiding { prop, how, to };
@@ -91,7 +91,7 @@ fn other_names(alloc: Global, names: &Names, name: &Text) -> Result<Names, Memor
 /// The place of each name among the others, and 0 for one that isn't there.
 fn places_among(alloc: Global, names: &Names, others: &Names) -> Result<Numbers, Memory>
     requires { length others.now ≤ MOST_NAMES }
-    ensures { IfOk result (ArePlaces names.now others.now) }
+    ensures { IfOk result (ArePlacesOfNames names.now others.now) }
 {
     let mut to = Numbers::new(alloc);
     'names: for name in names.as_slice() {
@@ -118,12 +118,12 @@ fn hidden_links(
 ) -> Result<Links, Memory>
     requires prop { hiding.now.prop < length a.now.names }
     requires names { guards.old.names ≡ length (names_without (name_at a.now.names hiding.now.prop) a.now.names) }
-    requires places { ArePlaces a.now.names (names_without (name_at a.now.names hiding.now.prop) a.now.names) hiding.now.to }
+    requires places { ArePlacesOfNames a.now.names (names_without (name_at a.now.names hiding.now.prop) a.now.names) hiding.now.to }
     ensures names { OnOk result (guards.new.names ≡ guards.old.names) }
     ensures has { IfOk result (All (λ l. Has guards.new l.guard)) }
     ensures edges { IfOk result (λ links. map (edge_of guards.new) links ≡ map (hidden_link hiding.now.how hiding.now.prop a.now) a.now.links) }
 {
-    a.whole();
+    a.well_formed();
     let mut given = a.guards().copy(alloc)?;
     let mut done = Done::new(alloc);
     let mut links = Links::from_vec(Vec::with_capacity(alloc, a.links().len())?);

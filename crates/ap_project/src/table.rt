@@ -2,7 +2,7 @@
 
 ghost use Rattle.std.specs.Prelude.{◌≡◌, IfSome, OnErr, OnOk, Some};
 ghost use Rattle.std.specs.Map.{lookup};
-ghost use Rattle.ap_project.specs.inner.HiddenGuards.{IsPut, same_guard};
+ghost use Rattle.ap_project.specs.inner.HiddenGuards.{IsGuardInserted, same_guard};
 
 use aut_base::Memory;
 use indexmap::IndexMap;
@@ -23,7 +23,7 @@ pub(crate) fn done_at(done: &Done, g: Guard) -> Option<Guard>
 
 /// Puts what was found into the table.
 pub(crate) fn put_done(done: &mut Done, g: Guard, found: Guard) -> Result<(), Memory>
-    ensures { OnOk result (IsPut done.old.entries done.new.entries g found) }
+    ensures { OnOk result (IsGuardInserted done.old.entries done.new.entries g found) }
 {
     match done.insert(g, found) {
         Ok(_) => Ok(()),

@@ -1,14 +1,14 @@
 -- Which lasso words an automaton accepts. Nothing bounds how often the cycle is gone round, and there is no
 -- search: any two paths that fit will do.
 use Rattle.std.specs.Prelude.{◌≡◌, ℕ, ◌<◌, true, List, [], ◌∷◌, ◌++◌, map, Contains, ◌↔◌, length}
-use Rattle.aut_base.specs.Automaton.{TreeEdge, Automaton}
+use Rattle.aut_base.specs.Automaton.{LabelledEdge, Automaton}
 use Rattle.aut_base.specs.Formula.{met}
 use Rattle.aut_base.specs.Label.{truth, holds_at}
 use Rattle.aut_base.specs.Word.{NameSet, copies, SpellsSame}
 
 -- a path from `p` to `q` along these edges, which reads these letters: each edge starts where the one before
 -- ends, and its label holds of the letter in its place
-abbrev pub IsPath : Automaton → ℕ → List NameSet → List TreeEdge → ℕ → Type 0
+abbrev pub IsPath : Automaton → ℕ → List NameSet → List LabelledEdge → ℕ → Type 0
 IsPath a p [] [] q = p ≡ q
 IsPath a p [] (e ∷ es) q = ⊥
 IsPath a p (x ∷ xs) [] q = ⊥
@@ -23,8 +23,8 @@ pub record Accepts (a : Automaton) (u v : List NameSet) : Type 0 where
   pub state : ℕ
   pub turns : ℕ
   pub rounds : ℕ
-  pub way : List TreeEdge
-  pub cycle : List TreeEdge
+  pub way : List LabelledEdge
+  pub cycle : List LabelledEdge
   pub is_start : Contains a.starts start
   pub leads : IsPath a start (u ++ copies turns v) way state
   pub positive : 0 < rounds

@@ -6,7 +6,7 @@ use Rattle.aut_base.specs.Label.{AllBelow, LabelTree, label_tree}
 use Rattle.aut_base.specs.declared.description.Description.{Description}
 use Rattle.aut_base.specs.declared.description.Edge.{Edge}
 
-pub record TreeEdge : Type 0 where
+pub record LabelledEdge : Type 0 where
   pub from : ℕ
   pub label : LabelTree
   pub to : ℕ
@@ -18,18 +18,18 @@ pub record Automaton : Type 0 where
   pub names : List (List ℕ)
   pub starts : List ℕ
   pub states : ℕ
-  pub edges : List TreeEdge
+  pub edges : List LabelledEdge
   pub sets : ℕ
   pub formula : FormulaTree
 
-abbrev pub tree_edge : Edge → TreeEdge
-tree_edge e = record { from = e.from; label = label_tree e.label; to = e.to; marks = e.marks }
+abbrev pub labelled_edge : Edge → LabelledEdge
+labelled_edge e = record { from = e.from; label = label_tree e.label; to = e.to; marks = e.marks }
 
 abbrev pub automaton : Description → Automaton
-automaton d = record { names = d.names; starts = d.starts; states = d.states; edges = map tree_edge d.edges; sets = d.sets; formula = formula_tree d.formula }
+automaton d = record { names = d.names; starts = d.starts; states = d.states; edges = map labelled_edge d.edges; sets = d.sets; formula = formula_tree d.formula }
 
 -- the edge speaks of the automaton's own states, propositions and acceptance sets
-pub record IsEdgeOf (a : Automaton) (e : TreeEdge) : Type 0 where
+pub record IsEdgeOf (a : Automaton) (e : LabelledEdge) : Type 0 where
   pub from : e.from < a.states
   pub to : e.to < a.states
   pub label : AllBelow (length a.names) e.label

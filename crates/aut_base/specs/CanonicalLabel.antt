@@ -2,7 +2,7 @@
 use Rattle.std.specs.Prelude.{ℕ, zero, suc, ◌+◌, Bool, true, false, if◌then◌else◌, List, [], ◌∷◌, ◌++◌, length, map}
 use Rattle.std.specs.Bool.{beq}
 use Rattle.std.specs.List.{list_all}
-use Rattle.aut_base.specs.Automaton.{TreeEdge, Automaton}
+use Rattle.aut_base.specs.Automaton.{LabelledEdge, Automaton}
 use Rattle.aut_base.specs.Label.{LabelTree, True, False, Prop, Not, And, Or, trees}
 use Rattle.aut_base.specs.Valuation.{truth_on, valuations}
 
@@ -44,13 +44,13 @@ abbrev pub cubes_tree : List (List Literal) → LabelTree
 cubes_tree cs = one_of (map (λ cube. all_of (map literal_tree cube)) cs)
 
 -- the label of a truth function of n propositions
-abbrev pub label_of : ℕ → (List Bool → Bool) → LabelTree
-label_of n g = cubes_tree (cubes 0 n g)
+abbrev pub label_of_truth : ℕ → (List Bool → Bool) → LabelTree
+label_of_truth n g = cubes_tree (cubes 0 n g)
 
 -- the canonical form of a label over n propositions
 abbrev pub canonical_label : ℕ → LabelTree → LabelTree
-canonical_label n t = label_of n (truth_on t)
+canonical_label n t = label_of_truth n (truth_on t)
 
 -- the automaton with each label in its canonical form
 abbrev pub canonical : Automaton → Automaton
-canonical a = record a { edges = map (λ (e : TreeEdge). record e { label = canonical_label (length a.names) e.label }) a.edges }
+canonical a = record a { edges = map (λ (e : LabelledEdge). record e { label = canonical_label (length a.names) e.label }) a.edges }

@@ -2,7 +2,7 @@
 use Rattle.std.specs.Prelude.{ℕ, true, false, List, [], ◌∷◌}
 use Rattle.std.specs.FinSet as set
 use Rattle.aut_base.specs.Acceptance.{Accepts}
-use Rattle.aut_base.specs.Automaton.{TreeEdge, Automaton}
+use Rattle.aut_base.specs.Automaton.{LabelledEdge, Automaton}
 use Rattle.aut_base.specs.Formula.{FormulaTree, FormulaTrees}
 use Rattle.aut_base.specs.Label.{LabelTree}
 use Rattle.aut_base.specs.Word.{NameSet}
@@ -18,7 +18,7 @@ on = set.from_list (name_a ∷ [])
 abbrev pub off : NameSet
 off = set.empty
 
-abbrev pub edge : ℕ → LabelTree → ℕ → List ℕ → TreeEdge
+abbrev pub edge : ℕ → LabelTree → ℕ → List ℕ → LabelledEdge
 edge p label q marks = record { from = p; label = label; to = q; marks = marks }
 
 abbrev pub a : LabelTree

@@ -83,21 +83,21 @@ pub record FormulaParts : Type 0 where
   pub others : List FormulaTree
 
 -- one level of a formula, with trees in the place of what it holds
-abbrev pub tree_step : Formula-F FormulaTree FormulaParts → FormulaTree
-tree_step Formula-F.True = True
-tree_step Formula-F.False = False
-tree_step (Formula-F.Inf set neg) = Inf set neg
-tree_step (Formula-F.Fin set neg) = Fin set neg
-tree_step (Formula-F.And p) = And p.first p.second (trees p.others)
-tree_step (Formula-F.Or p) = Or p.first p.second (trees p.others)
+abbrev pub formula_step : Formula-F FormulaTree FormulaParts → FormulaTree
+formula_step Formula-F.True = True
+formula_step Formula-F.False = False
+formula_step (Formula-F.Inf set neg) = Inf set neg
+formula_step (Formula-F.Fin set neg) = Fin set neg
+formula_step (Formula-F.And p) = And p.first p.second (trees p.others)
+formula_step (Formula-F.Or p) = Or p.first p.second (trees p.others)
 
 -- the tree of a formula
 abbrev pub formula_tree : Formula → FormulaTree
-formula_tree = fold-Formula FormulaTree FormulaParts tree_step (λ fs. record { first = fs.first.value; second = fs.second.value; others = fs.others.items })
+formula_tree = fold-Formula FormulaTree FormulaParts formula_step (λ fs. record { first = fs.first.value; second = fs.second.value; others = fs.others.items })
 
 -- the parts of a conjunction or disjunction
 abbrev pub formula_parts : Formulas → FormulaParts
-formula_parts = fold-Formulas FormulaTree FormulaParts tree_step (λ fs. record { first = fs.first.value; second = fs.second.value; others = fs.others.items })
+formula_parts = fold-Formulas FormulaTree FormulaParts formula_step (λ fs. record { first = fs.first.value; second = fs.second.value; others = fs.others.items })
 
 -- the same as one list, of two parts or more
 abbrev pub formula_list : Formulas → List FormulaTree

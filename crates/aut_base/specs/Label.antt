@@ -84,22 +84,22 @@ pub record LabelParts : Type 0 where
   pub others : List LabelTree
 
 -- one level of a label, with trees in the place of what it holds
-abbrev pub tree_step : Label-F LabelTree LabelParts → LabelTree
-tree_step Label-F.True = True
-tree_step Label-F.False = False
-tree_step (Label-F.Prop i) = Prop i
-tree_step (Label-F.Negated i) = Not (Prop i)
-tree_step (Label-F.Not t) = Not t.value
-tree_step (Label-F.And p) = And p.value.first p.value.second (trees p.value.others)
-tree_step (Label-F.Or p) = Or p.value.first p.value.second (trees p.value.others)
+abbrev pub label_step : Label-F LabelTree LabelParts → LabelTree
+label_step Label-F.True = True
+label_step Label-F.False = False
+label_step (Label-F.Prop i) = Prop i
+label_step (Label-F.Negated i) = Not (Prop i)
+label_step (Label-F.Not t) = Not t.value
+label_step (Label-F.And p) = And p.value.first p.value.second (trees p.value.others)
+label_step (Label-F.Or p) = Or p.value.first p.value.second (trees p.value.others)
 
 -- the tree of a label
 abbrev pub label_tree : Label → LabelTree
-label_tree = fold-Label LabelTree LabelParts tree_step (λ ls. record { first = ls.first; second = ls.second; others = ls.others.items })
+label_tree = fold-Label LabelTree LabelParts label_step (λ ls. record { first = ls.first; second = ls.second; others = ls.others.items })
 
 -- the parts of a conjunction or disjunction
 abbrev pub label_parts : Labels → LabelParts
-label_parts = fold-Labels LabelTree LabelParts tree_step (λ ls. record { first = ls.first; second = ls.second; others = ls.others.items })
+label_parts = fold-Labels LabelTree LabelParts label_step (λ ls. record { first = ls.first; second = ls.second; others = ls.others.items })
 
 -- the same as one list, of two parts or more
 abbrev pub label_list : Labels → List LabelTree

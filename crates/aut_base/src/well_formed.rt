@@ -2,7 +2,7 @@
 
 ghost use Rattle.std.specs.Prelude.{◌≢◌, ℕ, ◌<◌, ◌≤◌, ◌↔◌, IsTrue, All, AllPairs, length, map};
 ghost use Rattle.std.specs.List.Sorted.{IsNonDecreasing};
-ghost use Rattle.aut_base.specs.Automaton.{tree_edge, automaton, IsEdgeOf, IsWellFormed};
+ghost use Rattle.aut_base.specs.Automaton.{labelled_edge, automaton, IsEdgeOf, IsWellFormed};
 ghost use Rattle.aut_base.specs.inner.Distinct.{DiffersFromEarlier};
 
 use crate::{Description, Edge};
@@ -58,7 +58,7 @@ fn is_new(starts: &[u32], i: usize) -> bool
 }
 
 fn are_in_order(edges: &[Edge]) -> bool
-    ensures { IsTrue result ↔ IsNonDecreasing (map (λ e. e.from) (map tree_edge edges.now)) }
+    ensures { IsTrue result ↔ IsNonDecreasing (map (λ e. e.from) (map labelled_edge edges.now)) }
 {
     'edges: for i in 1..edges.len() {
         if edges[i].from < edges[i - 1].from {
@@ -69,7 +69,7 @@ fn are_in_order(edges: &[Edge]) -> bool
 }
 
 fn are_edges(description: &Description, edges: &[Edge]) -> bool
-    ensures { IsTrue result ↔ All (IsEdgeOf (automaton description.now)) (map tree_edge edges.now) }
+    ensures { IsTrue result ↔ All (IsEdgeOf (automaton description.now)) (map labelled_edge edges.now) }
 {
     'edges: for edge in edges {
         if !is_edge(description, edge) {
@@ -80,7 +80,7 @@ fn are_edges(description: &Description, edges: &[Edge]) -> bool
 }
 
 fn is_edge(description: &Description, edge: &Edge) -> bool
-    ensures { IsTrue result ↔ IsEdgeOf (automaton description.now) (tree_edge edge.now) }
+    ensures { IsTrue result ↔ IsEdgeOf (automaton description.now) (labelled_edge edge.now) }
 {
     edge.from < description.states
         && edge.to < description.states

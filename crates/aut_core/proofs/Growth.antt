@@ -1,7 +1,7 @@
 -- Stores that keep what they have, and links whose labels so stay.
 use Rattle.std.proofs.Common.{◌≡◌, ◌∙◌, suc, List, [], ◌∷◌, All, ap, arith, map, refl}
 use Rattle.label_guards.specs.Store.{Has, Keeps, Store}
-use Rattle.aut_core.specs.Core.{edge_of}
+use Rattle.aut_core.specs.SymbolicAutomata.{edge_of}
 use Rattle.aut_core.specs.declared.link.Link.{Link}
 
 pub keeps_none : (s : Store) → Keeps s s

@@ -23,19 +23,19 @@ not_among a name all = list_any_none (same_text name) a (λ k d within. false_fr
 abbrev pub lacking : List (List ℕ) → List (List ℕ) → ℕ → List (List ℕ)
 lacking a b k = filter (λ name. not (is_among a name)) (take k b)
 
-one_more : (a b : List (List ℕ)) (k : ℕ) (x : List ℕ) (is : Bool) → k < length b → x ≡ get_or b k x → is_among a x ≡ is → lacking a b (k + 1) ≡ lacking a b k ++ cond (not is) (x ∷ []) []
-one_more a b k x is within at e =
+lacking_up_to_next : (a b : List (List ℕ)) (k : ℕ) (x : List ℕ) (is : Bool) → k < length b → x ≡ get_or b k x → is_among a x ≡ is → lacking a b (k + 1) ≡ lacking a b k ++ cond (not is) (x ∷ []) []
+lacking_up_to_next a b k x is within at e =
     ap (filter (λ name. not (is_among a name))) (take-push b k x within at)
     ∙ (filter-append (λ name. not (is_among a name)) (take k b) (x ∷ []) ∙ ap (λ t. lacking a b k ++ cond (not t) (x ∷ []) []) e)
 
 pub joined_skip : (a b names : List (List ℕ)) (k : ℕ) (x : List ℕ) → k < length b → x ≡ get_or b k x → names ≡ a ++ lacking a b k → Contains a x → names ≡ a ++ lacking a b (k + 1)
-joined_skip a b names k x within at so_far there = so_far ∙ ap (λ ys. a ++ ys) (sym (one_more a b k x true within at (among a x there) ∙ append-nil (lacking a b k)))
+joined_skip a b names k x within at so_far there = so_far ∙ ap (λ ys. a ++ ys) (sym (lacking_up_to_next a b k x true within at (among a x there) ∙ append-nil (lacking a b k)))
 
 pub joined_more : (a b names new : List (List ℕ)) (k : ℕ) (x y : List ℕ) → k < length b → x ≡ get_or b k x → names ≡ a ++ lacking a b k → All (λ other. other ≢ x) a → y ≡ x
     → new ≡ names ++ y ∷ [] → new ≡ a ++ lacking a b (k + 1)
 joined_more a b names new k x y within at so_far lacks same pushed =
     pushed ∙ (ap (λ ns. ns ++ y ∷ []) so_far ∙ (append_assoc a (lacking a b k) (y ∷ [])
-    ∙ (ap (λ z. a ++ (lacking a b k ++ z ∷ [])) same ∙ ap (λ ys. a ++ ys) (sym (one_more a b k x false within at (not_among a x lacks))))))
+    ∙ (ap (λ z. a ++ (lacking a b k ++ z ∷ [])) same ∙ ap (λ ys. a ++ ys) (sym (lacking_up_to_next a b k x false within at (not_among a x lacks))))))
 
 other_default : (b : List (List ℕ)) (k : ℕ) (x d : List ℕ) → k < length b → get_or b k x ≡ get_or b k d
 other_default [] k x d within = absurd (omega (arith, within))

@@ -3,12 +3,12 @@ use Rattle.std.specs.Prelude.{ℕ, Bool, List}
 use Rattle.std.proofs.Common.{ap}
 use Rattle.aut_base.specs.Automaton.{Automaton}
 use Rattle.aut_base.specs.Formula.{FormulaTree, SetsBelow}
-use Rattle.aut_core.specs.Core.{Core}
-use Rattle.aut_core.specs.Kept.{IsKept}
+use Rattle.aut_core.specs.SymbolicAutomata.{SymbolicAutomaton}
+use Rattle.aut_core.specs.Kept.{IsIndexed}
 
 -- what is known of it stays: nothing of that speaks of the condition
-pub kept_under : (c : Core) (f : FormulaTree) (rows : List ℕ) (deterministic complete : Bool) → SetsBelow c.sets f → IsKept c rows deterministic complete
-    → IsKept (record c { formula = f }) rows deterministic complete
+pub kept_under : (c : SymbolicAutomaton) (f : FormulaTree) (rows : List ℕ) (deterministic complete : Bool) → SetsBelow c.sets f → IsIndexed c rows deterministic complete
+    → IsIndexed (record c { formula = f }) rows deterministic complete
 kept_under c f rows deterministic complete below kept = record {
   core = record {
     parts = record {

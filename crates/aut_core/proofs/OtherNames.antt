@@ -17,8 +17,8 @@ use Rattle.aut_base.proofs.runs.OtherEdges.{other_labels_accept}
 use Rattle.aut_base.proofs.canonical.ValuationLists.{holds_in-valuation_of, length-valuation_of}
 use Rattle.aut_base.proofs.lists.Lists.{slice_get-at}
 use Rattle.aut_base.proofs.canonical.ValuationLetters.{letter_of_holds}
-use Rattle.aut_base.specs.Automaton.{Automaton, IsEdgeOf, IsWellFormed, TreeEdge}
-use Rattle.aut_base.specs.CanonicalLabel.{label_of}
+use Rattle.aut_base.specs.Automaton.{Automaton, IsEdgeOf, IsWellFormed, LabelledEdge}
+use Rattle.aut_base.specs.CanonicalLabel.{label_of_truth}
 use Rattle.aut_base.specs.Label.{AllBelow, LabelTree, holds_at, truth}
 use Rattle.aut_base.specs.Valuation.{holds_in, letter_of, truth_on, valuation_of}
 use Rattle.aut_base.specs.LabelLaws.{LabelsBelow}
@@ -27,7 +27,7 @@ use Rattle.aut_base.specs.declared.limit.TheConstants.{MOST_NAMES}
 use Rattle.label_guards.specs.Guards.{AreNames, IsGuardOf, truth_in}
 use Rattle.label_guards.specs.Store.{Has, Store, label_in}
 use Rattle.label_guards.specs.declared.guard.Guard.{Guard}
-use Rattle.aut_core.specs.Core.{AreParts, Core, IsCore, automaton_of, edge_of}
+use Rattle.aut_core.specs.SymbolicAutomata.{AreSymbolicParts, SymbolicAutomaton, IsWellFormedSymbolic, automaton_of, edge_of}
 use Rattle.aut_core.specs.OtherNames.{AcceptTheSame, label_over, over_names}
 use Rattle.aut_core.specs.declared.link.Link.{Link}
 use Rattle.aut_core.proofs.Made.{label_in_below, label_in_settled, parts_from}
@@ -44,7 +44,7 @@ brought_label s t old new to g h count names places is =
     is.truth (holds_in v) ∙ truth_below s.names (λ k. holds_in v (slice_index_or to k 0)) (holds_at old (letter_of new v)) (label_in s g) (label_in_below s g) (λ i less.
     sym (letter_of_holds new v (slice_index_or to i 0) names.1 (long ∙ sym names.0)) ∙ ap (λ o. option_map_or (contains (letter_of new v)) o false) (places i (omega (arith, less, count)))) in
     sym (label_in_settled t h) ∙ (label_of-same t.names (truth_on (label_in t h)) (λ v. truth (holds_at old (letter_of new v)) (label_in s g)) at
-    ∙ ap (λ n. label_of n (λ v. truth (holds_at old (letter_of new v)) (label_in s g))) (sym names.0))
+    ∙ ap (λ n. label_of_truth n (λ v. truth (holds_at old (letter_of new v)) (label_in s g))) (sym names.0))
 
 -- the places of the first k names
 pub record IsPlaced (old new : List (List ℕ)) (to : List ℕ) (k : ℕ) : Type 0 where
@@ -92,17 +92,17 @@ label_over_own : (s : Store) (names : List (List ℕ)) → AreNames s names → 
 label_over_own s names are g =
     label_of-same (length names) (λ v. truth (holds_at names (letter_of names v)) (label_in s g)) (truth_on (label_in s g))
     (λ v long. truth_below s.names (holds_at names (letter_of names v)) (holds_in v) (label_in s g) (label_in_below s g) (λ i less. letter_of_holds names v i are.1 long))
-    ∙ (ap (λ n. label_of n (truth_on (label_in s g))) are.0 ∙ label_in_settled s g)
+    ∙ (ap (λ n. label_of_truth n (truth_on (label_in s g))) are.0 ∙ label_in_settled s g)
 
 -- and so is the automaton
-pub over_own : (c : Core) → IsCore c → over_names c.names (automaton_of c) ≡ automaton_of c
+pub over_own : (c : SymbolicAutomaton) → IsWellFormedSymbolic c → over_names c.names (automaton_of c) ≡ automaton_of c
 over_own c core = λ i. record (automaton_of c) { edges = edges i }
   where
     own : (l : Link) → label_over c.names c.names (label_in c.store l.guard) ≡ label_in c.store l.guard
     own l = label_over_own c.store c.names (sym core.parts.store_names, core.well_formed.names_differ) l.guard
 
-    edges : map (λ (e : TreeEdge). record e { label = label_over c.names c.names e.label }) (map (edge_of c.store) c.links) ≡ map (edge_of c.store) c.links
-    edges = map-map (λ (e : TreeEdge). record e { label = label_over c.names c.names e.label }) (edge_of c.store) c.links
+    edges : map (λ (e : LabelledEdge). record e { label = label_over c.names c.names e.label }) (map (edge_of c.store) c.links) ≡ map (edge_of c.store) c.links
+    edges = map-map (λ (e : LabelledEdge). record e { label = label_over c.names c.names e.label }) (edge_of c.store) c.links
         ∙ (λ j. map (λ (l : Link). record (edge_of c.store l) { label = own l j }) c.links)
 
 pub over_says : (old new : List (List ℕ)) → AreAmong old new → (t : LabelTree) → AllBelow (length old) t → (x : NameSet) → truth (holds_at new x) (label_over old new t) ≡ truth (holds_at old x) t
@@ -110,7 +110,7 @@ over_says old new among t below x =
     truth-label_of (holds_at new x) (length new) (λ v. truth (holds_at old (letter_of new v)) t)
     ∙ truth_below (length old) (holds_at old (letter_of new (valuation_of (length new) (holds_at new x)))) (holds_at old x) t below (same_at old new among x)
 
-abbrev pub over_edge : List (List ℕ) → List (List ℕ) → TreeEdge → TreeEdge
+abbrev pub over_edge : List (List ℕ) → List (List ℕ) → LabelledEdge → LabelledEdge
 over_edge old new e = record e { label = label_over old new e.label }
 
 pub over_accepts : (a : Automaton) (names : List (List ℕ)) → AreAmong a.names names → LabelsBelow a → AcceptTheSame (over_names names a) a
@@ -122,7 +122,7 @@ over_well_formed a names among formed = record {
   names_differ = among.differ;
   starts_differ = formed.starts_differ;
   starts = formed.starts;
-  in_order = subst IsNonDecreasing (sym (map-map (λ (e : TreeEdge). e.from) (over_edge a.names names) a.edges)) formed.in_order;
+  in_order = subst IsNonDecreasing (sym (map-map (λ (e : LabelledEdge). e.from) (over_edge a.names names) a.edges)) formed.in_order;
   edges = All-map (IsEdgeOf (over_names names a)) (over_edge a.names names) a.edges
       (All-weaker (IsEdgeOf a) (λ e. IsEdgeOf (over_names names a) (over_edge a.names names e))
       (λ e h. record { from = h.from; to = h.to; label = label_of_below (length names) _; marks = h.marks; marks_rise = h.marks_rise }) a.edges formed.edges);
@@ -130,13 +130,14 @@ over_well_formed a names among formed = record {
 }
 
 -- the parts of an automaton over other names
-pub over_parts : (old c : Core) (names : List (List ℕ)) → IsCore old → AreAmong old.names names → length names ≤ MOST_NAMES → automaton_of c ≡ over_names names (automaton_of old)
-    → c.store.names ≡ length names → All (λ l. Has c.store l.guard) c.links → AreParts c
+pub over_parts : (old c : SymbolicAutomaton) (names : List (List ℕ)) → IsWellFormedSymbolic old → AreAmong old.names names → length names ≤ MOST_NAMES
+    → automaton_of c ≡ over_names names (automaton_of old)
+    → c.store.names ≡ length names → All (λ l. Has c.store l.guard) c.links → AreSymbolicParts c
 over_parts old c names core among few same count has =
     let names_are : c.names ≡ names = λ i. (same i).names in
     parts_from c (subst IsWellFormed (sym same) (over_well_formed (automaton_of old) names among core.well_formed)) (omega (arith, few, ap length names_are)) (count ∙ sym (ap length names_are)) has
 
-pub over_accepts_the_same : (old c : Core) (names : List (List ℕ)) → IsCore old → AreAmong old.names names → automaton_of c ≡ over_names names (automaton_of old)
+pub over_accepts_the_same : (old c : SymbolicAutomaton) (names : List (List ℕ)) → IsWellFormedSymbolic old → AreAmong old.names names → automaton_of c ≡ over_names names (automaton_of old)
     → AcceptTheSame (automaton_of c) (automaton_of old)
 over_accepts_the_same old c names core among same =
     subst (λ (a : Automaton). AcceptTheSame a (automaton_of old)) (sym same) (over_accepts (automaton_of old) names among (labels_below (automaton_of old) core.well_formed))

@@ -4,7 +4,7 @@ use Rattle.std.proofs.lemmas.Bool.{cases_lt, eq-eqb, ne_eqb}
 use Rattle.std.proofs.lemmas.List.{get_or_append_left, get_or-append_right, get_or_default, get_or-map, length-append, length-map}
 use Rattle.std.specs.List.{slice_range}
 use Rattle.std.specs.List.Sorted.{IsNonDecreasing, IsNonDecreasingBy}
-use Rattle.aut_core.specs.Index.{Begins, IsIndex}
+use Rattle.aut_core.specs.Index.{IsRowStart, IsIndex}
 use Rattle.aut_core.specs.declared.link.Link.{Link}
 
 pub by_key : {X : Type 0} (key : X → ℕ) (xs : List X) → IsNonDecreasing (map key xs) → IsNonDecreasingBy key xs
@@ -72,7 +72,7 @@ in_order key q (x ∷ xs) (suc a) (suc b) most s =
 -- Rows of links.
 
 -- the links from the place where those of a state begin up to where the next begin
-pub surrounds : {links : List Link} {state a b : ℕ} → Begins links state a → Begins links (state + 1) b → Surrounds (λ (l : Link). l.from) state links a b
+pub surrounds : {links : List Link} {state a b : ℕ} → IsRowStart links state a → IsRowStart links (state + 1) b → Surrounds (λ (l : Link). l.from) state links a b
 surrounds {links} {state} {a} {b} first second = record {
   low = λ k d l w. first.before k d l;
   from = λ k d l w. first.behind k d l w;
@@ -80,10 +80,10 @@ surrounds {links} {state} {a} {b} first second = record {
   later = λ k d l w. omega (arith, second.behind k d l w);
 }
 
-pub row_between : {links : List Link} {state a b : ℕ} → Begins links state a → Begins links (state + 1) b → slice_range links a b ≡ filter (λ l. l.from == state) links
+pub row_between : {links : List Link} {state a b : ℕ} → IsRowStart links state a → IsRowStart links (state + 1) b → slice_range links a b ≡ filter (λ l. l.from == state) links
 row_between {links} {state} {a} {b} first second = between (λ (l : Link). l.from) state links a b (surrounds first second)
 
-pub row_in_order : {links : List Link} {state a b : ℕ} → Begins links state a → Begins links (state + 1) b → a ≤ b
+pub row_in_order : {links : List Link} {state a b : ℕ} → IsRowStart links state a → IsRowStart links (state + 1) b → a ≤ b
 row_in_order {links} {state} {a} {b} first second = in_order (λ (l : Link). l.from) state links a b first.within (surrounds first second)
 
 -- the links of a state as far as they were looked at
@@ -92,8 +92,8 @@ pub record IsInRow (links : List Link) (state start end : ℕ) : Type 0 where
   pub within : end ≤ length links
   pub before : (k : ℕ) (d : Link) → k < end → (get_or links k d).from ≤ state
 
-pub row_ends : (links : List Link) (state start end : ℕ) (d : Link) → IsNonDecreasing (map (λ l. l.from) links) → Begins links state start → IsInRow links state start end
-    → end < length links → (get_or links end d).from ≢ state → Begins links (state + 1) end
+pub row_ends : (links : List Link) (state start end : ℕ) (d : Link) → IsNonDecreasing (map (λ l. l.from) links) → IsRowStart links state start → IsInRow links state start end
+    → end < length links → (get_or links end d).from ≢ state → IsRowStart links (state + 1) end
 row_ends links state start end d rises begins row more other =
     let high : state ≤ (get_or links end d).from = begins.behind end d row.low more in
     record {
@@ -110,16 +110,16 @@ read_last rows end n is =
     let zeroth : n - n ≡ 0 = omega arith in
     get_or-append_right rows (end ∷ []) n n 0 is (omega arith) ∙ ap (λ k. get_or (end ∷ []) k 0) zeroth
 
-pub index_more : (links : List Link) (states end : ℕ) (rows more : List ℕ) → IsIndex links states rows → Begins links (states + 1) end → more ≡ rows ++ end ∷ [] → IsIndex links (states + 1) more
+pub index_more : (links : List Link) (states end : ℕ) (rows more : List ℕ) → IsIndex links states rows → IsRowStart links (states + 1) end → more ≡ rows ++ end ∷ [] → IsIndex links (states + 1) more
 index_more links states end rows more index last is = record {
   count = ap length is ∙ (length-append rows (end ∷ []) ∙ omega (arith, index.count));
-  begins = λ state l. subst (λ (ps : List ℕ). Begins links state (get_or ps state 0)) (sym is)
+  begins = λ state l. subst (λ (ps : List ℕ). IsRowStart links state (get_or ps state 0)) (sym is)
       (⊎_elim
-      (λ (old : state < states + 1). subst (λ place. Begins links state place) (sym (get_or_append_left rows (end ∷ []) 0 state (omega (arith, index.count, old))))
+      (λ (old : state < states + 1). subst (λ place. IsRowStart links state place) (sym (get_or_append_left rows (end ∷ []) 0 state (omega (arith, index.count, old))))
       (index.begins state (omega (arith, old))))
       (λ (new : states + 1 ≤ state).
       let e : states + 1 ≡ state = omega (arith, new, l) in
-      subst (λ s. Begins links s (get_or (rows ++ end ∷ []) s 0)) e (subst (λ place. Begins links (states + 1) place) (sym (read_last rows end (states + 1) index.count)) last))
+      subst (λ s. IsRowStart links s (get_or (rows ++ end ∷ []) s 0)) e (subst (λ place. IsRowStart links (states + 1) place) (sym (read_last rows end (states + 1) index.count)) last))
       (cases_lt state (states + 1)));
 }
 
@@ -127,6 +127,6 @@ index_more links states end rows more index last is = record {
 pub row_indexed : {links : List Link} {states : ℕ} {rows : List ℕ} (state a b : ℕ) → IsIndex links states rows → state < states → get_or rows state 0 ≡ a → get_or rows (state + 1) 0 ≡ b
     → (a ≤ b) × (slice_range links a b ≡ filter (λ l. l.from == state) links)
 row_indexed {links} {states} {rows} state a b index within start end =
-    let first = subst (λ place. Begins links state place) start (index.begins state (omega (arith, within))) in
-    let second = subst (λ place. Begins links (state + 1) place) end (index.begins (state + 1) (omega (arith, within))) in
+    let first = subst (λ place. IsRowStart links state place) start (index.begins state (omega (arith, within))) in
+    let second = subst (λ place. IsRowStart links (state + 1) place) end (index.begins (state + 1) (omega (arith, within))) in
     (row_in_order first second, row_between first second)

@@ -9,18 +9,18 @@ use Rattle.std.proofs.lemmas.List.Folds.{Any-from_list_any, list_any-append, lis
 use Rattle.aut_base.proofs.lists.Lists.{list_any-map}
 use Rattle.aut_base.proofs.order.AllPairsOf.{pairs_append}
 use Rattle.std.specs.List.{list_any}
-use Rattle.aut_base.specs.Automaton.{TreeEdge}
+use Rattle.aut_base.specs.Automaton.{LabelledEdge}
 use Rattle.aut_base.specs.Label.{holds_at, truth}
 use Rattle.aut_base.specs.Word.{NameSet}
 use Rattle.label_guards.specs.Guards.{IsGuardOf, truth_in}
 use Rattle.label_guards.specs.Store.{Has, Keeps, Store}
 use Rattle.label_guards.specs.declared.guard.Guard.{Guard}
-use Rattle.aut_core.specs.Core.{edge_of}
-use Rattle.aut_core.specs.Surveys.{AreAllApart, AreMetApart, IsMet, IsMetAlways, IsSurvey}
+use Rattle.aut_core.specs.SymbolicAutomata.{edge_of}
+use Rattle.aut_core.specs.Surveys.{AreAllApart, AreMetApart, IsUnionSurveyed, IsMetAlways, IsSurvey}
 use Rattle.aut_core.specs.Deterministic.{AreApart, is_met}
 use Rattle.aut_core.specs.declared.link.Link.{Link}
 use Rattle.aut_core.specs.declared.survey.Met.{Met}
-use Rattle.aut_core.specs.declared.survey.Survey.{Survey}
+use Rattle.aut_core.specs.declared.survey.GuardSurvey.{GuardSurvey}
 use Rattle.aut_core.proofs.Growth.{kept_edges}
 
 false_true : (b : Bool) → b ≡ false → b ≡ true → ⊥
@@ -40,29 +40,29 @@ weaker true b c f e = or_left b c (f refl)
 weaker false b c f e = or_right b c e
 
 -- no letter meets one of the edges and one of the others
-abbrev IsApartFrom : List (List ℕ) → List TreeEdge → List TreeEdge → Type 0
+abbrev IsApartFrom : List (List ℕ) → List LabelledEdge → List LabelledEdge → Type 0
 IsApartFrom names es fs = (letter : NameSet) → (list_any (is_met names letter) es && list_any (is_met names letter) fs) ≡ false
 
-apart_both : (names : List (List ℕ)) (es fs : List TreeEdge) → AreAllApart names es → AreAllApart names fs → IsApartFrom names es fs → AreAllApart names (es ++ fs)
+apart_both : (names : List (List ℕ)) (es fs : List LabelledEdge) → AreAllApart names es → AreAllApart names fs → IsApartFrom names es fs → AreAllApart names (es ++ fs)
 apart_both names es fs first second across = pairs_append (AreApart names) es fs first second
     (λ k d within m e there letter here other.
     false_true _ (across letter) (and_from _ _ (list_any_at (is_met names letter) es k d within here) (list_any_at (is_met names letter) fs m e there other)))
 
-apart_front : (names : List (List ℕ)) (es more : List TreeEdge) → AreAllApart names (es ++ more) → AreAllApart names es
+apart_front : (names : List (List ℕ)) (es more : List LabelledEdge) → AreAllApart names (es ++ more) → AreAllApart names es
 apart_front names es more all i j d less within letter first second =
     let size = length-append es more in
     let left = get_or_append_left es more d i (omega arith) in
     let right = get_or_append_left es more d j within in
     all i j d less (omega (arith, size)) letter (ap (is_met names letter) left ∙ first) (ap (is_met names letter) right ∙ second)
 
-apart_back : (names : List (List ℕ)) (es more : List TreeEdge) → AreAllApart names (es ++ more) → AreAllApart names more
+apart_back : (names : List (List ℕ)) (es more : List LabelledEdge) → AreAllApart names (es ++ more) → AreAllApart names more
 apart_back names es more all i j d less within letter first second =
     let size = length-append es more in
     let left = get_or-append-add es more i d in
     let right = get_or-append-add es more j d in
     all (length es + i) (length es + j) d (omega (arith, less)) (omega (arith, size, within)) letter (ap (is_met names letter) left ∙ first) (ap (is_met names letter) right ∙ second)
 
-apart_from : (names : List (List ℕ)) (es fs : List TreeEdge) → AreAllApart names (es ++ fs) → IsApartFrom names es fs
+apart_from : (names : List (List ℕ)) (es fs : List LabelledEdge) → AreAllApart names (es ++ fs) → IsApartFrom names es fs
 apart_from names es fs all letter =
     both_false _ _ (λ some other.
     let found = Any-from_list_any (is_met names letter) es some in
@@ -73,73 +73,74 @@ apart_from names es fs all letter =
     all found.0 (length es + next.0) found.1 (omega (arith, found.2)) (omega (arith, size, next.2)) letter (ap (is_met names letter) left ∙ found.4) (ap (is_met names letter) right ∙ next.4))
 
 -- one link alone
-pub alone_met : (names : List (List ℕ)) (s : Store) (x : Link) (known : Survey) → Has s x.guard → IsMet names s (edge_of s x ∷ []) known (record { guard = x.guard; apart = known.apart })
+pub alone_met : (names : List (List ℕ)) (s : Store) (x : Link) (known : GuardSurvey) → Has s x.guard
+    → IsUnionSurveyed names s (edge_of s x ∷ []) known (record { guard = x.guard; disjoint = known.disjoint })
 alone_met names s x known has = record {
   has = has;
   truth = λ asked on. sym (or-false (truth_in s x.guard on));
-  apart = (λ e. (e, λ i j d less within. absurd (omega (arith, less, within))), λ h. h.0);
+  disjoint = (λ e. (e, λ i j d less within. absurd (omega (arith, less, within))), λ h. h.0);
 }
 
 -- Where nothing is left to be learnt, any guard will do.
-pub unasked_met : (names : List (List ℕ)) (s : Store) (es : List TreeEdge) (g : Guard) (known : Survey) → known.apart ≡ false → known.filled ≡ false → Has s g
-    → IsMet names s es known (record { guard = g; apart = known.apart })
+pub unasked_met : (names : List (List ℕ)) (s : Store) (es : List LabelledEdge) (g : Guard) (known : GuardSurvey) → known.disjoint ≡ false → known.exhaustive ≡ false → Has s g
+    → IsUnionSurveyed names s es known (record { guard = g; disjoint = known.disjoint })
 unasked_met names s es g known not_apart not_filled has = record {
   has = has;
-  truth = λ asked. absurd (false≢true (sym (or_from known.apart known.filled not_apart not_filled) ∙ asked));
-  apart = (λ e. absurd (false≢true (sym not_apart ∙ e)), λ h. h.0);
+  truth = λ asked. absurd (false≢true (sym (or_from known.disjoint known.exhaustive not_apart not_filled) ∙ asked));
+  disjoint = (λ e. absurd (false≢true (sym not_apart ∙ e)), λ h. h.0);
 }
 
 -- Where two edges were met together before, only the guard is asked.
-pub in_turn_met : (names : List (List ℕ)) (s now : Store) (links : List Link) (known : Survey) (met : Met) → known.apart ≡ false → met.apart ≡ false
-    → IsGuardOf now (λ on. list_any (λ l. truth_in s l.guard on) links) met.guard → IsMet names now (map (edge_of s) links) known met
-in_turn_met names s now links known met before apart guard = record {
+pub in_turn_met : (names : List (List ℕ)) (s now : Store) (links : List Link) (known : GuardSurvey) (met : Met) → known.disjoint ≡ false → met.disjoint ≡ false
+    → IsGuardOf now (λ on. list_any (λ l. truth_in s l.guard on) links) met.guard → IsUnionSurveyed names now (map (edge_of s) links) known met
+in_turn_met names s now links known met before disjoint guard = record {
   has = guard.has;
-  truth = λ asked on. guard.truth on ∙ sym (list_any-map (λ (e : TreeEdge). truth on e.label) (edge_of s) links);
-  apart = (λ e. absurd (false≢true (sym apart ∙ e)), λ h. absurd (false≢true (sym before ∙ h.0)));
+  truth = λ asked on. guard.truth on ∙ sym (list_any-map (λ (e : LabelledEdge). truth on e.label) (edge_of s) links);
+  disjoint = (λ e. absurd (false≢true (sym disjoint ∙ e)), λ h. absurd (false≢true (sym before ∙ h.0)));
 }
 
 -- Two halves, of which the second was told with the first.
-pub halves_met : (names : List (List ℕ)) (s t now : Store) (es fs : List TreeEdge) (known : Survey) (first second met : Met) → IsMet names s es known first → Keeps s t
-    → IsMet names t fs (record { apart = first.apart; filled = known.filled }) second → Has now met.guard
-    → (IsTrue (second.apart || known.filled) → IsGuardOf now (λ on. truth_in t first.guard on || truth_in t second.guard on) met.guard)
-    → (IsTrue met.apart ↔ (IsTrue second.apart × AreMetApart t names first.guard second.guard)) → IsMet names now (es ++ fs) known met
-halves_met names s t now es fs known first second met is_first keeps is_second has guard apart = record {
+pub halves_met : (names : List (List ℕ)) (s t now : Store) (es fs : List LabelledEdge) (known : GuardSurvey) (first second met : Met) → IsUnionSurveyed names s es known first → Keeps s t
+    → IsUnionSurveyed names t fs (record { disjoint = first.disjoint; exhaustive = known.exhaustive }) second → Has now met.guard
+    → (IsTrue (second.disjoint || known.exhaustive) → IsGuardOf now (λ on. truth_in t first.guard on || truth_in t second.guard on) met.guard)
+    → (IsTrue met.disjoint ↔ (IsTrue second.disjoint × AreMetApart t names first.guard second.guard)) → IsUnionSurveyed names now (es ++ fs) known met
+halves_met names s t now es fs known first second met is_first keeps is_second has guard disjoint = record {
   has = has;
   truth = λ asked on.
-      let more = weaker met.apart second.apart known.filled (λ e. (apart.0 e).0) asked in
-      let most = weaker second.apart first.apart known.filled (λ e. (is_second.apart.0 e).0) more in
-      (guard more).truth on ∙ ((λ i. first_there most on i || is_second.truth more on i) ∙ sym (list_any-append (λ (e : TreeEdge). truth on e.label) es fs));
-  apart = (
+      let more = weaker met.disjoint second.disjoint known.exhaustive (λ e. (disjoint.0 e).0) asked in
+      let most = weaker second.disjoint first.disjoint known.exhaustive (λ e. (is_second.disjoint.0 e).0) more in
+      (guard more).truth on ∙ ((λ i. first_there most on i || is_second.truth more on i) ∙ sym (list_any-append (λ (e : LabelledEdge). truth on e.label) es fs));
+  disjoint = (
     (λ e.
-        let parts = apart.0 e in
-        let later = is_second.apart.0 parts.0 in
-        let earlier = is_first.apart.0 later.0 in
+        let parts = disjoint.0 e in
+        let later = is_second.disjoint.0 parts.0 in
+        let earlier = is_first.disjoint.0 later.0 in
         (earlier.0, apart_both names es fs earlier.1 later.1 (λ letter. sym (here later.0 parts.0 letter) ∙ parts.1 letter))),
     (λ h.
-        let earlier = is_first.apart.1 (h.0, apart_front names es fs h.1) in
-        let later = is_second.apart.1 (earlier, apart_back names es fs h.1) in
-        apart.1 (later, λ letter. here earlier later letter ∙ apart_from names es fs h.1 letter)),
+        let earlier = is_first.disjoint.1 (h.0, apart_front names es fs h.1) in
+        let later = is_second.disjoint.1 (earlier, apart_back names es fs h.1) in
+        disjoint.1 (later, λ letter. here earlier later letter ∙ apart_from names es fs h.1 letter)),
   );
 }
   where
-    first_there : IsTrue (first.apart || known.filled) → (on : ℕ → Bool) → truth_in t first.guard on ≡ list_any (λ (e : TreeEdge). truth on e.label) es
+    first_there : IsTrue (first.disjoint || known.exhaustive) → (on : ℕ → Bool) → truth_in t first.guard on ≡ list_any (λ (e : LabelledEdge). truth on e.label) es
     first_there asked on = ap (truth on) (keeps.labels first.guard is_first.has) ∙ is_first.truth asked on
 
-    here : IsTrue first.apart → IsTrue second.apart → (letter : NameSet)
+    here : IsTrue first.disjoint → IsTrue second.disjoint → (letter : NameSet)
         → (truth_in t first.guard (holds_at names letter) && truth_in t second.guard (holds_at names letter)) ≡ (list_any (is_met names letter) es && list_any (is_met names letter) fs)
     here e f letter i =
-        first_there (or_left first.apart known.filled e) (holds_at names letter) i && is_second.truth (or_left second.apart known.filled f) (holds_at names letter) i
+        first_there (or_left first.disjoint known.exhaustive e) (holds_at names letter) i && is_second.truth (or_left second.disjoint known.exhaustive f) (holds_at names letter) i
 
 -- What links of one state tell, by the guard that is true where one of them is met.
-pub met_survey : (names : List (List ℕ)) (s : Store) (es : List TreeEdge) (known found : Survey) (met : Met) → IsMet names s es known met → found.apart ≡ met.apart
-    → (IsTrue found.filled ↔ (IsTrue known.filled × IsMetAlways s names met.guard)) → IsSurvey names es known found
-met_survey names s es known found met is apart filled = record {
-  apart = (λ e. is.apart.0 (sym apart ∙ e), λ h. apart ∙ is.apart.1 h);
-  filled = (
+pub met_survey : (names : List (List ℕ)) (s : Store) (es : List LabelledEdge) (known found : GuardSurvey) (met : Met) → IsUnionSurveyed names s es known met → found.disjoint ≡ met.disjoint
+    → (IsTrue found.exhaustive ↔ (IsTrue known.exhaustive × IsMetAlways s names met.guard)) → IsSurvey names es known found
+met_survey names s es known found met is disjoint exhaustive = record {
+  disjoint = (λ e. is.disjoint.0 (sym disjoint ∙ e), λ h. disjoint ∙ is.disjoint.1 h);
+  exhaustive = (
     (λ e.
-        let parts = filled.0 e in
-        (parts.0, λ letter. sym (is.truth (or_right met.apart known.filled parts.0) (holds_at names letter)) ∙ parts.1 letter)),
-    (λ h. filled.1 (h.0, λ letter. is.truth (or_right met.apart known.filled h.0) (holds_at names letter) ∙ h.1 letter)),
+        let parts = exhaustive.0 e in
+        (parts.0, λ letter. sym (is.truth (or_right met.disjoint known.exhaustive parts.0) (holds_at names letter)) ∙ parts.1 letter)),
+    (λ h. exhaustive.1 (h.0, λ letter. is.truth (or_right met.disjoint known.exhaustive h.0) (holds_at names letter) ∙ h.1 letter)),
   );
 }
 
@@ -153,23 +154,23 @@ one_link (y ∷ []) x some few is = ap (λ z. z ∷ []) is
 one_link (y ∷ z ∷ zs) x some few is = absurd (omega (arith, few))
 
 -- Without a link nothing is met, and nothing twice.
-pub none_surveyed : (names : List (List ℕ)) (s : Store) (never : Guard) (known found : Survey) → IsGuardOf s (λ on. false) never → found.apart ≡ known.apart
-    → (IsTrue found.filled ↔ (IsTrue known.filled × IsMetAlways s names never)) → IsSurvey names [] known found
-none_surveyed names s never known found is apart filled = record {
-  apart = (
-    (λ e. (sym apart ∙ e, λ i j d less within. absurd (omega (arith, within)))),
-    (λ h. apart ∙ h.0),
+pub none_surveyed : (names : List (List ℕ)) (s : Store) (never : Guard) (known found : GuardSurvey) → IsGuardOf s (λ on. false) never → found.disjoint ≡ known.disjoint
+    → (IsTrue found.exhaustive ↔ (IsTrue known.exhaustive × IsMetAlways s names never)) → IsSurvey names [] known found
+none_surveyed names s never known found is disjoint exhaustive = record {
+  disjoint = (
+    (λ e. (sym disjoint ∙ e, λ i j d less within. absurd (omega (arith, within)))),
+    (λ h. disjoint ∙ h.0),
   );
-  filled = (
-    (λ e. (let parts = filled.0 e in (parts.0, λ letter. sym (is.truth (holds_at names letter)) ∙ parts.1 letter))),
-    (λ h. filled.1 (h.0, λ letter. is.truth (holds_at names letter) ∙ h.1 letter)),
+  exhaustive = (
+    (λ e. (let parts = exhaustive.0 e in (parts.0, λ letter. sym (is.truth (holds_at names letter)) ∙ parts.1 letter))),
+    (λ h. exhaustive.1 (h.0, λ letter. is.truth (holds_at names letter) ∙ h.1 letter)),
   );
 }
 
 -- What is said of edges in a store that keeps the labels.
-pub kept_survey : (names : List (List ℕ)) (s t : Store) (links : List Link) (known found : Survey) → Keeps s t → All (λ l. Has s l.guard) links
+pub kept_survey : (names : List (List ℕ)) (s t : Store) (links : List Link) (known found : GuardSurvey) → Keeps s t → All (λ l. Has s l.guard) links
     → IsSurvey names (map (edge_of t) links) known found → IsSurvey names (map (edge_of s) links) known found
-kept_survey names s t links known found keeps has = subst (λ (es : List TreeEdge). IsSurvey names es known found) (kept_edges links keeps has)
+kept_survey names s t links known found keeps has = subst (λ (es : List LabelledEdge). IsSurvey names es known found) (kept_edges links keeps has)
 
 -- the second half of the links
 abbrev pub rest_of : List Link → List Link

@@ -4,7 +4,7 @@ use Rattle.std.specs.List.{slice_index_or}
 use Rattle.aut_core.specs.declared.link.Link.{Link}
 
 -- the links before the place leave states below this one, and those from there on this one or others above
-pub record Begins (links : List Link) (state place : ℕ) : Type 0 where
+pub record IsRowStart (links : List Link) (state place : ℕ) : Type 0 where
   pub within : place ≤ length links
   pub before : (k : ℕ) (d : Link) → k < place → (slice_index_or links k d).from < state
   pub behind : (k : ℕ) (d : Link) → place ≤ k → k < length links → state ≤ (slice_index_or links k d).from
@@ -13,4 +13,4 @@ pub record Begins (links : List Link) (state place : ℕ) : Type 0 where
 -- stands the end of the last one's.
 pub record IsIndex (links : List Link) (states : ℕ) (rows : List ℕ) : Type 0 where
   pub count : length rows ≡ states + 1
-  pub begins : (state : ℕ) → state ≤ states → Begins links state (slice_index_or rows state 0)
+  pub begins : (state : ℕ) → state ≤ states → IsRowStart links state (slice_index_or rows state 0)

@@ -1,4 +1,4 @@
-pub mod Core
+pub mod SymbolicAutomata
 pub mod Deterministic
 pub mod FormulaCode
 pub mod Index

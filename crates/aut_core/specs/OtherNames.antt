@@ -2,8 +2,8 @@
 use Rattle.std.specs.Prelude.{ℕ, Bool, not, List, ◌++◌, length, map, filter, All, Contains, ◌↔◌}
 use Rattle.std.specs.List.{list_any}
 use Rattle.aut_base.specs.Acceptance.{Accepts}
-use Rattle.aut_base.specs.Automaton.{Automaton, TreeEdge}
-use Rattle.aut_base.specs.CanonicalLabel.{label_of}
+use Rattle.aut_base.specs.Automaton.{Automaton, LabelledEdge}
+use Rattle.aut_base.specs.CanonicalLabel.{label_of_truth}
 use Rattle.aut_base.specs.Label.{LabelTree, holds_at, truth}
 use Rattle.aut_base.specs.Text.{same_text}
 use Rattle.aut_base.specs.Valuation.{letter_of}
@@ -25,11 +25,11 @@ pub record HaveBoth (a b names : List (List ℕ)) : Type 0 where
 -- The canonical label over new names that says the same as this one over the old names: it is true on a valuation
 -- exactly where this one is true at the letter of the valuation.
 abbrev pub label_over : List (List ℕ) → List (List ℕ) → LabelTree → LabelTree
-label_over old new t = label_of (length new) (λ v. truth (holds_at old (letter_of new v)) t)
+label_over old new t = label_of_truth (length new) (λ v. truth (holds_at old (letter_of new v)) t)
 
 -- the same automaton over these names
 abbrev pub over_names : List (List ℕ) → Automaton → Automaton
-over_names names a = record a { names = names; edges = map (λ (e : TreeEdge). record e { label = label_over a.names names e.label }) a.edges }
+over_names names a = record a { names = names; edges = map (λ (e : LabelledEdge). record e { label = label_over a.names names e.label }) a.edges }
 
 -- both accept the same lasso words
 abbrev pub AcceptTheSame : Automaton → Automaton → Type 0

@@ -3,7 +3,7 @@
 ghost use Rattle.std.specs.Prelude.{◌≡◌, ◌==◌, ◌<◌, ◌≤◌, ◌↔◌, ℕ, All, Contains, filter, IfOk, IsTrue, length, map};
 ghost use Rattle.aut_base.specs.Formula.{SetsBelow, formula_tree};
 ghost use Rattle.aut_base.specs.declared.limit.TheConstants.{MOST_NAMES};
-ghost use Rattle.aut_core.specs.Core.{AreParts, IsCore, automaton_of, edge_of};
+ghost use Rattle.aut_core.specs.SymbolicAutomata.{AreSymbolicParts, IsWellFormedSymbolic, automaton_of, edge_of};
 ghost use Rattle.aut_core.specs.Deterministic.{GoesOneWay, IsComplete, IsDeterministic};
 ghost use Rattle.aut_core.specs.Index.{IsIndex};
 ghost use Rattle.aut_core.specs.Links.{StandFor};
@@ -12,7 +12,7 @@ ghost use Rattle.aut_core.specs.Surveys.{AreSurveyed};
 
 use crate::copies::{copy_links, copy_names, copy_numbers, copy_places};
 use crate::link::{Link, Links, marks_rise, rows_of};
-use crate::survey::{Survey, survey_states};
+use crate::survey::{GuardSurvey, survey_states};
 use aut_base::{Formula, Memory, Names, Numbers, Places};
 use label_guards::{Draft, Guards};
 use std::alloc::Global;
@@ -45,11 +45,11 @@ struct Fields {
 impl Model for Automaton {
     ghost use Rattle.std.specs.Coded.{codes};
     ghost use Rattle.aut_base.specs.Formula.{formula_tree};
-    ghost use Rattle.aut_core.specs.Core.{Core};
+    ghost use Rattle.aut_core.specs.SymbolicAutomata.{SymbolicAutomaton};
     ghost use Rattle.aut_core.specs.FormulaCode.{formula_code};
-    ghost use Rattle.aut_core.specs.Kept.{IsKept};
+    ghost use Rattle.aut_core.specs.Kept.{IsIndexed};
 
-    ghost Value = { Core };
+    ghost Value = { SymbolicAutomaton };
 
     ghost coded = { Prim.hlevel (codes, formula_code) };
 
@@ -63,7 +63,7 @@ impl Model for Automaton {
       store = s.fields.value.guards;
     } };
 
-    ghost invariant = { λ s. IsKept (record {
+    ghost invariant = { λ s. IsIndexed (record {
       names = s.fields.value.names;
       starts = s.fields.value.starts;
       states = s.fields.value.states;
@@ -86,7 +86,7 @@ impl Automaton {
         sets: u32,
         formula: Formula,
     ) -> Result<Automaton, Memory>
-        requires { AreParts (record { names = names; starts = starts; states = states; links = links; sets = sets; formula = formula_tree formula; store = guards }) }
+        requires { AreSymbolicParts (record { names = names; starts = starts; states = states; links = links; sets = sets; formula = formula_tree formula; store = guards }) }
         ensures { IfOk result (λ made. made ≡ record { names = names; starts = starts; states = states; links = links; sets = sets; formula = formula_tree formula; store = guards }) }
     {
         let rows = rows_of(alloc, links.as_slice(), states)?;
@@ -110,14 +110,14 @@ impl Automaton {
         sets: u32,
         formula: Formula,
     ) -> Result<Automaton, Memory>
-        requires parts { AreParts (record { names = names; starts = starts; states = states; links = links; sets = sets; formula = formula_tree formula; store = guards }) }
+        requires parts { AreSymbolicParts (record { names = names; starts = starts; states = states; links = links; sets = sets; formula = formula_tree formula; store = guards }) }
         requires letters { GoesOneWay (automaton_of (record { names = names; starts = starts; states = states; links = links; sets = sets; formula = formula_tree formula; store = guards })) }
         ensures { IfOk result (λ made. made ≡ record { names = names; starts = starts; states = states; links = links; sets = sets; formula = formula_tree formula; store = guards }) }
     {
         let rows = rows_of(alloc, links.as_slice(), states)?;
-        let found = Survey {
-            apart: true,
-            filled: true,
+        let found = GuardSurvey {
+            disjoint: true,
+            exhaustive: true,
         };
         Automaton::surveyed(
             alloc, names, guards, states, starts, links, rows, sets, formula, found,
@@ -135,9 +135,9 @@ impl Automaton {
         rows: Places,
         sets: u32,
         formula: Formula,
-        found: Survey,
+        found: GuardSurvey,
     ) -> Result<Automaton, Memory>
-        requires parts { AreParts (record { names = names; starts = starts; states = states; links = links; sets = sets; formula = formula_tree formula; store = guards }) }
+        requires parts { AreSymbolicParts (record { names = names; starts = starts; states = states; links = links; sets = sets; formula = formula_tree formula; store = guards }) }
         requires rows { IsIndex links states rows }
         requires found { AreSurveyed names (map (edge_of guards) links) states found }
         ensures { IfOk result (λ made. made ≡ record { names = names; starts = starts; states = states; links = links; sets = sets; formula = formula_tree formula; store = guards }) }
@@ -145,9 +145,9 @@ impl Automaton {
         marks_rise(links.as_slice());
         let _names = names.as_slice();
         let is_single = starts.len() <= 1;
-        let is_deterministic = is_single && found.apart;
+        let is_deterministic = is_single && found.disjoint;
         let has_start = !starts.is_empty();
-        let is_complete = has_start && found.filled;
+        let is_complete = has_start && found.exhaustive;
         let fields = Fields {
             names,
             guards,
@@ -279,7 +279,7 @@ impl Automaton {
         starts: Numbers,
         links: Links,
     ) -> Result<Automaton, Memory>
-        requires { AreParts (record self.now { states = states; starts = starts; links = links }) }
+        requires { AreSymbolicParts (record self.now { states = states; starts = starts; links = links }) }
         ensures { IfOk result (λ made. made ≡ record self.now { states = states; starts = starts; links = links }) }
     {
         let names = copy_names(self.names())?;
@@ -343,8 +343,8 @@ impl Automaton {
     }
 
     /// Tells a proof what holds of each automaton.
-    pub fn whole(&self)
-        ensures { IsCore self.now }
+    pub fn well_formed(&self)
+        ensures { IsWellFormedSymbolic self.now }
     {
         let _ = &self.fields.names;
     }

@@ -2,10 +2,10 @@
 
 ghost use Rattle.std.specs.Prelude.{◌≡◌, ◌≤◌, All, IfOk, length, map};
 ghost use Rattle.aut_base.specs.declared.limit.TheConstants.{MOST_NAMES};
-ghost use Rattle.aut_base.specs.Automaton.{IsWellFormed, automaton, tree_edge};
+ghost use Rattle.aut_base.specs.Automaton.{IsWellFormed, automaton, labelled_edge};
 ghost use Rattle.aut_base.specs.CanonicalLabel.{canonical, canonical_label};
 ghost use Rattle.aut_base.specs.Label.{AllBelow};
-ghost use Rattle.aut_core.specs.Core.{automaton_of, edge_of};
+ghost use Rattle.aut_core.specs.SymbolicAutomata.{automaton_of, edge_of};
 ghost use Rattle.aut_core.specs.OtherNames.{AcceptTheSame};
 ghost use Rattle.label_guards.specs.Store.{Has};
 
@@ -38,10 +38,10 @@ impl Automaton {
 
 /// The edges with guards in place of their labels.
 fn guarded(alloc: Global, guards: &mut Guards, edges: &[Edge]) -> Result<Links, Memory>
-    requires { All (λ e. AllBelow guards.old.names (tree_edge e).label) edges.now }
+    requires { All (λ e. AllBelow guards.old.names (labelled_edge e).label) edges.now }
     ensures names { guards.new.names ≡ guards.old.names }
     ensures has { IfOk result (All (λ l. Has guards.new l.guard)) }
-    ensures edges { IfOk result (λ links. map (edge_of guards.new) links ≡ map (λ e. record (tree_edge e) { label = canonical_label guards.old.names (tree_edge e).label }) edges.now) }
+    ensures edges { IfOk result (λ links. map (edge_of guards.new) links ≡ map (λ e. record (labelled_edge e) { label = canonical_label guards.old.names (labelled_edge e).label }) edges.now) }
 {
     let mut links = Links::from_vec(Vec::with_capacity(alloc, edges.len())?);
     'edges: for edge in edges {

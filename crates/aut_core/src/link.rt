@@ -2,7 +2,7 @@
 
 ghost use Rattle.std.specs.Prelude.{◌+◌, ◌<◌, ◌≤◌, All, AllPairs, IfOk, map};
 ghost use Rattle.std.specs.List.Sorted.{IsNonDecreasing};
-ghost use Rattle.aut_core.specs.Index.{Begins, IsIndex};
+ghost use Rattle.aut_core.specs.Index.{IsRowStart, IsIndex};
 
 use aut_base::{Marks, Memory, Places, Seq};
 use label_guards::Guard;
@@ -40,9 +40,9 @@ pub(crate) fn rows_of(alloc: Global, links: &[Link], states: u32) -> Result<Plac
 #[inline]
 pub(crate) fn row_end(links: &[Link], start: usize, state: u32) -> usize
     requires in_order { IsNonDecreasing (map (λ l. l.from) links.now) }
-    requires begins { Begins links.now state start }
+    requires begins { IsRowStart links.now state start }
     ensures later { start ≤ result }
-    ensures begins { Begins links.now (state + 1) result }
+    ensures begins { IsRowStart links.now (state + 1) result }
 {
     let mut end = start;
     'links: while end < links.len() && links[end].from == state {

@@ -3,7 +3,7 @@
 ghost use Rattle.std.specs.Prelude.{◌≡◌, ◌≤◌, ◌<◌, ℕ, All, Contains, IfOk, length, slice_get, Some};
 ghost use Rattle.std.specs.List.{slice_index_or};
 ghost use Rattle.aut_base.specs.declared.limit.TheConstants.{MOST_NAMES};
-ghost use Rattle.aut_core.specs.Core.{automaton_of};
+ghost use Rattle.aut_core.specs.SymbolicAutomata.{automaton_of};
 ghost use Rattle.aut_core.specs.Links.{StandFor};
 ghost use Rattle.aut_core.specs.OtherNames.{AcceptTheSame, over_names};
 ghost use Rattle.label_guards.specs.Guards.{AreNames};
@@ -25,7 +25,7 @@ impl Automaton {
         ensures over { IfOk result (λ made. automaton_of made ≡ over_names names.now (automaton_of self.now)) }
         ensures accepts { IfOk result (λ made. AcceptTheSame (automaton_of made) (automaton_of self.now)) }
     {
-        self.whole();
+        self.well_formed();
         if names.as_slice() == self.names().as_slice() {
             return self.copy(alloc);
         }
@@ -48,7 +48,7 @@ impl Automaton {
         ensures accepts { IfOk result (λ made. AcceptTheSame (automaton_of made) (automaton_of self.now)) }
         ensures keeps { IfOk result (λ made. Keeps guards made.store) }
     {
-        self.whole();
+        self.well_formed();
         let _distinct = names.as_slice();
         let to = places_in(alloc, self.names(), names)?;
         let links = self.links_over(alloc, &mut guards, names, &to)?;
@@ -70,7 +70,7 @@ impl Automaton {
         ensures keeps { Keeps guards.old guards.new }
         ensures edges { IfOk result (λ links. StandFor guards.new links (over_names names.now (automaton_of self.now)).edges) }
     {
-        self.whole();
+        self.well_formed();
         let mut links = Links::from_vec(Vec::with_capacity(alloc, self.links().len())?);
         let mut done = Brought::new(alloc);
         'links: for link in self.links() {

@@ -34,8 +34,8 @@ rest_of texts None taken = []
 rest_of texts (Some place) taken = drop taken (slice_index_or texts place [])
 
 -- whether the call with this number is to fail
-abbrev pub is_listed : List ℕ → ℕ → Bool
-is_listed failing call = list_any (λ n. n == call) failing
+abbrev pub is_failing : List ℕ → ℕ → Bool
+is_failing failing call = list_any (λ n. n == call) failing
 
 -- what a failing write lets through: the first half, rounded down
 abbrev pub half : List ℕ → List ℕ

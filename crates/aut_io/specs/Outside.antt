@@ -5,17 +5,17 @@ use Rattle.std.specs.Ordering.{nat_cmp}
 use Rattle.std.specs.FinMap.{FinMap, get}
 
 -- a count one higher, which stands still at the last value of a `u64`
-abbrev pub raised : ℕ → ℕ
-raised count = min (count + 1) (2 ^ 64 - 1)
+abbrev pub incremented : ℕ → ℕ
+incremented count = min (count + 1) (2 ^ 64 - 1)
 
 -- a count that rose so many times
 abbrev pub raised_by : ℕ → ℕ → ℕ
 raised_by zero count = count
-raised_by (suc times) count = raised (raised_by times count)
+raised_by (suc times) count = incremented (raised_by times count)
 
 -- a count rose by one
 abbrev pub Rose : ℕ → ℕ → Type 0
-Rose before after = after ≡ raised before
+Rose before after = after ≡ incremented before
 
 -- from names to the bytes that stand under them
 abbrev pub Texts : Type 0
@@ -37,17 +37,17 @@ Closed None (Some left) = left ≡ []
 Closed (Some texts) left = left ≡ Some []
 
 -- What a read takes of what is left, and gives. A failed one takes nothing.
-abbrev pub Takes : {E : Type 0} → Option (List ℕ) → Option (List ℕ) → Result (Option ℕ) E → Type 0
-Takes None new result = new ≡ None
-Takes (Some old) new (Err e) = new ≡ Some old
-Takes (Some []) new (Ok byte) = (byte ≡ None) × (new ≡ Some [])
-Takes (Some (b ∷ rest)) new (Ok byte) = (byte ≡ Some b) × (new ≡ Some rest)
+abbrev pub TakesByte : {E : Type 0} → Option (List ℕ) → Option (List ℕ) → Result (Option ℕ) E → Type 0
+TakesByte None new result = new ≡ None
+TakesByte (Some old) new (Err e) = new ≡ Some old
+TakesByte (Some []) new (Ok byte) = (byte ≡ None) × (new ≡ Some [])
+TakesByte (Some (b ∷ rest)) new (Ok byte) = (byte ≡ Some b) × (new ≡ Some rest)
 
 -- What is left once exactly these bytes of it were taken.
-abbrev pub Passes : Option (List ℕ) → List ℕ → Option (List ℕ) → Type 0
-Passes None bytes new = new ≡ None
-Passes (Some old) bytes None = ⊥
-Passes (Some old) bytes (Some new) = old ≡ bytes ++ new
+abbrev pub Consumes : Option (List ℕ) → List ℕ → Option (List ℕ) → Type 0
+Consumes None bytes new = new ≡ None
+Consumes (Some old) bytes None = ⊥
+Consumes (Some old) bytes (Some new) = old ≡ bytes ++ new
 
 -- what was written has gained the piece
 abbrev pub Gains : Option (List ℕ) → Option (List ℕ) → List ℕ → Type 0

@@ -4,7 +4,7 @@ use Rattle.aut_base.specs.declared.fault.Failed.{Failed}
 use Rattle.aut_base.specs.declared.fault.OpenFail.{OpenFail}
 use Rattle.aut_base.specs.declared.fault.OpenFail.TheVariants as fail
 use Rattle.aut_io.specs.InMemory.{SinkState, SourceState, TextState}
-use Rattle.aut_io.specs.Outside.{Closed, Gains, GainsPrefix, Opened, Passes, Rose, Takes, Texts}
+use Rattle.aut_io.specs.Outside.{Closed, Gains, GainsPrefix, Opened, Consumes, Rose, TakesByte, Texts}
 
 -- What inputs tell. The counts stand still at the last value of a `u64`.
 pub record Seen : Type 0 where
@@ -35,7 +35,7 @@ pub record Opens (old : Seen) (name : List ℕ) (result : Result (Unit {0}) Open
 -- The next byte is taken. A fault comes only where the count of read faults rose by one.
 pub record Nexts (old : Seen) (result : Result (Option ℕ) Failed) (new : Seen) : Type 0 where
   pub texts : new.texts ≡ old.texts
-  pub takes : Takes old.left new.left result
+  pub takes : TakesByte old.left new.left result
   pub failed : OnErr result (Rose old.read_faults new.read_faults)
   pub calm : OnOk result (new.read_faults ≡ old.read_faults)
   pub later : old.read_faults ≤ new.read_faults
@@ -43,9 +43,9 @@ pub record Nexts (old : Seen) (result : Result (Option ℕ) Failed) (new : Seen)
   pub opens : new.open_faults ≡ old.open_faults
 
 -- These bytes were taken, without a read.
-pub record Skips (old : Seen) (bytes : List ℕ) (new : Seen) : Type 0 where
+pub record SkipsBytes (old : Seen) (bytes : List ℕ) (new : Seen) : Type 0 where
   pub texts : new.texts ≡ old.texts
-  pub passes : Passes old.left bytes new.left
+  pub passes : Consumes old.left bytes new.left
   pub openings : new.openings ≡ old.openings
   pub opens : new.open_faults ≡ old.open_faults
   pub reads : new.read_faults ≡ old.read_faults
@@ -56,7 +56,7 @@ pub record SinkSeen : Type 0 where
   pub faults : ℕ
 
 -- A piece is written, or a prefix of it where the write failed. A fault comes only where the count rose by one.
-pub record Writes (old : SinkSeen) (piece : List ℕ) (result : Result (Unit {0}) Failed) (new : SinkSeen) : Type 0 where
+pub record WritesPiece (old : SinkSeen) (piece : List ℕ) (result : Result (Unit {0}) Failed) (new : SinkSeen) : Type 0 where
   pub ok : OnOk result (Gains old.written new.written piece)
   pub err : OnErr result (GainsPrefix old.written new.written piece)
   pub failed : OnErr result (Rose old.faults new.faults)
@@ -64,8 +64,8 @@ pub record Writes (old : SinkSeen) (piece : List ℕ) (result : Result (Unit {0}
   pub later : old.faults ≤ new.faults
 
 -- what sources and sinks in memory tell
-abbrev pub seen_of : SourceState → Seen
-seen_of m = record { texts = Some m.texts; left = Some m.left; openings = m.openings; open_faults = m.open_faults; read_faults = m.read_faults }
+abbrev pub seen_in_memory : SourceState → Seen
+seen_in_memory m = record { texts = Some m.texts; left = Some m.left; openings = m.openings; open_faults = m.open_faults; read_faults = m.read_faults }
 
 -- a source whose calls never fail
 abbrev pub seen_of_sure : TextState → Seen

@@ -1,8 +1,8 @@
 //! Calls that fail where they are told to.
 
 ghost use Rattle.std.specs.Prelude.{◌≡◌};
-ghost use Rattle.aut_io.specs.InMemory.{is_listed};
-ghost use Rattle.aut_io.specs.Outside.{raised};
+ghost use Rattle.aut_io.specs.InMemory.{is_failing};
+ghost use Rattle.aut_io.specs.Outside.{incremented};
 
 use aut_base::Numbers;
 
@@ -23,8 +23,8 @@ impl FailingCalls {
 
     /// Counts a call, and answers whether it is to fail.
     pub(crate) fn count(&mut self) -> bool
-        ensures fails { result ≡ is_listed self.old.listed self.old.made }
-        ensures counted { self.new ≡ record self.old { made = raised self.old.made } }
+        ensures fails { result ≡ is_failing self.old.listed self.old.made }
+        ensures counted { self.new ≡ record self.old { made = incremented self.old.made } }
     {
         let call = self.made;
         self.made = call.saturating_add(1);

@@ -1,7 +1,7 @@
 //! Where texts come from.
 
 ghost use Rattle.std.specs.Prelude.{◌≡◌, ◌≤◌, ℕ, List, length, take};
-ghost use Rattle.aut_io.specs.Seen.{Nexts, Opens, Seen, Skips};
+ghost use Rattle.aut_io.specs.Seen.{Nexts, Opens, Seen, SkipsBytes};
 
 use aut_base::{Failed, OpenFail, Text};
 
@@ -34,5 +34,5 @@ pub trait Inputs {
     /// Takes so many of the bytes at hand. It can't fail.
     fn skip(&mut self, count: usize)
         requires { count ≤ length (at_hand self.old) }
-        ensures { Skips (seen self.old) (take count (at_hand self.old)) (seen self.new) };
+        ensures { SkipsBytes (seen self.old) (take count (at_hand self.old)) (seen self.new) };
 }

@@ -3,8 +3,8 @@
 ghost use Rattle.std.specs.Prelude.{◌≡◌, ◌≤◌, ◌||◌, [], not, is_err, length, OnErr, IsErrOf};
 ghost use Rattle.std.specs.FinMap.{contains_key, from_entries};
 ghost use Rattle.std.specs.List.{zip};
-ghost use Rattle.aut_io.specs.InMemory.{is_listed};
-ghost use Rattle.aut_io.specs.Outside.{raised};
+ghost use Rattle.aut_io.specs.InMemory.{is_failing};
+ghost use Rattle.aut_io.specs.Outside.{incremented};
 
 use crate::failing_calls::FailingCalls;
 use crate::inputs::Inputs;
@@ -58,9 +58,9 @@ impl MemInputs {
 }
 
 impl Inputs for MemInputs {
-    ghost use Rattle.aut_io.specs.Seen.{Nexts, Opens, seen_of};
+    ghost use Rattle.aut_io.specs.Seen.{Nexts, Opens, seen_in_memory};
 
-    ghost seen = { seen_of };
+    ghost seen = { seen_in_memory };
 
     ghost at_hand = { λ _. [] };
 
@@ -68,12 +68,12 @@ impl Inputs for MemInputs {
 
     fn open(&mut self, name: &Text) -> Result<(), OpenFail>
         // It fails exactly where the call is listed or the name isn't there, and never for want of memory.
-        ensures fails { is_err result ≡ (is_listed self.old.failing self.old.calls || not (contains_key self.old.texts name.now)) }
+        ensures fails { is_err result ≡ (is_failing self.old.failing self.old.calls || not (contains_key self.old.texts name.now)) }
         ensures kind { OnErr result (IsErrOf result OpenFail.Failed) }
-        ensures opens { Opens (seen_of self.old) name.now result (seen_of self.new) }
+        ensures opens { Opens (seen_in_memory self.old) name.now result (seen_in_memory self.new) }
 
         // It counts the call.
-        ensures counted { self.new.calls ≡ raised self.old.calls }
+        ensures counted { self.new.calls ≡ incremented self.old.calls }
         ensures failing { self.new.failing ≡ self.old.failing }
     {
         let is_there = self.store.open(name);
@@ -87,11 +87,11 @@ impl Inputs for MemInputs {
 
     fn next(&mut self) -> Result<Option<u8>, Failed>
         // It fails exactly where the call is listed.
-        ensures fails { is_err result ≡ is_listed self.old.failing self.old.calls }
-        ensures nexts { Nexts (seen_of self.old) result (seen_of self.new) }
+        ensures fails { is_err result ≡ is_failing self.old.failing self.old.calls }
+        ensures nexts { Nexts (seen_in_memory self.old) result (seen_in_memory self.new) }
 
         // It counts the call.
-        ensures counted { self.new.calls ≡ raised self.old.calls }
+        ensures counted { self.new.calls ≡ incremented self.old.calls }
         ensures failing { self.new.failing ≡ self.old.failing }
     {
         if self.calls.count() {

@@ -1,8 +1,8 @@
 //! A sink in memory that fails where it is told to, and where it is full.
 
 ghost use Rattle.std.specs.Prelude.{◌≡◌, ◌+◌, ◌≤◌, ◌||◌, ◌++◌, [], not, nat_lt, is_err, length, take, if◌then◌else◌, IfOk, OnErr};
-ghost use Rattle.aut_io.specs.InMemory.{half, is_listed, room};
-ghost use Rattle.aut_io.specs.Outside.{raised};
+ghost use Rattle.aut_io.specs.InMemory.{half, is_failing, room};
+ghost use Rattle.aut_io.specs.Outside.{incremented};
 
 use crate::failing_calls::FailingCalls;
 use crate::sink::Sink;
@@ -71,7 +71,7 @@ impl MemSink {
 
     /// Counts a fault, and gives it.
     fn fault(&mut self) -> Failed
-        ensures counted { self.new ≡ record self.old { faults = raised self.old.faults } }
+        ensures counted { self.new ≡ record self.old { faults = incremented self.old.faults } }
         ensures later { self.old.faults ≤ self.new.faults }
     {
         self.faults = self.faults.saturating_add(1);
@@ -80,20 +80,20 @@ impl MemSink {
 }
 
 impl Sink for MemSink {
-    ghost use Rattle.aut_io.specs.Seen.{Writes, sink_seen_of};
+    ghost use Rattle.aut_io.specs.Seen.{WritesPiece, sink_seen_of};
 
     ghost seen = { sink_seen_of };
 
     fn write(&mut self, piece: &[u8]) -> Result<(), Failed>
         // It fails exactly where the call is listed or the piece doesn't fit.
-        ensures fails { is_err result ≡ (is_listed self.old.failing self.old.calls || nat_lt self.old.capacity (length self.old.written + length piece.now)) }
-        ensures writes { Writes (sink_seen_of self.old) piece.now result (sink_seen_of self.new) }
+        ensures fails { is_err result ≡ (is_failing self.old.failing self.old.calls || nat_lt self.old.capacity (length self.old.written + length piece.now)) }
+        ensures writes { WritesPiece (sink_seen_of self.old) piece.now result (sink_seen_of self.new) }
 
         // All that fits is written, of the piece or, where the call is listed, of its first half.
-        ensures kept { self.new.written ≡ self.old.written ++ take (room self.old) (if is_listed self.old.failing self.old.calls then half piece.now else piece.now) }
+        ensures kept { self.new.written ≡ self.old.written ++ take (room self.old) (if is_failing self.old.failing self.old.calls then half piece.now else piece.now) }
 
         // It counts the call.
-        ensures counted { self.new.calls ≡ raised self.old.calls }
+        ensures counted { self.new.calls ≡ incremented self.old.calls }
         ensures capacity { self.new.capacity ≡ self.old.capacity }
         ensures failing { self.new.failing ≡ self.old.failing }
     {

@@ -1,6 +1,6 @@
 //! Where texts go.
 
-ghost use Rattle.aut_io.specs.Seen.{SinkSeen, Writes};
+ghost use Rattle.aut_io.specs.Seen.{SinkSeen, WritesPiece};
 
 use aut_base::Failed;
 
@@ -11,5 +11,5 @@ pub trait Sink {
 
     /// Writes a piece. A failed write may have taken a prefix of it.
     fn write(&mut self, piece: &[u8]) -> Result<(), Failed>
-        ensures { Writes (seen self.old) piece.now result (seen self.new) };
+        ensures { WritesPiece (seen self.old) piece.now result (seen self.new) };
 }

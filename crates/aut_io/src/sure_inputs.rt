@@ -39,7 +39,7 @@ impl SureInputs {
 }
 
 impl Inputs for SureInputs {
-    ghost use Rattle.aut_io.specs.Seen.{Nexts, Opens, Skips, seen_of_sure};
+    ghost use Rattle.aut_io.specs.Seen.{Nexts, Opens, SkipsBytes, seen_of_sure};
 
     ghost seen = { seen_of_sure };
 
@@ -70,7 +70,7 @@ impl Inputs for SureInputs {
 
     fn skip(&mut self, count: usize)
         requires { count ≤ length self.old.left }
-        ensures skips { Skips (seen_of_sure self.old) (take count self.old.left) (seen_of_sure self.new) }
+        ensures skips { SkipsBytes (seen_of_sure self.old) (take count self.old.left) (seen_of_sure self.new) }
     {
         self.store.skip(count);
     }

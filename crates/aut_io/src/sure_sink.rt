@@ -1,7 +1,7 @@
 //! A sink that never fails.
 
 ghost use Rattle.std.specs.Prelude.{None, IsOk};
-ghost use Rattle.aut_io.specs.Seen.{Writes};
+ghost use Rattle.aut_io.specs.Seen.{WritesPiece};
 
 use crate::sink::Sink;
 use aut_base::Failed;
@@ -22,7 +22,7 @@ impl Sink for SureSink {
 
     fn write(&mut self, piece: &[u8]) -> Result<(), Failed>
         ensures ok { IsOk result }
-        ensures writes { Writes (record { written = None; faults = 0 }) piece.now result (record { written = None; faults = 0 }) }
+        ensures writes { WritesPiece (record { written = None; faults = 0 }) piece.now result (record { written = None; faults = 0 }) }
     {
         Ok(())
     }

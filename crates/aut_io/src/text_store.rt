@@ -5,7 +5,7 @@ ghost use Rattle.std.specs.Cmp.Lexicographic.{slice_cmp};
 ghost use Rattle.std.specs.FinMap.{contains_key, find, from_entries};
 ghost use Rattle.std.specs.List.{slice_index_or, zip};
 ghost use Rattle.std.specs.Ordering.{nat_cmp};
-ghost use Rattle.aut_io.specs.Outside.{raised, text_of};
+ghost use Rattle.aut_io.specs.Outside.{incremented, text_of};
 
 use aut_base::{Names, Text, Words};
 use std::marker::Model;
@@ -57,7 +57,7 @@ impl TextStore {
     /// Opens the text under a name, and answers whether it is there. Where it isn't, nothing is open.
     pub(crate) fn open(&mut self, name: &Text) -> bool
         ensures there { result ≡ contains_key self.old.texts name.now }
-        ensures opened { self.new ≡ record { texts = self.old.texts; left = text_of self.old.texts name.now; openings = raised self.old.openings } }
+        ensures opened { self.new ≡ record { texts = self.old.texts; left = text_of self.old.texts name.now; openings = incremented self.old.openings } }
     {
         self.openings = self.openings.saturating_add(1);
         self.taken = 0;

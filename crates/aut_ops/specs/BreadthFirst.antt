@@ -3,16 +3,16 @@ use Rattle.std.specs.Prelude.{◌≡◌, Bool, List, [], ◌∷◌, ◌++◌, Al
 use Rattle.exploration.specs.Turns.{with_new}
 
 -- steps that lead from one item to another by way of these
-abbrev pub Leads : {X : Type 0} → (X → List X) → X → List X → X → Type 0
-Leads next x [] y = x ≡ y
-Leads next x (z ∷ zs) y = Contains (next x) z × Leads next z zs y
+abbrev pub LeadsBy : {X : Type 0} → (X → List X) → X → List X → X → Type 0
+LeadsBy next x [] y = x ≡ y
+LeadsBy next x (z ∷ zs) y = Contains (next x) z × LeadsBy next z zs y
 
 -- steps lead to the item from one of the starts
-pub record IsReached {X : Type 0} (starts : List X) (next : X → List X) (y : X) : Type 0 where
+pub record IsReachedFrom {X : Type 0} (starts : List X) (next : X → List X) (y : X) : Type 0 where
   pub start : X
   pub is_start : Contains starts start
   pub way : List X
-  pub leads : Leads next start way y
+  pub leads : LeadsBy next start way y
 
 -- the items in order, each where it first stands
 abbrev pub once : {X : Type 0} → (X → X → Bool) → List X → List X
@@ -22,4 +22,4 @@ once same xs = fold (with_new same) [] xs
 -- each where it first stands, and nothing that isn't reached. Law: there is at most one such list.
 pub record IsBreadthFirst {X : Type 0} (same : X → X → Bool) (starts : List X) (next : X → List X) (list : List X) : Type 0 where
   pub in_turn : list ≡ once same (starts ++ flat_map next list)
-  pub reached : All (IsReached starts next) list
+  pub reached : All (IsReachedFrom starts next) list

@@ -2,19 +2,19 @@
 use Rattle.std.specs.Prelude.{ℕ, ◌+◌, ◌==◌, Bool, false, not, ◌&&◌, if◌then◌else◌, List, [], ◌∷◌, ◌++◌, flat_map, length}
 use Rattle.std.specs.List.{list_all, range_with_len}
 use Rattle.acc_forms.specs.Joined.{conj}
-use Rattle.aut_base.specs.Automaton.{Automaton, TreeEdge}
+use Rattle.aut_base.specs.Automaton.{Automaton, LabelledEdge}
 use Rattle.aut_base.specs.Formula.{Fin, FormulaTree, met}
 use Rattle.aut_base.specs.Label.{True}
 use Rattle.aut_core.specs.Surveys.{edges_from}
 use Rattle.aut_ops.specs.Labels.{is_never, no_label}
 
 -- an unmarked edge to the sink at the letters that meet none of a state's edges, if there are any
-abbrev pub gap_edges : ℕ → ℕ → ℕ → List TreeEdge → List TreeEdge
+abbrev pub gap_edges : ℕ → ℕ → ℕ → List LabelledEdge → List LabelledEdge
 gap_edges names state sink es =
     if is_never names (no_label names es) then [] else record { from = state; label = no_label names es; to = sink; marks = [] } ∷ []
 
 -- the edges of a state, and the one to the sink behind them
-abbrev pub filled_edges : Automaton → ℕ → List TreeEdge
+abbrev pub filled_edges : Automaton → ℕ → List LabelledEdge
 filled_edges a state = edges_from state a.edges ++ gap_edges (length a.names) state a.states (edges_from state a.edges)
 
 -- a cycle of edges without marks meets the condition

@@ -1,10 +1,10 @@
 -- What holds of the pairs of a product, and of automata with some of their states alone.
 use Rattle.std.specs.Prelude.{◌≡◌, ◌≢◌, ◌↔◌, ◌⊎◌, ℕ, ◌≤◌, List, AllPairs, Contains, length}
 use Rattle.aut_base.specs.Acceptance.{IsPath}
-use Rattle.aut_base.specs.Automaton.{Automaton, IsWellFormed, TreeEdge}
+use Rattle.aut_base.specs.Automaton.{Automaton, IsWellFormed, LabelledEdge}
 use Rattle.aut_base.specs.Formula.{FormulaTree}
 use Rattle.aut_base.specs.Word.{NameSet}
-use Rattle.aut_ops.specs.BreadthFirst.{IsReached}
+use Rattle.aut_ops.specs.BreadthFirst.{IsReachedFrom}
 use Rattle.aut_ops.specs.Products.{ArePairs, HasMorePairs, IsProduct, next_pairs, start_pairs}
 use Rattle.aut_ops.specs.Pruning.{IsPruned}
 use Rattle.aut_ops.specs.Trimming.{IsTrimmed}
@@ -13,7 +13,7 @@ use Rattle.aut_ops.specs.Trimming.{IsTrimmed}
 pub record PairsLaw (a b : Automaton) (pairs : List (ℕ × ℕ)) : Type 0 where
   pub one : (others : List (ℕ × ℕ)) → ArePairs a b others → others ≡ pairs
   pub differ : AllPairs (λ p q. p ≢ q) pairs
-  pub exactly : (pair : ℕ × ℕ) → Contains pairs pair ↔ IsReached (start_pairs a b) (next_pairs a b) pair
+  pub exactly : (pair : ℕ × ℕ) → Contains pairs pair ↔ IsReachedFrom (start_pairs a b) (next_pairs a b) pair
 
 abbrev pub PairsAreDetermined : Type 0
 PairsAreDetermined = (a b : Automaton) (pairs : List (ℕ × ℕ)) → ArePairs a b pairs → PairsLaw a b pairs
@@ -33,14 +33,14 @@ pub record AreLedTo (a b : Automaton) (pair : ℕ × ℕ) : Type 0 where
   pub second : ℕ
   pub is_first : Contains a.starts first
   pub is_second : Contains b.starts second
-  pub way : List TreeEdge
-  pub other : List TreeEdge
+  pub way : List LabelledEdge
+  pub other : List LabelledEdge
   pub leads : IsPath a first letters way pair.0
   pub leads_too : IsPath b second letters other pair.1
 
 -- The pairs that are reached are those to which one list of letters leads in both automata.
 abbrev pub ReachedByLetters : Type 0
-ReachedByLetters = (a b : Automaton) → b.names ≡ a.names → IsWellFormed a → IsWellFormed b → (pair : ℕ × ℕ) → IsReached (start_pairs a b) (next_pairs a b) pair ↔ AreLedTo a b pair
+ReachedByLetters = (a b : Automaton) → b.names ≡ a.names → IsWellFormed a → IsWellFormed b → (pair : ℕ × ℕ) → IsReachedFrom (start_pairs a b) (next_pairs a b) pair ↔ AreLedTo a b pair
 
 -- An automaton has one trimmed one.
 abbrev pub TrimmedIsDetermined : Type 0

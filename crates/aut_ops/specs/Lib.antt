@@ -4,7 +4,7 @@ pub mod Labels
 pub mod Languages
 pub mod Laws
 pub mod Paired
-pub mod Passable
+pub mod Satisfiable
 pub mod Products
 pub mod Pruning
 pub mod Sums

@@ -1,12 +1,12 @@
 -- A product that isn't put together yet.
 use Rattle.std.specs.Prelude.{length}
 use Rattle.aut_base.specs.Formula.{formula_tree}
-use Rattle.aut_core.specs.Core.{Core}
+use Rattle.aut_core.specs.SymbolicAutomata.{SymbolicAutomaton}
 use Rattle.aut_ops.specs.declared.products.Paired.{Paired}
 
 -- what its parts make
-abbrev pub core_of : Paired → Core
-core_of p = record {
+abbrev pub symbolic_of_pairs : Paired → SymbolicAutomaton
+symbolic_of_pairs p = record {
   names = p.names;
   starts = p.starts;
   states = length p.pairs.keys;

@@ -3,12 +3,12 @@ use Rattle.std.specs.Prelude.{◌≡◌, ◌≢◌, ℕ, ◌+◌, ◌<◌, ◌==
 use Rattle.std.specs.List.{position_or_len}
 use Rattle.acc_forms.specs.Joined.{conj, disj}
 use Rattle.acc_forms.specs.Shift.{shift}
-use Rattle.aut_base.specs.Automaton.{Automaton, TreeEdge}
+use Rattle.aut_base.specs.Automaton.{Automaton, LabelledEdge}
 use Rattle.aut_base.specs.Formula.{FormulaTree}
 use Rattle.aut_base.specs.Label.{LabelTree}
 use Rattle.aut_core.specs.OtherNames.{joined_names, over_names}
 use Rattle.aut_core.specs.Surveys.{edges_from}
-use Rattle.aut_ops.specs.BreadthFirst.{IsBreadthFirst, IsReached}
+use Rattle.aut_ops.specs.BreadthFirst.{IsBreadthFirst, IsReachedFrom}
 use Rattle.aut_ops.specs.Completion.{completed}
 use Rattle.aut_ops.specs.Labels.{both_labels, is_never}
 
@@ -20,13 +20,13 @@ pub record JointEdge : Type 0 where
   pub marks : List ℕ
 
 -- The two edges as one, unless no letter meets both. The marks of the second are raised by the number of the first's sets.
-abbrev pub joint_edge : ℕ → ℕ → TreeEdge → TreeEdge → List JointEdge
+abbrev pub joint_edge : ℕ → ℕ → LabelledEdge → LabelledEdge → List JointEdge
 joint_edge names sets d e =
     if is_never names (both_labels names d.label e.label) then []
     else record { from = (d.from, e.from); label = both_labels names d.label e.label; to = (d.to, e.to); marks = d.marks ++ map (λ mark. mark + sets) e.marks } ∷ []
 
 -- the edges of the first with those of the second, in the order of the first's
-abbrev pub joint_rows : ℕ → ℕ → List TreeEdge → List TreeEdge → List JointEdge
+abbrev pub joint_rows : ℕ → ℕ → List LabelledEdge → List LabelledEdge → List JointEdge
 joint_rows names sets ds es = flat_map (λ d. flat_map (joint_edge names sets d) es) ds
 
 -- the edges that leave a pair of states
@@ -53,7 +53,7 @@ abbrev pub ArePairs : Automaton → Automaton → List (ℕ × ℕ) → Type 0
 ArePairs a b = IsBreadthFirst same_pair (start_pairs a b) (next_pairs a b)
 
 -- the edge between the numbers of the pairs, which are their places
-abbrev pub numbered : List (ℕ × ℕ) → JointEdge → TreeEdge
+abbrev pub numbered : List (ℕ × ℕ) → JointEdge → LabelledEdge
 numbered pairs j = record { from = position_or_len (same_pair j.from) pairs; label = j.label; to = position_or_len (same_pair j.to) pairs; marks = j.marks }
 
 -- the product of two automata over the same names, whose states are these pairs
@@ -77,7 +77,7 @@ pub record IsProduct (join : FormulaTree → FormulaTree → FormulaTree) (a b m
 pub record HasMorePairs (most : ℕ) (a b : Automaton) : Type 0 where
   pub pairs : List (ℕ × ℕ)
   pub differ : AllPairs (λ p q. p ≢ q) pairs
-  pub reached : All (IsReached (start_pairs a b) (next_pairs a b)) pairs
+  pub reached : All (IsReachedFrom (start_pairs a b) (next_pairs a b)) pairs
   pub more : most < length pairs
 
 -- the automaton over the names of both
@@ -89,5 +89,5 @@ abbrev pub IsProductOf : Automaton → Automaton → Automaton → Type 0
 IsProductOf a b = IsProduct conj (over_both a b a) (over_both a b b)
 
 -- The same under one of the two conditions, of the automata made complete.
-abbrev pub IsEitherOf : Automaton → Automaton → Automaton → Type 0
-IsEitherOf a b = IsProduct disj (over_both a b (completed a)) (over_both a b (completed b))
+abbrev pub IsUnionProductOf : Automaton → Automaton → Automaton → Type 0
+IsUnionProductOf a b = IsProduct disj (over_both a b (completed a)) (over_both a b (completed b))

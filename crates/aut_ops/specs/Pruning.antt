@@ -1,21 +1,21 @@
 -- An automaton with one acceptance set, which a run has to pass again and again, without the states that help no such run.
 use Rattle.std.specs.Prelude.{◌≡◌, ◌↔◌, ℕ, ◌<◌, Bool, true, IsTrue, List, Contains, length}
-use Rattle.aut_base.specs.Automaton.{Automaton, TreeEdge}
+use Rattle.aut_base.specs.Automaton.{Automaton, LabelledEdge}
 use Rattle.aut_base.specs.Marks.{is_in}
-use Rattle.aut_ops.specs.Passable.{between, is_flagged, passable_arcs, passable_edges}
+use Rattle.aut_ops.specs.Satisfiable.{between, is_flagged, passable_arcs, satisfiable_edges}
 use Rattle.graph_walk.specs.Reach.{ReachedFrom}
 use Rattle.graph_walk.specs.Walk.{Reaches}
 
 -- the edge is in set 0, its label isn't false, and it lies on a cycle of edges with such labels
-pub record IsMarkedOnCycle (a : Automaton) (e : TreeEdge) : Type 0 where
-  pub is_edge : Contains (passable_edges a) e
+pub record IsMarkedOnCycle (a : Automaton) (e : LabelledEdge) : Type 0 where
+  pub is_edge : Contains (satisfiable_edges a) e
   pub marked : is_in 0 e.marks ≡ true
   pub closes : Reaches (passable_arcs a) e.to e.from
 
 -- The state is reached, and a path leads from it to a cycle with an edge in set 0, all by edges whose labels aren't false.
 pub record IsUseful (a : Automaton) (q : ℕ) : Type 0 where
   pub reached : ReachedFrom (passable_arcs a) a.starts q
-  pub edge : TreeEdge
+  pub edge : LabelledEdge
   pub on_cycle : IsMarkedOnCycle a edge
   pub leads : Reaches (passable_arcs a) q edge.from
 

@@ -2,12 +2,12 @@
 use Rattle.std.specs.Prelude.{ℕ, ◌+◌, false, [], ◌∷◌, ◌++◌, map}
 use Rattle.acc_forms.specs.Joined.{conj, disj}
 use Rattle.acc_forms.specs.Shift.{shift}
-use Rattle.aut_base.specs.Automaton.{Automaton, TreeEdge}
+use Rattle.aut_base.specs.Automaton.{Automaton, LabelledEdge}
 use Rattle.aut_base.specs.Formula.{Fin, Inf}
 use Rattle.aut_core.specs.OtherNames.{joined_names, over_names}
 
 -- the edge between states and in sets with higher numbers, and in one more set
-abbrev pub moved_edge : ℕ → ℕ → ℕ → TreeEdge → TreeEdge
+abbrev pub moved_edge : ℕ → ℕ → ℕ → LabelledEdge → LabelledEdge
 moved_edge states sets fresh e = record { from = e.from + states; label = e.label; to = e.to + states; marks = map (λ mark. mark + sets) e.marks ++ fresh ∷ [] }
 
 -- The first automaton, and behind it the second, each of whose edges is in a fresh set: a run of the first meets the

@@ -1,22 +1,22 @@
 -- An automaton without the states that aren't reached.
 use Rattle.std.specs.Prelude.{◌≡◌, ℕ, Bool, List, filter, length, map, take}
-use Rattle.aut_base.specs.Automaton.{Automaton, TreeEdge}
-use Rattle.aut_ops.specs.Passable.{between, passable_arcs}
+use Rattle.aut_base.specs.Automaton.{Automaton, LabelledEdge}
+use Rattle.aut_ops.specs.Satisfiable.{between, passable_arcs}
 use Rattle.aut_ops.specs.declared.reached.ReachedSize.{ReachedSize}
-use Rattle.graph_walk.specs.Reach.{AreReached}
+use Rattle.graph_walk.specs.Reach.{AreReachFlags}
 
 -- how many states before this one are flagged
-abbrev pub rank : List Bool → ℕ → ℕ
-rank flags q = length (filter (λ flag. flag) (take q flags))
+abbrev pub flagged_before : List Bool → ℕ → ℕ
+flagged_before flags q = length (filter (λ flag. flag) (take q flags))
 
-abbrev pub renumbered_edge : List Bool → TreeEdge → TreeEdge
-renumbered_edge flags e = record { from = rank flags e.from; label = e.label; to = rank flags e.to; marks = e.marks }
+abbrev pub renumbered_edge : List Bool → LabelledEdge → LabelledEdge
+renumbered_edge flags e = record { from = flagged_before flags e.from; label = e.label; to = flagged_before flags e.to; marks = e.marks }
 
 -- the flagged states, numbered from 0 in their order
 abbrev pub renumbered : List Bool → Automaton → Automaton
 renumbered flags a = record a {
-  starts = map (rank flags) a.starts;
-  states = rank flags a.states;
+  starts = map (flagged_before flags) a.starts;
+  states = flagged_before flags a.states;
   edges = map (renumbered_edge flags) a.edges;
 }
 
@@ -24,7 +24,7 @@ renumbered flags a = record a {
 -- labels aren't false leads to it from a start. Law: there is at most one such automaton.
 pub record IsTrimmed (a made : Automaton) : Type 0 where
   pub flags : List Bool
-  pub reached : AreReached a.states (passable_arcs a) a.starts flags
+  pub reached : AreReachFlags a.states (passable_arcs a) a.starts flags
   pub is : made ≡ renumbered flags (between flags a)
 
 -- the numbers of states and edges that a trimmed automaton has

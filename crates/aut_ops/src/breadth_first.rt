@@ -1,12 +1,12 @@
 //! All pairs of states that two automata reach together.
 
 ghost use Rattle.std.specs.Prelude.{◌≡◌, ◌+◌, ◌<◌, ◌≤◌, ◌^◌, ◌++◌, ℕ, List, [], IfOk, IsErrOf, OnOk, flat_map, length, map};
-ghost use Rattle.aut_core.specs.Core.{automaton_of};
+ghost use Rattle.aut_core.specs.SymbolicAutomata.{automaton_of};
 ghost use Rattle.aut_ops.specs.BreadthFirst.{once};
 ghost use Rattle.aut_ops.specs.Products.{ArePairs, HasMorePairs, all_pairs, joint_edges, same_pair, start_pairs};
 ghost use Rattle.aut_ops.specs.declared.fault.ExploreFault.{ExploreFault};
 ghost use Rattle.aut_base.specs.declared.limit.TheConstants.{MOST_PAIRS};
-ghost use Rattle.aut_ops.specs.inner.Pairings.{AreBeyond, AreEdges, AreListed, ArePlaces};
+ghost use Rattle.aut_ops.specs.inner.Pairings.{AreBeyond, AreJointEdges, ArePairsListed, ArePlacesOfPairs};
 ghost use Rattle.label_guards.specs.Store.{Keeps};
 
 use crate::fault::ExploreFault;
@@ -26,7 +26,7 @@ pub(crate) fn list_starts(
     ensures store { pairing.new.store ≡ pairing.old.store }
     ensures links { pairing.new.links ≡ pairing.old.links }
     ensures pairs { OnOk result (pairing.new.pairs ≡ once same_pair (all_pairs firsts.now seconds.now)) }
-    ensures places { IfOk result (λ starts. ArePlaces pairing.new.pairs starts (all_pairs firsts.now seconds.now)) }
+    ensures places { IfOk result (λ starts. ArePlacesOfPairs pairing.new.pairs starts (all_pairs firsts.now seconds.now)) }
     ensures few { OnOk result (length pairing.new.pairs ≤ MOST_PAIRS) }
     ensures many { IsErrOf result ExploreFault.Pairs → AreBeyond MOST_PAIRS [] (all_pairs firsts.now seconds.now) }
 {
@@ -47,7 +47,7 @@ fn list_row(
     requires { length pairing.old.pairs ≤ MOST_PAIRS }
     ensures store { pairing.new.store ≡ pairing.old.store }
     ensures links { pairing.new.links ≡ pairing.old.links }
-    ensures listed { OnOk result (AreListed pairing.old.pairs pairing.new.pairs starts.old starts.new (map (λ second. (first, second)) seconds.now)) }
+    ensures listed { OnOk result (ArePairsListed pairing.old.pairs pairing.new.pairs starts.old starts.new (map (λ second. (first, second)) seconds.now)) }
     ensures few { OnOk result (length pairing.new.pairs ≤ MOST_PAIRS) }
     ensures many { IsErrOf result ExploreFault.Pairs → AreBeyond MOST_PAIRS pairing.old.pairs (map (λ second. (first, second)) seconds.now) }
 {
@@ -72,14 +72,14 @@ pub(crate) fn explore(
     requires links { pairing.old.links ≡ [] }
     requires few { length pairing.old.pairs ≤ MOST_PAIRS }
     ensures pairs { OnOk result (ArePairs (automaton_of a.now) (automaton_of b.now) pairing.new.pairs) }
-    ensures edges { OnOk result (AreEdges pairing.new (flat_map (joint_edges (automaton_of a.now) (automaton_of b.now)) pairing.new.pairs)) }
+    ensures edges { OnOk result (AreJointEdges pairing.new (flat_map (joint_edges (automaton_of a.now) (automaton_of b.now)) pairing.new.pairs)) }
     ensures longer { OnOk result ((rest : List (ℕ × ℕ)) × (pairing.new.pairs ≡ pairing.old.pairs ++ rest)) }
     ensures keeps { OnOk result (Keeps b.now.store pairing.new.store) }
     ensures few { OnOk result (length pairing.new.pairs ≤ MOST_PAIRS) }
     ensures many { IsErrOf result ExploreFault.Pairs → HasMorePairs MOST_PAIRS (automaton_of a.now) (automaton_of b.now) }
 {
-    a.whole();
-    b.whole();
+    a.well_formed();
+    b.well_formed();
     let mut done = 0;
     'pairs: while done < pairing.len() {
         let (p, q) = pairing.pair_at(done);

@@ -5,7 +5,7 @@ ghost use Rattle.aut_ops.specs.Products.{same_pair};
 ghost use Rattle.aut_ops.specs.declared.fault.ExploreFault.{ExploreFault};
 ghost use Rattle.aut_base.specs.declared.limit.TheConstants.{MOST_PAIRS};
 ghost use Rattle.exploration.specs.Turns.{with_new};
-ghost use Rattle.aut_ops.specs.inner.Pairings.{Adds, AreBeyond, CanMeet, followed, meeting};
+ghost use Rattle.aut_ops.specs.inner.Pairings.{AddsJointEdges, AreBeyond, CanMeet, followed, meeting};
 
 use crate::edge_marks::joint_marks;
 use crate::fault::ExploreFault;
@@ -28,9 +28,9 @@ pub(crate) struct Pairing {
 }
 
 impl Model for Pairing {
-    ghost use Rattle.aut_ops.specs.inner.Pairings.{Stage};
+    ghost use Rattle.aut_ops.specs.inner.Pairings.{PairingStage};
 
-    ghost Value = { Stage };
+    ghost Value = { PairingStage };
 
     ghost view = { λ s. record { store = s.guards; pairs = s.pairs.keys; links = s.links } };
 }
@@ -100,7 +100,7 @@ impl Pairing {
     fn meet(&mut self, at: u32, link: &Link, other: &Link, sets: u32) -> Result<(), ExploreFault>
         requires meet { CanMeet self.old at sets link.now other.now }
         requires few { length self.old.pairs ≤ MOST_PAIRS }
-        ensures adds { OnOk result (Adds self.old self.new (meeting self.old.store sets link.now other.now)) }
+        ensures adds { OnOk result (AddsJointEdges self.old self.new (meeting self.old.store sets link.now other.now)) }
         ensures few { OnOk result (length self.new.pairs ≤ MOST_PAIRS) }
         ensures many { IsErrOf result ExploreFault.Pairs → AreBeyond MOST_PAIRS self.old.pairs (map (λ j. j.to) (meeting self.old.store sets link.now other.now)) }
     {
@@ -129,7 +129,7 @@ impl Pairing {
     ) -> Result<(), ExploreFault>
         requires meet { All (CanMeet self.old at sets link.now) others.now }
         requires few { length self.old.pairs ≤ MOST_PAIRS }
-        ensures adds { OnOk result (Adds self.old self.new (followed self.old.store sets others.now link.now)) }
+        ensures adds { OnOk result (AddsJointEdges self.old self.new (followed self.old.store sets others.now link.now)) }
         ensures few { OnOk result (length self.new.pairs ≤ MOST_PAIRS) }
         ensures many { IsErrOf result ExploreFault.Pairs → AreBeyond MOST_PAIRS self.old.pairs (map (λ j. j.to) (followed self.old.store sets others.now link.now)) }
     {
@@ -149,7 +149,7 @@ impl Pairing {
     ) -> Result<(), ExploreFault>
         requires meet { All (λ l. All (CanMeet self.old at sets l) others.now) links.now }
         requires few { length self.old.pairs ≤ MOST_PAIRS }
-        ensures adds { OnOk result (Adds self.old self.new (flat_map (followed self.old.store sets others.now) links.now)) }
+        ensures adds { OnOk result (AddsJointEdges self.old self.new (flat_map (followed self.old.store sets others.now) links.now)) }
         ensures few { OnOk result (length self.new.pairs ≤ MOST_PAIRS) }
         ensures many { IsErrOf result ExploreFault.Pairs → AreBeyond MOST_PAIRS self.old.pairs (map (λ j. j.to) (flat_map (followed self.old.store sets others.now) links.now)) }
     {

@@ -1,8 +1,8 @@
 //! The links whose label isn't false, and those of them between flagged states.
 
 ghost use Rattle.std.specs.Prelude.{◌≡◌, ◌<◌, All, IfOk, filter, length};
-ghost use Rattle.aut_core.specs.Core.{automaton_of};
-ghost use Rattle.aut_ops.specs.Passable.{is_flagged, passable_arcs};
+ghost use Rattle.aut_core.specs.SymbolicAutomata.{automaton_of};
+ghost use Rattle.aut_ops.specs.Satisfiable.{is_flagged, passable_arcs};
 ghost use Rattle.aut_ops.specs.inner.Renumbering.{link_passable, link_stays};
 ghost use Rattle.label_guards.specs.Store.{Has};
 
@@ -13,23 +13,23 @@ use std::alloc::Global;
 
 /// Whether the label of the link isn't false.
 #[inline]
-pub(crate) fn is_passable(a: &Automaton, link: &Link) -> bool
+pub(crate) fn is_satisfiable(a: &Automaton, link: &Link) -> bool
     requires { Has a.now.store link.now.guard }
     ensures { result ≡ link_passable a.now link.now }
 {
-    a.whole();
+    a.well_formed();
     !a.guards().is_false(link.guard)
 }
 
 /// The graph of the links whose label isn't false.
-pub(crate) fn passable_graph(alloc: Global, a: &Automaton) -> Result<Graph, Memory>
+pub(crate) fn satisfiable_graph(alloc: Global, a: &Automaton) -> Result<Graph, Memory>
     ensures nodes { IfOk result (λ graph. graph.nodes ≡ a.now.states) }
     ensures arcs { IfOk result (λ graph. graph.arcs ≡ passable_arcs (automaton_of a.now)) }
 {
-    a.whole();
+    a.well_formed();
     let mut arcs = Arcs::from_vec(Vec::with_capacity(alloc, a.links().len())?);
     'links: for link in a.links() {
-        if !is_passable(a, link) {
+        if !is_satisfiable(a, link) {
             continue;
         }
         arcs.push((link.from, link.to))?;
@@ -45,7 +45,7 @@ pub(crate) fn links_between(alloc: Global, a: &Automaton, flags: &[bool]) -> Res
     requires { length flags.now ≡ a.now.states }
     ensures { IfOk result (λ links. links ≡ filter (link_stays a.now flags.now) a.now.links) }
 {
-    a.whole();
+    a.well_formed();
     let mut links = Links::new(alloc);
     'links: for link in a.links() {
         if !stays(a, link, flags) {
@@ -64,7 +64,7 @@ pub(crate) fn stays(a: &Automaton, link: &Link, flags: &[bool]) -> bool
     requires to { link.now.to < length flags.now }
     ensures { result ≡ link_stays a.now flags.now link.now }
 {
-    is_passable(a, link) && flags[link.from as usize] && flags[link.to as usize]
+    is_satisfiable(a, link) && flags[link.from as usize] && flags[link.to as usize]
 }
 
 /// The starts that are flagged, in order.

@@ -2,16 +2,16 @@
 
 ghost use Rattle.std.specs.Prelude.{◌≡◌, ◌+◌, ◌<◌, ◌≤◌, ◌^◌, IfOk, IsErrOf, OnOk, length};
 ghost use Rattle.aut_base.specs.declared.limit.TheConstants.{MOST_NAMES};
-ghost use Rattle.aut_core.specs.Core.{AreParts, automaton_of};
+ghost use Rattle.aut_core.specs.SymbolicAutomata.{AreSymbolicParts, automaton_of};
 ghost use Rattle.aut_core.specs.OtherNames.{joined_names};
 ghost use Rattle.aut_ops.specs.Completion.{completed};
 ghost use Rattle.aut_ops.specs.Languages.{AcceptsBoth, AcceptsEither, ArePairwise};
-ghost use Rattle.aut_ops.specs.Products.{ArePairs, HasMorePairs, IsEitherOf, IsProduct, IsProductOf, over_both};
+ghost use Rattle.aut_ops.specs.Products.{ArePairs, HasMorePairs, IsUnionProductOf, IsProduct, IsProductOf, over_both};
 ghost use Rattle.aut_ops.specs.declared.fault.ExploreFault.{ExploreFault};
 ghost use Rattle.aut_ops.specs.declared.fault.PairFault.{PairFault};
 ghost use Rattle.aut_base.specs.declared.limit.TheConstants.{MOST_PAIRS};
-ghost use Rattle.aut_ops.specs.inner.Joins.{IsMade, JoinAccepts, join_of};
-ghost use Rattle.aut_ops.specs.Paired.{core_of};
+ghost use Rattle.aut_ops.specs.inner.Joins.{IsProductCore, JoinAccepts, join_of};
+ghost use Rattle.aut_ops.specs.Paired.{symbolic_of_pairs};
 ghost use Rattle.label_guards.specs.Store.{Keeps};
 
 use crate::breadth_first::{explore, list_starts};
@@ -49,7 +49,7 @@ pub fn product_or(alloc: Global, a: &Automaton, b: &Automaton) -> Result<Automat
     requires states { (completed (automaton_of a.now)).states < 2 ^ 32 }
     requires other_states { (completed (automaton_of b.now)).states < 2 ^ 32 }
     requires sets { (completed (automaton_of a.now)).sets + (completed (automaton_of b.now)).sets < 2 ^ 32 }
-    ensures shape { IfOk result (λ made. IsEitherOf (automaton_of a.now) (automaton_of b.now) (automaton_of made)) }
+    ensures shape { IfOk result (λ made. IsUnionProductOf (automaton_of a.now) (automaton_of b.now) (automaton_of made)) }
     ensures accepts { IfOk result (λ made. AcceptsEither (automaton_of made) (automaton_of a.now) (automaton_of b.now)) }
     ensures within { OnOk result (length (joined_names a.now.names b.now.names) ≤ MOST_NAMES) }
     ensures few { IfOk result (λ made. made.states ≤ MOST_PAIRS) }
@@ -59,14 +59,14 @@ pub fn product_or(alloc: Global, a: &Automaton, b: &Automaton) -> Result<Automat
         (over_both (automaton_of a.now) (automaton_of b.now) (completed (automaton_of a.now)))
         (over_both (automaton_of a.now) (automaton_of b.now) (completed (automaton_of b.now))) }
 {
-    a.whole();
-    b.whole();
+    a.well_formed();
+    b.well_formed();
     let made_first = made_complete(alloc, a)?;
     let made_second = made_complete(alloc, b)?;
     let first = made_or(&made_first, a);
     let second = made_or(&made_second, b);
-    first.whole();
-    second.whole();
+    first.well_formed();
+    second.well_formed();
     product_by(alloc, first, second, Join::Any)
 }
 
@@ -90,8 +90,8 @@ fn product_by(
         (over_both (automaton_of a.now) (automaton_of b.now) (automaton_of a.now))
         (over_both (automaton_of a.now) (automaton_of b.now) (automaton_of b.now)) }
 {
-    a.whole();
-    b.whole();
+    a.well_formed();
+    b.well_formed();
     let names = join_names(alloc, a.names(), b.names())?;
     let _distinct = names.as_slice();
     let both = share(alloc, a, b, &names)?;
@@ -102,15 +102,15 @@ fn product_by(
 /// that the automaton accepts begun in the one state of the pair and in the other.
 pub fn square(alloc: Global, a: &Automaton) -> Result<Paired, PairFault>
     requires sets { a.now.sets + a.now.sets < 2 ^ 32 }
-    ensures parts { IfOk result (λ made. AreParts (core_of made)) }
+    ensures parts { IfOk result (λ made. AreSymbolicParts (symbolic_of_pairs made)) }
     ensures pairs { IfOk result (λ made. ArePairs (automaton_of a.now) (automaton_of a.now) made.pairs.keys) }
-    ensures accepts { IfOk result (λ made. ArePairwise (automaton_of (core_of made)) made.pairs.keys (automaton_of a.now) (automaton_of a.now)) }
+    ensures accepts { IfOk result (λ made. ArePairwise (automaton_of (symbolic_of_pairs made)) made.pairs.keys (automaton_of a.now) (automaton_of a.now)) }
     ensures few { IfOk result (λ made. length made.pairs.keys ≤ MOST_PAIRS) }
     ensures keeps { IfOk result (λ made. Keeps a.now.store made.guards) }
     ensures named { IsErrOf result PairFault.Names → ⊥ }
     ensures many { IsErrOf result PairFault.Pairs → HasMorePairs MOST_PAIRS (automaton_of a.now) (automaton_of a.now) }
 {
-    a.whole();
+    a.well_formed();
     Ok(product_parts(alloc, a, a, Join::All)?)
 }
 
@@ -165,14 +165,14 @@ fn product_parts(
     requires names { b.now.names ≡ a.now.names }
     requires store { Keeps b.now.store a.now.store }
     requires sets { a.now.sets + b.now.sets < 2 ^ 32 }
-    ensures made { IfOk result (λ made. IsMade join a.now b.now made.pairs.keys (core_of made)) }
+    ensures made { IfOk result (λ made. IsProductCore join a.now b.now made.pairs.keys (symbolic_of_pairs made)) }
     ensures pairs { IfOk result (λ made. ArePairs (automaton_of a.now) (automaton_of b.now) made.pairs.keys) }
     ensures few { IfOk result (λ made. length made.pairs.keys ≤ MOST_PAIRS) }
     ensures keeps { IfOk result (λ made. Keeps b.now.store made.guards) }
     ensures many { IsErrOf result ExploreFault.Pairs → HasMorePairs MOST_PAIRS (automaton_of a.now) (automaton_of b.now) }
 {
-    a.whole();
-    b.whole();
+    a.well_formed();
+    b.well_formed();
     let sets = a.sets();
     let names = copy_names(a.names())?;
     let formula = join.condition(alloc, a.formula(), b.formula(), sets)?;

@@ -3,14 +3,14 @@
 ghost use Rattle.std.specs.Prelude.{◌≡◌, ◌<◌, ◌&&◌, IfOk, false, filter, length, map};
 ghost use Rattle.std.specs.List.{slice_index_or};
 ghost use Rattle.aut_base.specs.Formula.{Inf};
-ghost use Rattle.aut_core.specs.Core.{automaton_of};
+ghost use Rattle.aut_core.specs.SymbolicAutomata.{automaton_of};
 ghost use Rattle.aut_core.specs.OtherNames.{AcceptTheSame};
-ghost use Rattle.aut_ops.specs.Passable.{between, is_flagged};
+ghost use Rattle.aut_ops.specs.Satisfiable.{between, is_flagged};
 ghost use Rattle.aut_ops.specs.Pruning.{AreUseful, IsPruned};
-ghost use Rattle.aut_ops.specs.inner.Renumbering.{both_flagged, link_closes, turned_arc};
+ghost use Rattle.aut_ops.specs.inner.Renumbering.{both_flagged, link_closes, reversed_arc};
 ghost use Rattle.label_guards.specs.Store.{Has};
 
-use crate::passable::{flagged_starts, is_passable, links_between, passable_graph};
+use crate::passable::{flagged_starts, is_satisfiable, links_between, satisfiable_graph};
 use aut_base::{Arcs, Flags, Memory, Numbers};
 use aut_core::{Automaton, Link};
 use graph_walk::{Graph, components, reach};
@@ -25,7 +25,7 @@ pub fn prune(alloc: Global, b: &Automaton) -> Result<Automaton, Memory>
     ensures shape { IfOk result (λ made. IsPruned (automaton_of b.now) (automaton_of made)) }
     ensures accepts { IfOk result (λ made. AcceptTheSame (automaton_of made) (automaton_of b.now)) }
 {
-    b.whole();
+    b.well_formed();
     let useful = useful_states(alloc, b)?;
     flagged_in_place(alloc, b, useful.as_slice())
 }
@@ -35,7 +35,7 @@ fn flagged_in_place(alloc: Global, a: &Automaton, flags: &[bool]) -> Result<Auto
     requires { length flags.now ≡ a.now.states }
     ensures { IfOk result (λ made. automaton_of made ≡ between flags.now (automaton_of a.now)) }
 {
-    a.whole();
+    a.well_formed();
     let links = links_between(alloc, a, flags)?;
     let starts = flagged_starts(alloc, a.starts().as_slice(), flags)?;
     a.with_states(alloc, a.states(), starts, links)
@@ -45,8 +45,8 @@ fn flagged_in_place(alloc: Global, a: &Automaton, flags: &[bool]) -> Result<Auto
 fn useful_states(alloc: Global, b: &Automaton) -> Result<Flags, Memory>
     ensures { IfOk result (AreUseful (automaton_of b.now)) }
 {
-    b.whole();
-    let graph = passable_graph(alloc, b)?;
+    b.well_formed();
+    let graph = satisfiable_graph(alloc, b)?;
     let reached = reach(alloc, &graph, b.starts())?;
     let numbers = components(alloc, &graph)?;
     let sources = closing_sources(alloc, b, &numbers)?;
@@ -59,7 +59,7 @@ fn closing_sources(alloc: Global, b: &Automaton, numbers: &Numbers) -> Result<Nu
     requires { length numbers.now ≡ b.now.states }
     ensures { IfOk result (λ sources. sources ≡ map (λ l. l.from) (filter (link_closes b.now numbers.now) b.now.links)) }
 {
-    b.whole();
+    b.well_formed();
     let mut sources = Numbers::new(alloc);
     'links: for link in b.links() {
         if !closes(b, link, numbers) {
@@ -79,13 +79,13 @@ fn closes(b: &Automaton, link: &Link, numbers: &Numbers) -> bool
 {
     let from = *numbers.at(link.from as usize);
     let to = *numbers.at(link.to as usize);
-    is_passable(b, link) && link.marks.has(0) && from == to
+    is_satisfiable(b, link) && link.marks.has(0) && from == to
 }
 
 /// The graph with each arc turned around.
 fn turned(alloc: Global, graph: &Graph) -> Result<Graph, Memory>
     ensures nodes { IfOk result (λ made. made.nodes ≡ graph.now.nodes) }
-    ensures arcs { IfOk result (λ made. made.arcs ≡ map turned_arc graph.now.arcs) }
+    ensures arcs { IfOk result (λ made. made.arcs ≡ map reversed_arc graph.now.arcs) }
 {
     let mut arcs = Arcs::new(alloc);
     'arcs: for arc in graph.arcs.as_slice() {

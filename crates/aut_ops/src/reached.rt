@@ -1,11 +1,11 @@
 //! How much of an automaton is reached.
 
 ghost use Rattle.std.specs.Prelude.{◌≡◌, ◌<◌, ◌^◌, IfOk, filter, length};
-ghost use Rattle.aut_core.specs.Core.{automaton_of};
-ghost use Rattle.aut_ops.specs.Trimming.{IsReachedSize, rank};
+ghost use Rattle.aut_core.specs.SymbolicAutomata.{automaton_of};
+ghost use Rattle.aut_ops.specs.Trimming.{IsReachedSize, flagged_before};
 ghost use Rattle.aut_ops.specs.inner.Renumbering.{link_stays};
 
-use crate::passable::{passable_graph, stays};
+use crate::passable::{satisfiable_graph, stays};
 use aut_base::Memory;
 use aut_core::Automaton;
 use graph_walk::reach;
@@ -23,8 +23,8 @@ pub struct ReachedSize {
 pub fn reached_size(alloc: Global, a: &Automaton) -> Result<ReachedSize, Memory>
     ensures { IfOk result (IsReachedSize (automaton_of a.now)) }
 {
-    a.whole();
-    let graph = passable_graph(alloc, a)?;
+    a.well_formed();
+    let graph = satisfiable_graph(alloc, a)?;
     let reached = reach(alloc, &graph, a.starts())?;
     let flags = reached.as_slice();
     Ok(ReachedSize {
@@ -36,7 +36,7 @@ pub fn reached_size(alloc: Global, a: &Automaton) -> Result<ReachedSize, Memory>
 /// How many of the flags are set.
 fn flagged_count(flags: &[bool]) -> u32
     requires { length flags.now < 2 ^ 32 }
-    ensures { result ≡ rank flags.now (length flags.now) }
+    ensures { result ≡ flagged_before flags.now (length flags.now) }
 {
     let mut count = 0;
     'flags: for flag in flags {
@@ -53,7 +53,7 @@ fn staying_count(a: &Automaton, flags: &[bool]) -> usize
     requires { length flags.now ≡ a.now.states }
     ensures { result ≡ length (filter (link_stays a.now flags.now) a.now.links) }
 {
-    a.whole();
+    a.well_formed();
     let mut count = 0;
     'links: for link in a.links() {
         if !stays(a, link, flags) {

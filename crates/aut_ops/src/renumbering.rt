@@ -2,7 +2,7 @@
 
 ghost use Rattle.std.specs.Prelude.{◌≡◌, ◌<◌, All, IfOk, length, map};
 ghost use Rattle.std.specs.List.{range_with_len};
-ghost use Rattle.aut_ops.specs.Trimming.{rank};
+ghost use Rattle.aut_ops.specs.Trimming.{flagged_before};
 ghost use Rattle.aut_ops.specs.inner.Renumbering.{new_link, new_number};
 
 use aut_base::{Memory, Numbers};
@@ -25,8 +25,8 @@ pub(crate) fn number_flagged(
     flags: &[bool],
 ) -> Result<Numbering, Memory>
     requires { length flags.now ≡ states }
-    ensures ranks { IfOk result (λ made. made.ranks ≡ map (rank flags.now) (range_with_len 0 (length flags.now))) }
-    ensures count { IfOk result (λ made. made.count ≡ rank flags.now (length flags.now)) }
+    ensures ranks { IfOk result (λ made. made.ranks ≡ map (flagged_before flags.now) (range_with_len 0 (length flags.now))) }
+    ensures count { IfOk result (λ made. made.count ≡ flagged_before flags.now (length flags.now)) }
 {
     let mut ranks = Numbers::new(alloc);
     let mut count = 0;

@@ -2,7 +2,7 @@
 
 ghost use Rattle.std.specs.Prelude.{◌≡◌, ◌≤◌, All, Contains, IfOk, length, unwrap_or};
 ghost use Rattle.aut_base.specs.declared.limit.TheConstants.{MOST_NAMES};
-ghost use Rattle.aut_core.specs.Core.{automaton_of};
+ghost use Rattle.aut_core.specs.SymbolicAutomata.{automaton_of};
 ghost use Rattle.aut_core.specs.OtherNames.{AcceptTheSame, HaveBoth, over_names};
 ghost use Rattle.label_guards.specs.Store.{Keeps};
 
@@ -53,7 +53,7 @@ pub(crate) fn share(
     ensures second_accepts { IfOk result (λ both. AcceptTheSame (automaton_of (unwrap_or both.made b.now)) (automaton_of b.now)) }
     ensures store { IfOk result (λ both. Keeps (unwrap_or both.made b.now).store both.first.store) }
 {
-    b.whole();
+    b.well_formed();
     if names.as_slice() == b.names().as_slice() {
         let first = beside(alloc, a, names, b)?;
         return Ok(Shared { first, made: None });
@@ -80,7 +80,7 @@ fn beside(
     ensures accepts { IfOk result (λ made. AcceptTheSame (automaton_of made) (automaton_of a.now)) }
     ensures store { IfOk result (λ made. Keeps other.now.store made.store) }
 {
-    other.whole();
+    other.well_formed();
     let guards = other.guards().copy(alloc)?;
     a.over_in(alloc, names, guards)
 }

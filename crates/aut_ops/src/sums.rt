@@ -5,7 +5,7 @@ ghost use Rattle.acc_forms.specs.Joined.{conj, disj};
 ghost use Rattle.acc_forms.specs.Shift.{shift};
 ghost use Rattle.aut_base.specs.Formula.{Fin, Inf, SetsBelow, formula_tree};
 ghost use Rattle.aut_base.specs.declared.limit.TheConstants.{MOST_NAMES};
-ghost use Rattle.aut_core.specs.Core.{automaton_of};
+ghost use Rattle.aut_core.specs.SymbolicAutomata.{automaton_of};
 ghost use Rattle.aut_core.specs.OtherNames.{HaveBoth, joined_names, over_names};
 ghost use Rattle.aut_core.specs.declared.join.NameFault.{NameFault};
 ghost use Rattle.aut_ops.specs.Languages.{AcceptsEither};
@@ -57,8 +57,8 @@ fn side_by_side(alloc: Global, a: &Automaton, b: &Automaton) -> Result<Automaton
     ensures shape { IfOk result (λ made. automaton_of made ≡ side_by_side (automaton_of a.now) (automaton_of b.now)) }
     ensures accepts { IfOk result (λ made. AcceptsEither (automaton_of made) (automaton_of a.now) (automaton_of b.now)) }
 {
-    a.whole();
-    b.whole();
+    a.well_formed();
+    b.well_formed();
     let states = a.states();
     let sets = a.sets();
     let fresh = sets + b.sets();

@@ -1,12 +1,12 @@
 //! An automaton without the states that aren't reached.
 
 ghost use Rattle.std.specs.Prelude.{◌≡◌, IfOk, length};
-ghost use Rattle.aut_core.specs.Core.{automaton_of};
+ghost use Rattle.aut_core.specs.SymbolicAutomata.{automaton_of};
 ghost use Rattle.aut_core.specs.OtherNames.{AcceptTheSame};
-ghost use Rattle.aut_ops.specs.Passable.{between};
+ghost use Rattle.aut_ops.specs.Satisfiable.{between};
 ghost use Rattle.aut_ops.specs.Trimming.{IsTrimmed, renumbered};
 
-use crate::passable::{flagged_starts, links_between, passable_graph};
+use crate::passable::{flagged_starts, links_between, satisfiable_graph};
 use crate::renumbering::{number_flagged, renumbered, renumbered_links};
 use aut_base::Memory;
 use aut_core::Automaton;
@@ -19,8 +19,8 @@ pub fn trim(alloc: Global, a: &Automaton) -> Result<Automaton, Memory>
     ensures shape { IfOk result (λ made. IsTrimmed (automaton_of a.now) (automaton_of made)) }
     ensures accepts { IfOk result (λ made. AcceptTheSame (automaton_of made) (automaton_of a.now)) }
 {
-    a.whole();
-    let graph = passable_graph(alloc, a)?;
+    a.well_formed();
+    let graph = satisfiable_graph(alloc, a)?;
     let reached = reach(alloc, &graph, a.starts())?;
     flagged_alone(alloc, a, reached.as_slice())
 }
@@ -30,7 +30,7 @@ fn flagged_alone(alloc: Global, a: &Automaton, flags: &[bool]) -> Result<Automat
     requires { length flags.now ≡ a.now.states }
     ensures { IfOk result (λ made. automaton_of made ≡ renumbered flags.now (between flags.now (automaton_of a.now))) }
 {
-    a.whole();
+    a.well_formed();
     let new = number_flagged(alloc, a.states(), flags)?;
     let staying = links_between(alloc, a, flags)?;
     let links = renumbered_links(alloc, &new.ranks, staying.as_slice())?;

@@ -2,7 +2,7 @@
 use Rattle.std.proofs.Common.{◌≡◌, ℕ, ◌+◌, Bool, true, List, [], length, drop, Option, Some, None, Err, IsErrOf, refl, sym, ap, ◌∙◌, subst, inl, inr, arith}
 use Rattle.std.proofs.lemmas.List.{drop_all, length-map, take_all}
 use Rattle.aut_base.specs.Automaton.{Automaton}
-use Rattle.aut_core.specs.Core.{automaton_of}
+use Rattle.aut_core.specs.SymbolicAutomata.{automaton_of}
 use Rattle.aut_io.specs.Outside.{Texts}
 use Rattle.aut_io.specs.Seen.{Seen, SinkSeen}
 use Rattle.autfilt_command.specs.Asked.{AreRefused}
@@ -19,7 +19,7 @@ use Rattle.autfilt_run.proofs.turns.Openings.{tried_none}
 use Rattle.autfilt_run.proofs.turns.Stepping.{is_closed}
 use Rattle.autfilt_run.specs.Events.{Event, Point, start_of}
 use Rattle.made_stream.specs.Made.{seen_of_made}
-use Rattle.autfilt_run.specs.OperandEvents.{all_passed, operands_of}
+use Rattle.autfilt_run.specs.OperandEvents.{all_passed, operands_read}
 use Rattle.autfilt_run.specs.Points.{open_count, operands_in}
 use Rattle.autfilt_run.specs.Preparing.{opened_names}
 use Rattle.autfilt_run.specs.declared.fault.RunFault.TheVariants as fault
@@ -38,9 +38,9 @@ nothing_noted a = (nothing a.written, refl)
 -- what is said of a session that was prepared, of what was read
 of_prepared : (R : Plan → List Automaton → ℕ → Type 0) (plan : Plan) (ready : Session) (s m : Seen) (k l : SinkSeen) (noting : Bool) → (h : HasPrepared plan ready s m k l noting)
     → R ready.plan (operands_in ready) ready.skipped
-    → R plan (operands_of h.taken) (length (all_passed h.taken))
+    → R plan (operands_read h.taken) (length (all_passed h.taken))
 of_prepared R plan ready s m k l noting h r =
-    subst (λ (n : ℕ). R plan (operands_of h.taken) n) h.skipped
+    subst (λ (n : ℕ). R plan (operands_read h.taken) n) h.skipped
     (subst (λ (ops : List Automaton). R plan ops ready.skipped) h.operands_are (subst (λ (x : Plan). R x (operands_in ready) ready.skipped) h.same_plan r))
 
 none_to_come : (ready : Session) → length ready.operands ≡ length (operands ready.plan) → drop (length ready.operands + open_count ready.is_open) (operands ready.plan) ≡ []
@@ -58,7 +58,8 @@ stands_behind plan ready s m k l noting texts told h =
     (a.0, record { read = a.1; none_coming = a.2.coming ∙ none_to_come ready (ready.all_read h.stage); none_open = closed.is }, a.2.at.left_is, sym closed.taken)
 
 goes_over : (plan : Plan) (ready : Session) (e : End) (events : List Event) (name : List ℕ) (s m t : Seen) (o q k l : SinkSeen) (noting : Bool) → (h : IsPrepared plan ready s m k l noting)
-    → RunsOverAs plan.made plan (operands_of h.prepared.taken) (length (all_passed h.prepared.taken)) ready.lexer.taken e events name m t o q → GoesOverAll plan e h.prepared.taken events name s t o q
+    → RunsOverAs plan.made plan (operands_read h.prepared.taken) (length (all_passed h.prepared.taken)) ready.lexer.taken e events name m t o q
+    → GoesOverAll plan e h.prepared.taken events name s t o q
 goes_over plan ready e events name s m t o q k l noting h runs = record {
   mid = m;
   before = ready.lexer.taken;
@@ -76,7 +77,7 @@ pub ends_by : (words : List (List ℕ)) (result : Ended) (plan : Plan) (ready : 
     → Carries ready noting e m t o q l j → EndsBy words result s t o q k j
 ends_by words result plan ready e s m t o q k l j noting is asks made h c =
     let runs = of_prepared (λ x ops n. Runs x ops n ready.lexer.taken e c.events c.name m t o q) plan ready s m k l noting h.prepared c.runs in
-    let over = subst (λ (x : Option ℕ). RunsOverAs x plan (operands_of h.prepared.taken) (length (all_passed h.prepared.taken)) ready.lexer.taken e c.events c.name m t o q) (sym made) runs in
+    let over = subst (λ (x : Option ℕ). RunsOverAs x plan (operands_read h.prepared.taken) (length (all_passed h.prepared.taken)) ready.lexer.taken e c.events c.name m t o q) (sym made) runs in
     record {
       end = e;
       shown = is;
@@ -94,12 +95,12 @@ pub ends_made : (words : List (List ℕ)) (result : Ended) (plan : Plan) (ready 
     → a ≡ seen_of_made (record { count = n; left = []; openings = 0 }) → IsPrepared plan ready s m k l noting → Carries ready noting e a t o q l j → EndsBy words result s m o q k j
 ends_made words result plan ready n e s m a t o q k l j noting is asks made first h c =
     let runs = of_prepared (λ x ops n. Runs x ops n ready.lexer.taken e c.events c.name a t o q) plan ready s m k l noting h.prepared c.runs in
-    let own : RunsOverMade n plan (operands_of h.prepared.taken) (length (all_passed h.prepared.taken)) ready.lexer.taken e c.events c.name m m o q = record {
+    let own : RunsOverMade n plan (operands_read h.prepared.taken) (length (all_passed h.prepared.taken)) ready.lexer.taken e c.events c.name m m o q = record {
       untouched = refl;
       made = t;
-      runs = subst (λ (x : Seen). Runs plan (operands_of h.prepared.taken) (length (all_passed h.prepared.taken)) ready.lexer.taken e c.events c.name x t o q) first runs;
+      runs = subst (λ (x : Seen). Runs plan (operands_read h.prepared.taken) (length (all_passed h.prepared.taken)) ready.lexer.taken e c.events c.name x t o q) first runs;
     } in
-    let over = subst (λ (x : Option ℕ). RunsOverAs x plan (operands_of h.prepared.taken) (length (all_passed h.prepared.taken)) ready.lexer.taken e c.events c.name m m o q) (sym made) own in
+    let over = subst (λ (x : Option ℕ). RunsOverAs x plan (operands_read h.prepared.taken) (length (all_passed h.prepared.taken)) ready.lexer.taken e c.events c.name m m o q) (sym made) own in
     record {
       end = e;
       shown = is;

@@ -2,20 +2,20 @@
 use Rattle.std.proofs.Common.{◌≡◌, ℕ, ◌≤◌, List, [], ◌∷◌, Option, Some, codes, refl, subst}
 use Rattle.filter_plan.proofs.TableRows.{given}
 use Rattle.filter_plan.specs.Numbers.{IsMadeCount}
-use Rattle.filter_plan.specs.Table.{EachGives, MadeCount, Reads, table, values_of}
+use Rattle.filter_plan.specs.Table.{EachGives, MadeCount, ReadsOption, table, values_of}
 use Rattle.filter_plan.specs.Words.{IsPlan}
 use Rattle.filter_plan.specs.declared.plan.Plan.{Plan}
 
-read_of : (values : List (List ℕ)) (n : ℕ) → Reads IsMadeCount values (Some n) → (1 ≤ n) × (n ≤ 10000)
+read_of : (values : List (List ℕ)) (n : ℕ) → ReadsOption IsMadeCount values (Some n) → (1 ≤ n) × (n ≤ 10000)
 read_of [] n h = absurd h
 read_of (value ∷ []) n h = (h.1, h.2)
 read_of (value ∷ other ∷ values) n h = absurd h
 
-read_as : (values : List (List ℕ)) (o : Option ℕ) (n : ℕ) → Reads IsMadeCount values o → o ≡ Some n → (1 ≤ n) × (n ≤ 10000)
-read_as values o n h is = read_of values n (subst (λ (x : Option ℕ). Reads IsMadeCount values x) is h)
+read_as : (values : List (List ℕ)) (o : Option ℕ) (n : ℕ) → ReadsOption IsMadeCount values o → o ≡ Some n → (1 ≤ n) × (n ≤ 10000)
+read_as values o n h is = read_of values n (subst (λ (x : Option ℕ). ReadsOption IsMadeCount values x) is h)
 
 -- what its row gives a plan
-of_row : (rows : _) (p : Plan) → EachGives table rows p → Reads IsMadeCount (values_of (codes "made") rows) p.made
+of_row : (rows : _) (p : Plan) → EachGives table rows p → ReadsOption IsMadeCount (values_of (codes "made") rows) p.made
 unfolding table
 of_row rows p gives = given rows p gives (codes "made") (MadeCount (λ x. x.made)) refl
 

@@ -3,7 +3,7 @@ use Rattle.std.proofs.Common.{◌≡◌, ℕ, List, Option, Some, None, sym, sub
 use Rattle.std.specs.List.{All}
 use Rattle.aut_base.proofs.lists.Members.{all_of_first, all_of_second}
 use Rattle.autfilt_command.specs.Asked.{names_opened, opened_or}
-use Rattle.autfilt_run.specs.Plans.{streams_of, streams_or}
+use Rattle.autfilt_run.specs.Plans.{plan_streams, streams_or}
 use Rattle.filter_plan.specs.Words.{operands}
 use Rattle.filter_plan.specs.declared.plan.Plan.{Plan}
 
@@ -14,6 +14,6 @@ streams_opened : (P : List ℕ → Type 0) (streams : List (List ℕ)) (made : O
 streams_opened P streams None is all = all
 streams_opened P streams (Some n) is all = let none : Some n ≡ None = is in cc
 
-pub may_open_streams : (P : List ℕ → Type 0) (plan own : Plan) → own ≡ plan → plan.made ≡ None → All P (names_opened plan) → All P (streams_of own)
+pub may_open_streams : (P : List ℕ → Type 0) (plan own : Plan) → own ≡ plan → plan.made ≡ None → All P (names_opened plan) → All P (plan_streams own)
 may_open_streams P plan own same made all =
-    subst (λ (x : Plan). All P (streams_of x)) (sym same) (streams_opened P plan.streams plan.made made (all_of_second P (operands plan) (opened_or plan.streams plan.made) all))
+    subst (λ (x : Plan). All P (plan_streams x)) (sym same) (streams_opened P plan.streams plan.made made (all_of_second P (operands plan) (opened_or plan.streams plan.made) all))

@@ -3,7 +3,7 @@ use Rattle.std.proofs.Common.{◌≡◌, ℕ, ◌+◌, Bool, true, false, List, 
 use Rattle.std.proofs.lemmas.Grind.{flat_map-append}
 use Rattle.std.proofs.lemmas.List.{length-append}
 use Rattle.std.specs.Prelude.{map}
-use Rattle.aut_core.specs.Core.{automaton_of}
+use Rattle.aut_core.specs.SymbolicAutomata.{automaton_of}
 use Rattle.aut_io.specs.Outside.{Texts}
 use Rattle.aut_io.specs.Seen.{Seen, SinkSeen}
 use Rattle.autfilt_command.proofs.Ending.{Closes}
@@ -18,9 +18,9 @@ use Rattle.autfilt_run.proofs.printing.Gains.{nothing}
 use Rattle.autfilt_run.proofs.turns.Openings.{opened_as, opened_then, tried_as, tried_for, tried_then}
 use Rattle.autfilt_run.proofs.turns.Preparing.{counts_then, file_open_then, passed_push}
 use Rattle.autfilt_run.specs.Events.{Point, start_of}
-use Rattle.autfilt_run.specs.OperandEvents.{AreRead, OperandEvent, PassedOver, all_passed, file_open_after, opened_file, opened_files, operand_of, operands_of, passed_of}
+use Rattle.autfilt_run.specs.OperandEvents.{AreRead, OperandEvent, PassedOver, all_passed, file_open_after, opened_file, opened_files, operand_of, operands_read, passed_of}
 use Rattle.autfilt_run.specs.Points.{StandsIn, name_in, open_count}
-use Rattle.autfilt_run.specs.Preparing.{FailsToPrepare, HasRead, HasSkipped, IsReady, WantsOperand, opened_names}
+use Rattle.autfilt_run.specs.Preparing.{FailsToPrepare, HasReadOperands, HasSkipped, HasAllOperands, WantsOperand, opened_names}
 use Rattle.autfilt_run.specs.declared.fault.RunFault.{RunFault}
 use Rattle.autfilt_run.specs.declared.fault.RunFault.TheVariants as fault
 use Rattle.autfilt_run.specs.declared.session.Session.{Session}
@@ -99,12 +99,12 @@ prepared_none s seen k is = record {
 
 -- more was read, and noted
 more : (events : List OperandEvent) (plan : Plan) (old new : Session) (s m t : Seen) (k l j : SinkSeen) (noting noting' : Bool) → (h : HasPrepared plan old s m k l noting)
-    → KeepsPlan old new → HasRead events old new m t
+    → KeepsPlan old new → HasReadOperands events old new m t
     → new.skipped ≡ length (all_passed (h.taken ++ events)) → HasNoted (passed_noted (all_passed (h.taken ++ events))) noting' k j → HasPrepared plan new s t k j noting'
 more events plan old new s m t k l j noting noting' h keeps read skipped noted = record {
   taken = h.taken ++ events;
   same_plan = keeps.plan ∙ h.same_plan;
-  operands_are = read.operands ∙ ap (λ x. x ++ operands_of events) h.operands_are ∙ sym (flat_map-append operand_of h.taken events);
+  operands_are = read.operands ∙ ap (λ x. x ++ operands_read events) h.operands_are ∙ sym (flat_map-append operand_of h.taken events);
   skipped = skipped;
   happened = λ texts told.
       let a = h.happened texts told in
@@ -133,7 +133,7 @@ prepared_skipped plan old new s m t k l j noting noting' h keeps did notes =
     (subst (λ (x : List ℕ). HasNoted x noting' k j) (sym (noted_one h.taken events name passed)) (notes k (passed_noted (all_passed h.taken)) h.noted))
 
 -- all are read
-pub prepared_all : (plan : Plan) (old new : Session) (s m t : Seen) (k l : SinkSeen) (noting : Bool) → HasPrepared plan old s m k l noting → KeepsPlan old new → IsReady old new m t
+pub prepared_all : (plan : Plan) (old new : Session) (s m t : Seen) (k l : SinkSeen) (noting : Bool) → HasPrepared plan old s m k l noting → KeepsPlan old new → HasAllOperands old new m t
     → new.stage ≡ Prepared → new.is_open ≡ false
     → IsPrepared plan new s t k l noting
 prepared_all plan old new s m t k l noting h keeps did stage closed = record {

@@ -3,30 +3,30 @@ use Rattle.std.proofs.Common.{◌≡◌, ℕ, ◌+◌, ◌≤◌, true, List, []
 use Rattle.aut_base.specs.declared.limit.TheConstants.{MOST_BYTES}
 use Rattle.aut_io.specs.Outside.{Gains, Texts}
 use Rattle.aut_io.specs.Seen.{Seen, SinkSeen}
-use Rattle.autfilt_command.proofs.Stepping.{GoesOn, goes_on, opens_next}
+use Rattle.autfilt_command.proofs.Stepping.{GoesOn, stands_in_same_streams, opens_next}
 use Rattle.autfilt_command.specs.Run.{AreCalm}
 use Rattle.autfilt_run.proofs.printing.Gains.{nothing}
 use Rattle.autfilt_run.proofs.turns.Preparing.{taken_few, take_named}
 use Rattle.autfilt_run.proofs.turns.Stepping.{KeepsOn, ends_stream, is_open, name_as, one_name, reads_on}
-use Rattle.autfilt_run.specs.Events.{Dropped, EndsStream, Ended, Event, Goes, IsGood, IsJudged, Kept, Opened, Point, ReadsOn, Skipped, Tally, counted, open_by, opened_stream, written_of}
+use Rattle.autfilt_run.specs.Events.{Dropped, EndsStream, Ended, Event, EventLeads, IsGood, IsEventJudged, Kept, Opened, Point, ReadsOn, Skipped, Tally, tally_with, open_by, opened_stream, written_of}
 use Rattle.autfilt_run.specs.Openings.{AreOpened}
-use Rattle.autfilt_run.specs.Plans.{streams_of}
-use Rattle.autfilt_run.specs.Points.{StandsAt, name_in, operands_in}
+use Rattle.autfilt_run.specs.Plans.{plan_streams}
+use Rattle.autfilt_run.specs.Points.{StandsInStreams, name_in, operands_in}
 use Rattle.autfilt_run.specs.Turns as turns
-use Rattle.autfilt_run.specs.Turns.{Progress, after, progress}
+use Rattle.autfilt_run.specs.Turns.{Progress, progress_after, progress}
 use Rattle.autfilt_run.specs.declared.session.Session.{Session}
 use Rattle.autfilt_run.specs.declared.session.Turn.TheVariants as turn
-use Rattle.hoa_lexer.specs.Moves.{Elsewhere, Moves}
+use Rattle.hoa_lexer.specs.Moves.{Elsewhere, MovesLexer}
 use Rattle.hoa_lexer.specs.Reading.{Between}
 use Rattle.hoa_parser.specs.Standing.{Aborted, Stands}
 
 -- A step of a session was this event.
 pub record Stepped (event : Event) (old new : Session) (m t : Seen) (p q : SinkSeen) : Type 0 where
-  pub judged : IsJudged old.plan (operands_in old) event
-  pub goes : (texts : Texts) → m.texts ≡ Some texts → (at : Point) → StandsAt old m.left at → GoesOn (λ x. Goes texts event at x) new t.left
+  pub judged : IsEventJudged old.plan (operands_in old) event
+  pub goes : (texts : Texts) → m.texts ≡ Some texts → (at : Point) → StandsInStreams old m.left at → GoesOn (λ x. EventLeads texts event at x) new t.left
   pub gains : Gains p.written q.written (written_of event)
-  pub tallied : counted (record { kept = old.kept; skipped = old.skipped }) event ≡ record { kept = new.kept; skipped = new.skipped }
-  pub named : take new.opened (streams_of old.plan) ≡ take old.opened (streams_of old.plan) ++ opened_stream event
+  pub tallied : tally_with (record { kept = old.kept; skipped = old.skipped }) event ≡ record { kept = new.kept; skipped = new.skipped }
+  pub named : take new.opened (plan_streams old.plan) ≡ take old.opened (plan_streams old.plan) ++ opened_stream event
   pub still : new.is_open ≡ open_by old.is_open event
   pub openings : AreOpened (length (opened_stream event)) m t
   pub calm : AreCalm m t p q
@@ -72,44 +72,44 @@ pub keeps_on : (old new : Session) → StepsAs old new → new.tried ≡ old.tri
 keeps_on old new steady tried = record { plan = steady.plan; tried = tried; few = steady.few }
 
 -- more of the open stream is read
-pub reads_more : (R : ℕ → List ℕ → List ℕ → Type 0) (old new : Session) (m t : Seen) (at : Point) → StepsAs old new → StandsAt old m.left at → old.is_open ≡ true → new.is_open ≡ old.is_open
+pub reads_more : (R : ℕ → List ℕ → List ℕ → Type 0) (old new : Session) (m t : Seen) (at : Point) → StepsAs old new → StandsInStreams old m.left at → old.is_open ≡ true → new.is_open ≡ old.is_open
     → new.opened ≡ old.opened → new.tried ≡ old.tried
-    → Between m.left t.left (R old.lexer.since) → Moves Elsewhere old.lexer new.lexer m t → GoesOn (λ x. ReadsOn at R new.kept x) new t.left
+    → Between m.left t.left (R old.lexer.since) → MovesLexer Elsewhere old.lexer new.lexer m t → GoesOn (λ x. ReadsOn at R new.kept x) new t.left
 reads_more R old new m t at steady stands opened_so open_still opened tried read moves =
-    goes_on (λ x. ReadsOn at R new.kept x) old new m.left t.left at steady.plan opened stands
+    stands_in_same_streams (λ x. ReadsOn at R new.kept x) old new m.left t.left at steady.plan opened stands
     (reads_on R old new m t at Elsewhere stands.at opened_so (open_still ∙ opened_so) read moves (keeps_on old new steady tried))
 
-kept_at : (old new : Session) (left : Option (List ℕ)) (at : Point) (P : ℕ → Type 0) → StandsAt old left at → new.kept ≡ old.kept → P new.kept → P at.kept
+kept_at : (old new : Session) (left : Option (List ℕ)) (at : Point) (P : ℕ → Type 0) → StandsInStreams old left at → new.kept ≡ old.kept → P new.kept → P at.kept
 kept_at old new left at P stands same h = subst P (same ∙ sym stands.at.kept) h
 
 -- no stream more was opened
-none_named : (old new : Session) → new.opened ≡ old.opened → take new.opened (streams_of old.plan) ≡ take old.opened (streams_of old.plan) ++ []
-none_named old new same = ap (λ (n : ℕ). take n (streams_of old.plan)) same ∙ sym (append-nil (take old.opened (streams_of old.plan)))
+none_named : (old new : Session) → new.opened ≡ old.opened → take new.opened (plan_streams old.plan) ≡ take old.opened (plan_streams old.plan) ++ []
+none_named old new same = ap (λ (n : ℕ). take n (plan_streams old.plan)) same ∙ sym (append-nil (take old.opened (plan_streams old.plan)))
 
-pub opened : (old new : Session) (m t : Seen) (p q : SinkSeen) → StepsAs old new → progress new ≡ after turn.Opened (progress old) → (h : turns.Turns turn.Opened old new m t p q)
+pub opened : (old new : Session) (m t : Seen) (p q : SinkSeen) → StepsAs old new → progress new ≡ progress_after turn.Opened (progress old) → (h : turns.Turns turn.Opened old new m t p q)
     → Stepped (Opened h.name) old new m t p q
 opened old new m t p q steady done h =
-    let x = parts_of new (after turn.Opened (progress old)) done in
+    let x = parts_of new (progress_after turn.Opened (progress old)) done in
     record {
       judged = tt;
       goes = λ texts told at stands. opens_next texts old new m t at h.name told stands h.opening h.opens h.begins h.in_hand steady.plan x.opened x.is_open x.kept;
       gains = still_gains p q h.output;
       tallied = tally_as old.kept old.skipped new.kept new.skipped x.kept x.skipped;
-      named = ap (λ (n : ℕ). take n (streams_of old.plan)) x.opened ∙ take_named (streams_of old.plan) old.opened h.name h.opening.named;
+      named = ap (λ (n : ℕ). take n (plan_streams old.plan)) x.opened ∙ take_named (plan_streams old.plan) old.opened h.name h.opening.named;
       still = x.is_open;
       openings = h.opens.counted;
       calm = record { opens = h.opens.calm; reads = h.opens.reads; writes = still_writes p q h.output };
       texts = h.opens.texts;
     }
 
-pub ended : (old new : Session) (m t : Seen) (p q : SinkSeen) → StepsAs old new → progress new ≡ after turn.StreamEnd (progress old) → turns.Turns turn.StreamEnd old new m t p q
+pub ended : (old new : Session) (m t : Seen) (p q : SinkSeen) → StepsAs old new → progress new ≡ progress_after turn.StreamEnd (progress old) → turns.Turns turn.StreamEnd old new m t p q
     → Stepped Ended old new m t p q
 ended old new m t p q steady done h =
-    let x = parts_of new (after turn.StreamEnd (progress old)) done in
+    let x = parts_of new (progress_after turn.StreamEnd (progress old)) done in
     record {
       judged = tt;
       goes = λ texts told at stands.
-          goes_on (λ y. EndsStream at y) old new m.left t.left at steady.plan x.opened stands
+          stands_in_same_streams (λ y. EndsStream at y) old new m.left t.left at steady.plan x.opened stands
           (ends_stream old new m t at stands.at h.reading.is_open x.is_open x.kept h.read h.moves steady.most (keeps_on old new steady h.in_hand));
       gains = still_gains p q h.output;
       tallied = tally_as old.kept old.skipped new.kept new.skipped x.kept x.skipped;
@@ -120,10 +120,10 @@ ended old new m t p q steady done h =
       texts = h.moves.texts;
     }
 
-pub dropped : (old new : Session) (m t : Seen) (p q : SinkSeen) → StepsAs old new → progress new ≡ after turn.Dropped (progress old) → (h : turns.Turns turn.Dropped old new m t p q)
+pub dropped : (old new : Session) (m t : Seen) (p q : SinkSeen) → StepsAs old new → progress new ≡ progress_after turn.Dropped (progress old) → (h : turns.Turns turn.Dropped old new m t p q)
     → Stepped (Dropped h.automaton) old new m t p q
 dropped old new m t p q steady done h =
-    let x = parts_of new (after turn.Dropped (progress old)) done in
+    let x = parts_of new (progress_after turn.Dropped (progress old)) done in
     record {
       judged = h.dropped;
       goes = λ texts told at stands.
@@ -143,10 +143,10 @@ dropped old new m t p q steady done h =
       texts = h.reads.moves.texts;
     }
 
-pub kept : (old new : Session) (m t : Seen) (p q : SinkSeen) → StepsAs old new → progress new ≡ after turn.Kept (progress old) → (h : turns.Turns turn.Kept old new m t p q)
+pub kept : (old new : Session) (m t : Seen) (p q : SinkSeen) → StepsAs old new → progress new ≡ progress_after turn.Kept (progress old) → (h : turns.Turns turn.Kept old new m t p q)
     → Stepped (Kept h.automaton h.text) old new m t p q
 kept old new m t p q steady done h =
-    let x = parts_of new (after turn.Kept (progress old)) done in
+    let x = parts_of new (progress_after turn.Kept (progress old)) done in
     record {
       judged = (h.kept, h.due);
       goes = λ texts told at stands.
@@ -166,10 +166,10 @@ kept old new m t p q steady done h =
     }
 
 -- the one that was skipped is of the stream whose name is in hand
-pub skipped : (old new : Session) (m t : Seen) (p q : SinkSeen) → StepsAs old new → progress new ≡ after turn.Skipped (progress old) → turns.Turns turn.Skipped old new m t p q
+pub skipped : (old new : Session) (m t : Seen) (p q : SinkSeen) → StepsAs old new → progress new ≡ progress_after turn.Skipped (progress old) → turns.Turns turn.Skipped old new m t p q
     → Stepped (Skipped (name_in new)) old new m t p q
 skipped old new m t p q steady done h =
-    let x = parts_of new (after turn.Skipped (progress old)) done in
+    let x = parts_of new (progress_after turn.Skipped (progress old)) done in
     record {
       judged = tt;
       goes = λ texts told at stands.

@@ -7,15 +7,15 @@ use Rattle.autfilt_run.specs.declared.fault.RunFault.{RunFault}
 use Rattle.autfilt_run.specs.declared.fault.RunFault.TheVariants as fault
 
 -- the answer at a fault of the session
-abbrev pub ended_at : RunFault → Ended
-ended_at fault.CannotOpen = CannotOpen
-ended_at fault.ReadFault = ReadFault
-ended_at (fault.SyntaxAt k) = Syntax
-ended_at fault.Truncated = Syntax
-ended_at (fault.Invalid rule) = Invalid
-ended_at (fault.Limit which) = Limit which
-ended_at fault.WriteFault = WriteFault
-ended_at fault.Memory = Memory
+abbrev pub answer_of_fault : RunFault → Ended
+answer_of_fault fault.CannotOpen = CannotOpen
+answer_of_fault fault.ReadFault = ReadFault
+answer_of_fault (fault.SyntaxAt k) = Syntax
+answer_of_fault fault.Truncated = Syntax
+answer_of_fault (fault.Invalid rule) = Invalid
+answer_of_fault (fault.Limit which) = Limit which
+answer_of_fault fault.WriteFault = WriteFault
+answer_of_fault fault.Memory = Memory
 
 -- the answer
 abbrev pub ended_of : End → Ended
@@ -23,4 +23,4 @@ ended_of end.Output = Output
 ended_of end.NoneOutput = NoneOutput
 ended_of end.Aborts = Aborts
 ended_of end.Usage = Usage
-ended_of (end.Fault f) = ended_at f
+ended_of (end.Fault f) = answer_of_fault f

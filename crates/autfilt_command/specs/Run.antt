@@ -14,9 +14,9 @@ use Rattle.autfilt_command.specs.declared.ended.Ended.TheVariants as ended
 use Rattle.autfilt_run.specs.Events.{AreJudged, Event, Happen, Kept, Point, Skipped, Tally, all_written, open_after, opened_streams, start_of, tally, tally_from}
 use Rattle.made_stream.specs.Made.{seen_of_made}
 use Rattle.autfilt_run.specs.Openings.{AreOpened, AreTried, WantsFile}
-use Rattle.autfilt_run.specs.OperandEvents.{AreRead, OperandEvent, all_passed, file_open_after, opened_files, operands_of}
-use Rattle.autfilt_run.specs.Plans.{count_text, prints_count, prints_each, streams_of}
-use Rattle.autfilt_run.specs.Runs.{IsCounted, IsDone, Stops, StopsInOperands}
+use Rattle.autfilt_run.specs.OperandEvents.{AreRead, OperandEvent, all_passed, file_open_after, opened_files, operands_read}
+use Rattle.autfilt_run.specs.Plans.{count_text, prints_count, prints_each, plan_streams}
+use Rattle.autfilt_run.specs.Runs.{IsCounted, IsDone, StopsRun, StopsInOperands}
 use Rattle.autfilt_run.specs.declared.fault.RunFault.{RunFault}
 use Rattle.autfilt_run.specs.declared.fault.RunFault.TheVariants as run
 use Rattle.filter_plan.specs.Words.{IsPlan, operands}
@@ -55,13 +55,13 @@ EndsByTally e passed events = e ≡ end_of (tally_after passed events)
 
 -- Where the run stands at its end, and what is left in the inputs. `name` is the name in hand.
 abbrev pub EndsAt : Plan → List Automaton → End → List ℕ → Point → Option (List ℕ) → Type 0
-EndsAt plan ops (end.Fault f) name p left = Stops plan ops f name p left × IsCounted f p left
+EndsAt plan ops (end.Fault f) name p left = StopsRun plan ops f name p left × IsCounted f p left
 EndsAt plan ops end.Usage name p left = ⊥
 EndsAt plan ops e name p left = IsDone plan p × (left ≡ p.left)
 
 -- a stream of the plan is to be opened after these events
 abbrev pub WantsStreamFile : Plan → List Event → Type 0
-WantsStreamFile plan events = WantsFile (open_after false events) (length (opened_streams events)) (length (streams_of plan))
+WantsStreamFile plan events = WantsFile (open_after false events) (length (opened_streams events)) (length (plan_streams plan))
 
 -- the file of an operand of the plan is to be opened after these events
 abbrev pub WantsOperandFile : Plan → List OperandEvent → Type 0
@@ -117,22 +117,22 @@ pub record BreaksOffCount (plan : Plan) (events : List Event) (written written' 
   pub gains : Gains written written' (all_written events ++ take part (count_text plan (tally events).kept))
 
 -- what was written of the events that happened where the run ended so
-abbrev pub Prints : Plan → End → List Event → Option (List ℕ) → Option (List ℕ) → Type 0
-Prints plan (end.Fault run.WriteFault) events written written' = BreaksOff plan events written written' ⊎ BreaksOffCount plan events written written'
-Prints plan (end.Fault f) events written written' = Gains written written' (all_written events)
-Prints plan e events written written' = Gains written written' (all_written events ++ count_text plan (tally events).kept)
+abbrev pub PrintsRun : Plan → End → List Event → Option (List ℕ) → Option (List ℕ) → Type 0
+PrintsRun plan (end.Fault run.WriteFault) events written written' = BreaksOff plan events written written' ⊎ BreaksOffCount plan events written written'
+PrintsRun plan (end.Fault f) events written written' = Gains written written' (all_written events)
+PrintsRun plan e events written written' = Gains written written' (all_written events ++ count_text plan (tally events).kept)
 
 -- The streams of a plan were read, whose operands these are, and the run ended so. So many bytes were taken before.
 pub record Runs (plan : Plan) (ops : List Automaton) (passed before : ℕ) (e : End) (events : List Event) (name : List ℕ) (seen seen' : Seen) (out out' : SinkSeen) : Type 0 where
   -- each automaton was kept or dropped by its verdict, and the text that is written is the one that is due
   pub judged : AreJudged plan ops events
   -- the events happened, and what stands behind them ended the run, where the inputs tell their texts
-  pub happened : (texts : Texts) → seen.texts ≡ Some texts → RunsTo plan ops texts (start_of (streams_of plan) seen.left before) seen'.left events e name
+  pub happened : (texts : Texts) → seen.texts ≡ Some texts → RunsTo plan ops texts (start_of (plan_streams plan) seen.left before) seen'.left events e name
   pub tallied : EndsByTally e passed events
   -- each stream that was opened is the next of the plan, and was opened once, also where the inputs don't tell their texts
-  pub named : (k : ℕ) × (opened_streams events ≡ take k (streams_of plan))
+  pub named : (k : ℕ) × (opened_streams events ≡ take k (plan_streams plan))
   pub openings : EndsOpened e (WantsStreamFile plan events) (length (opened_streams events)) seen seen'
-  pub prints : Prints plan e events out.written out'.written
+  pub prints : PrintsRun plan e events out.written out'.written
 
 -- The run over the generated stream, which leaves the inputs as they were.
 pub record RunsOverMade (n : ℕ) (plan : Plan) (ops : List Automaton) (passed before : ℕ) (e : End) (events : List Event) (name : List ℕ) (seen seen' : Seen) (out out' : SinkSeen) : Type 0 where
@@ -150,13 +150,13 @@ pub record GoesOverAll (plan : Plan) (e : End) (taken : List OperandEvent) (even
   -- the inputs between
   pub mid : Seen
   pub before : ℕ
-  pub number : length (operands_of taken) ≡ length (operands plan)
+  pub number : length (operands_read taken) ≡ length (operands plan)
   pub prepared : (texts : Texts) → seen.texts ≡ Some texts → (p : Point) × AreAllRead plan texts seen.left taken p × (p.left ≡ mid.left) × (p.before ≡ before)
   pub texts : mid.texts ≡ seen.texts
   -- the file of each operand was opened, once
   pub named : opened_files taken ≡ operands plan
   pub openings : AreOpened (length (opened_files taken)) seen mid
-  pub runs : RunsOverAs plan.made plan (operands_of taken) (length (all_passed taken)) before e events name mid seen' out out'
+  pub runs : RunsOverAs plan.made plan (operands_read taken) (length (all_passed taken)) before e events name mid seen' out out'
 
 -- A fault ended the run while operands were read. Nothing was written.
 pub record FailsInOperands (plan : Plan) (e : End) (taken : List OperandEvent) (events : List Event) (name : List ℕ) (seen seen' : Seen) (out out' : SinkSeen) : Type 0 where

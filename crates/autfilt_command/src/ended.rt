@@ -1,7 +1,7 @@
 //! How a run ends.
 
 ghost use Rattle.std.specs.Prelude.{◌≡◌};
-ghost use Rattle.autfilt_command.specs.Ends.{ended_at};
+ghost use Rattle.autfilt_command.specs.Ends.{answer_of_fault};
 ghost use Rattle.autfilt_command.specs.Status.{status_of};
 ghost use Rattle.autfilt_command.specs.declared.ended.End.{End};
 ghost use Rattle.autfilt_command.specs.declared.ended.Ended.{Ended};
@@ -76,7 +76,7 @@ impl From<End> for Ended {
 
 /// The answer at a fault of the session.
 fn ended_at(fault: RunFault) -> Ended
-    ensures { result ≡ ended_at fault }
+    ensures { result ≡ answer_of_fault fault }
 {
     match fault {
         RunFault::CannotOpen => Ended::CannotOpen,

@@ -2,7 +2,7 @@
 
 ghost use Rattle.std.specs.Prelude.{◌≡◌, ℕ, List, ◌++◌, codes};
 ghost use Rattle.std.specs.Fmt.{decimal};
-ghost use Rattle.aut_io.specs.Seen.{SinkSeen, Writes};
+ghost use Rattle.aut_io.specs.Seen.{SinkSeen, WritesPiece};
 ghost use Rattle.autfilt_command.specs.Noted.{HasNoted, Notes};
 ghost use Rattle.autfilt_command.specs.Notes.{aborted_line, limit_word, line_about, line_of, line_of_fault, rule_word};
 
@@ -50,7 +50,7 @@ pub(crate) fn note_end<M: Sink>(notes: &mut M, noting: bool, name: &[u8], end: E
 
 /// Writes the line, and answers whether all of it was written.
 fn write_line<M: Sink>(notes: &mut M, name: &[u8], end: &End) -> Result<(), Failed>
-    ensures { Writes (M.seen notes.old) (line_of end.now name.now) result (M.seen notes.new) }
+    ensures { WritesPiece (M.seen notes.old) (line_of end.now name.now) result (M.seen notes.new) }
 {
     match end {
         End::Output | End::NoneOutput | End::Aborts => Ok(()),
@@ -61,7 +61,7 @@ fn write_line<M: Sink>(notes: &mut M, name: &[u8], end: &End) -> Result<(), Fail
 
 /// Writes the line about a fault.
 fn write_fault<M: Sink>(notes: &mut M, name: &[u8], fault: &RunFault) -> Result<(), Failed>
-    ensures { Writes (M.seen notes.old) (line_of_fault fault.now name.now) result (M.seen notes.new) }
+    ensures { WritesPiece (M.seen notes.old) (line_of_fault fault.now name.now) result (M.seen notes.new) }
 {
     match fault {
         RunFault::CannotOpen => write_pieces(notes, b"autfilt: cannot open ", name, b"\n"),
@@ -84,7 +84,7 @@ fn write_pieces<M: Sink>(
     word: &[u8],
     back: &[u8],
 ) -> Result<(), Failed>
-    ensures { Writes (M.seen notes.old) (front.now ++ (word.now ++ back.now)) result (M.seen notes.new) }
+    ensures { WritesPiece (M.seen notes.old) (front.now ++ (word.now ++ back.now)) result (M.seen notes.new) }
 {
     notes.write(front)?;
     notes.write(word)?;
@@ -93,7 +93,7 @@ fn write_pieces<M: Sink>(
 
 /// Writes the line about an offset at which the text cannot go on.
 fn write_offset<M: Sink>(notes: &mut M, name: &[u8], offset: u64) -> Result<(), Failed>
-    ensures { Writes (M.seen notes.old) (line_about name.now (codes "syntax error at byte " ++ decimal offset)) result (M.seen notes.new) }
+    ensures { WritesPiece (M.seen notes.old) (line_about name.now (codes "syntax error at byte " ++ decimal offset)) result (M.seen notes.new) }
 {
     write_pieces(notes, b"autfilt: ", name, b": syntax error at byte ")?;
     write_number(notes, offset)?;
@@ -102,7 +102,7 @@ fn write_offset<M: Sink>(notes: &mut M, name: &[u8], offset: u64) -> Result<(), 
 
 /// Writes the line about a rule that is broken.
 fn write_rule<M: Sink>(notes: &mut M, name: &[u8], rule: &Rule) -> Result<(), Failed>
-    ensures { Writes (M.seen notes.old) (line_about name.now (codes "invalid automaton (" ++ (rule_word rule.now ++ codes ")"))) result (M.seen notes.new) }
+    ensures { WritesPiece (M.seen notes.old) (line_about name.now (codes "invalid automaton (" ++ (rule_word rule.now ++ codes ")"))) result (M.seen notes.new) }
 {
     write_pieces(notes, b"autfilt: ", name, b": invalid automaton (")?;
     notes.write(rule_word(rule))?;
@@ -111,7 +111,7 @@ fn write_rule<M: Sink>(notes: &mut M, name: &[u8], rule: &Rule) -> Result<(), Fa
 
 /// Writes the line about a limit that is passed.
 fn write_limit<M: Sink>(notes: &mut M, name: &[u8], which: &Limit) -> Result<(), Failed>
-    ensures { Writes (M.seen notes.old) (line_about name.now (codes "limit exceeded: " ++ limit_word which.now)) result (M.seen notes.new) }
+    ensures { WritesPiece (M.seen notes.old) (line_about name.now (codes "limit exceeded: " ++ limit_word which.now)) result (M.seen notes.new) }
 {
     write_pieces(notes, b"autfilt: ", name, b": limit exceeded: ")?;
     notes.write(limit_word(which))?;

@@ -3,10 +3,10 @@
 ghost use Rattle.std.specs.Prelude.{◌≡◌, ◌⊎◌, All, true};
 ghost use Rattle.autfilt_command.specs.Asked.{AreRefused, names_opened};
 ghost use Rattle.autfilt_command.specs.Run.{EndsBecause, EndsBy, end_of};
-ghost use Rattle.autfilt_command.specs.inner.Running.{Carries, Finishes, IsFresh, IsNew, Preparing};
+ghost use Rattle.autfilt_command.specs.inner.Running.{Carries, FinishesRun, IsFresh, IsNew, Preparing};
 ghost use Rattle.autfilt_command.specs.declared.ended.End.{End};
 ghost use Rattle.autfilt_command.specs.declared.ended.Ended.{Ended};
-ghost use Rattle.autfilt_run.specs.Plans.{count_text, prints_count, streams_of};
+ghost use Rattle.autfilt_run.specs.Plans.{count_text, prints_count, plan_streams};
 ghost use Rattle.autfilt_run.specs.Points.{name_in};
 ghost use Rattle.autfilt_run.specs.declared.fault.RunFault.{RunFault};
 ghost use Rattle.autfilt_run.specs.declared.session.Stage.{Stage};
@@ -59,7 +59,7 @@ fn take_steps<I: Inputs, W: Sink, M: Sink>(
     notes: &mut M,
 ) -> End
     requires begun { IsFresh session }
-    requires names { All I.may_open (streams_of session.plan) }
+    requires names { All I.may_open (plan_streams session.plan) }
     ensures { Carries session noting result (I.seen inputs.old) (I.seen inputs.new) (W.seen out.old) (W.seen out.new) (M.seen notes.old) (M.seen notes.new) }
 {
     let mut session = session;
@@ -86,7 +86,7 @@ fn take_steps<I: Inputs, W: Sink, M: Sink>(
 /// Writes what is due at the end, and tells how the run ended.
 fn finish<W: Sink>(session: &mut Session, out: &mut W) -> End
     requires { session.old.stage ≡ Stage.Done }
-    ensures finishes { Finishes result (count_text session.old.plan session.old.kept) (record { kept = session.old.kept; skipped = session.old.skipped }) (W.seen out.old) (W.seen out.new) }
+    ensures finishes { FinishesRun result (count_text session.old.plan session.old.kept) (record { kept = session.old.kept; skipped = session.old.skipped }) (W.seen out.old) (W.seen out.new) }
     ensures due { result ≡ End.Fault RunFault.WriteFault → prints_count session.old.plan ≡ true }
     ensures same { name_in session.new ≡ name_in session.old }
 {

@@ -1,7 +1,7 @@
 -- Under each plan something is due of an automaton that is kept, unless a limit is passed.
 mod Combined
 mod Determined
-mod FewThings
+mod FewStates
 mod Formed
 mod Lines
 mod Names

@@ -9,7 +9,7 @@ use Rattle.autfilt_command.specs.Run.{EndsBecause, EndsBy}
 use Rattle.autfilt_command.specs.declared.ended.Ended.{Ended}
 use Rattle.autfilt_command.specs.declared.ended.Ended.TheVariants as ended
 use Rattle.autfilt_laws.specs.Runs.{AreReadable, DecidesTexts, size_of, texts_or}
-use Rattle.autfilt_run.specs.Plans.{streams_of}
+use Rattle.autfilt_run.specs.Plans.{plan_streams}
 use Rattle.filter_plan.specs.Words.{IsPlan, operands}
 use Rattle.filter_plan.specs.declared.plan.Plan.{Plan}
 
@@ -48,7 +48,7 @@ pub record IsDecided (words : List (List ℕ)) (texts : Texts) (r : Answered) : 
   pub by_texts : IsByTexts r.answer
 
 -- the same answer, the same notes, the same left in the inputs, and the same output where the plan decides its texts
-pub record AreAlike (plan : Plan) (a b : Answered) : Type 0 where
+pub record AreAnsweredAlike (plan : Plan) (a b : Answered) : Type 0 where
   pub answer : a.answer ≡ b.answer
   pub noted : (text : List ℕ) × Notes text a.notes a.notes' × Notes text b.notes b.notes'
   pub left : a.inputs'.left ≡ b.inputs'.left
@@ -57,7 +57,7 @@ pub record AreAlike (plan : Plan) (a b : Answered) : Type 0 where
 -- Two runs of the same words over the same texts that these decided.
 abbrev pub OneAnswer : Type 0
 OneAnswer = (words : List (List ℕ)) (plan : Plan) (texts : Texts) (a b : Answered) → IsPlan words plan → a.inputs.left ≡ b.inputs.left
-    → IsDecided words texts a → IsDecided words texts b → AreAlike plan a b
+    → IsDecided words texts a → IsDecided words texts b → AreAnsweredAlike plan a b
 
 -- A run over texts that can be read everywhere, and that these decided, where the limit of bytes isn't the answer.
 abbrev pub AnswerCompletes : Type 0
@@ -75,5 +75,5 @@ pub record IsRun (words : List (List ℕ)) (texts : Texts) (inputs : Seen) (out 
 -- It isn't so that there is no such answer of words that are a plan, over texts that together have fewer bytes than may be taken.
 abbrev pub SomeAnswer : Type 0
 SomeAnswer = (words : List (List ℕ)) (plan : Plan) (texts : Texts) (inputs : Seen) (out notes : SinkSeen) → IsPlan words plan → inputs.texts ≡ Some texts
-    → size_of texts (operands plan) + size_of (texts_or plan.made texts) (streams_of plan) < MOST_BYTES
+    → size_of texts (operands plan) + size_of (texts_or plan.made texts) (plan_streams plan) < MOST_BYTES
     → ((r : Answered) → IsRun words texts inputs out notes r → ⊥) → ⊥

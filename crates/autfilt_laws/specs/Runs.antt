@@ -11,11 +11,11 @@ use Rattle.autfilt_command.specs.Run.{AreAllRead, EndsByTally, EndsInOperands, R
 use Rattle.autfilt_command.specs.declared.ended.End.{End}
 use Rattle.autfilt_command.specs.declared.ended.End.TheVariants as end
 use Rattle.autfilt_run.specs.Due.{IsDue}
-use Rattle.autfilt_run.specs.Events.{AreJudged, Dropped, Ended, Event, Happen, IsGood, Kept, Opened, Point, Skipped, Stream, place, start_of}
+use Rattle.autfilt_run.specs.Events.{AreJudged, Dropped, Ended, Event, Happen, IsGood, Kept, Opened, Point, Skipped, Stream, bytes_before, start_of}
 use Rattle.made_stream.specs.Made.{made_texts}
-use Rattle.autfilt_run.specs.OperandEvents.{AreRead, FileOpened, OperandEvent, PassedOver, Taken, all_passed, operands_of}
-use Rattle.autfilt_run.specs.Over.{IsOver}
-use Rattle.autfilt_run.specs.Plans.{asks_on, prints_each, streams_of}
+use Rattle.autfilt_run.specs.OperandEvents.{AreRead, FileOpened, OperandEvent, PassedOver, Taken, all_passed, operands_read}
+use Rattle.autfilt_run.specs.Over.{IsOverLimit}
+use Rattle.autfilt_run.specs.Plans.{asks_on, prints_each, plan_streams}
 use Rattle.autfilt_run.specs.declared.fault.RunFault.{RunFault}
 use Rattle.autfilt_run.specs.declared.fault.RunFault.TheVariants as fault
 use Rattle.filter_plan.specs.Words.{operands}
@@ -60,7 +60,7 @@ left_or (Some n) left = Some []
 
 -- where the streams of a plan begin, behind its operands
 abbrev pub streams_from : Plan → Point → Point
-streams_from plan p = start_of (streams_of plan) (left_or plan.made p.left) p.before
+streams_from plan p = start_of (plan_streams plan) (left_or plan.made p.left) p.before
 
 -- What there is to tell of a run: the operands that it took, what happened in its streams, how it ended, the name in hand then,
 -- and what is left in the inputs, or in the generated text.
@@ -75,9 +75,9 @@ pub record Outcome : Type 0 where
 pub record EndsInStreams (plan : Plan) (texts : Texts) (left : Option (List ℕ)) (o : Outcome) : Type 0 where
   pub point : Point
   pub read : AreAllRead plan texts left o.taken point
-  pub judged : AreJudged plan (operands_of o.taken) o.events
+  pub judged : AreJudged plan (operands_read o.taken) o.events
   pub tallied : EndsByTally o.end (length (all_passed o.taken)) o.events
-  pub runs : RunsTo plan (operands_of o.taken) (texts_or plan.made texts) (streams_from plan point) o.left o.events o.end o.name
+  pub runs : RunsTo plan (operands_read o.taken) (texts_or plan.made texts) (streams_from plan point) o.left o.events o.end o.name
 
 -- what stands in the file of an operand ended it
 pub record EndsBefore (plan : Plan) (texts : Texts) (left : Option (List ℕ)) (o : Outcome) : Type 0 where
@@ -137,8 +137,8 @@ pub record AreSame (plan : Plan) (a b : Outcome) : Type 0 where
   pub left : a.left ≡ b.left
 
 -- Two runs over the same texts of one plan that the texts ended: the same happened, and they end alike.
-abbrev pub OneEnd : Type 0
-OneEnd =
+abbrev pub RunsEndAlike : Type 0
+RunsEndAlike =
     (plan : Plan) (texts : Texts) (left : Option (List ℕ)) (a b : Outcome) → IsEnded plan texts left a → IsEnded plan texts left b
     → AreSame plan a b
 
@@ -151,14 +151,14 @@ pub record AreFirst (plan : Plan) (events others : List Event) : Type 0 where
 
 -- Of the events of two runs in the streams, those of one are the first ones of the other: a run that a fault
 -- ended has read and written the first of what any other run reads and writes.
-abbrev pub OneFront : Type 0
-OneFront =
+abbrev pub RunsAgree : Type 0
+RunsAgree =
     (plan : Plan) (ops : List Automaton) (texts : Texts) (events others : List Event) (p q r : Point) → AreJudged plan ops events → AreJudged plan ops others
     → Happen plan texts events p q → Happen plan texts others p r → AreFirst plan events others ⊎ AreFirst plan others events
 
 -- So it is with operands.
-abbrev pub OneOperandFront : Type 0
-OneOperandFront =
+abbrev pub OperandRunsAgree : Type 0
+OperandRunsAgree =
     (texts : Texts) (taken others : List OperandEvent) (p q r : Point) → AreRead texts taken p q → AreRead texts others p r
     → ((more : List OperandEvent) × (others ≡ taken ++ more)) ⊎ ((more : List OperandEvent) × (taken ≡ others ++ more))
 
@@ -174,11 +174,11 @@ IsReadable over start rest =
 -- those of filters and changes, with the operands that were read.
 pub record AreReadable (plan : Plan) (texts : Texts) (left : Option (List ℕ)) : Type 0 where
   pub operands : (taken : List OperandEvent) (p : Point) (s : Stream) → AreRead texts taken (start_of (operands plan) left 0) p → p.stream ≡ Some s
-      → IsReadable (λ which w. ⊥) (place s.text s.rest) s.rest
+      → IsReadable (λ which w. ⊥) (bytes_before s.text s.rest) s.rest
   pub streams : (taken : List OperandEvent) (first : Point) → AreAllRead plan texts left taken first
-      → (events : List Event) (p : Point) (s : Stream) → AreJudged plan (operands_of taken) events → Happen plan (texts_or plan.made texts) events (streams_from plan first) p
+      → (events : List Event) (p : Point) (s : Stream) → AreJudged plan (operands_read taken) events → Happen plan (texts_or plan.made texts) events (streams_from plan first) p
       → asks_on plan p.kept ≡ true → p.stream ≡ Some s
-      → IsBlanks s.rest ⊎ IsReadable (λ which w. IsOver which plan (operands_of taken) w) (place s.text s.rest) s.rest
+      → IsBlanks s.rest ⊎ IsReadable (λ which w. IsOverLimit which plan (operands_read taken) w) (bytes_before s.text s.rest) s.rest
 
 -- A run over texts that can be read everywhere, which no fault of the outside, want of memory or limit of bytes ended, read all
 -- that was asked for.
@@ -201,22 +201,22 @@ IsGoodOperand (PassedOver name) = Unit {0}
 
 -- There is an operand for each name of the plan, and each may be read.
 pub record AreGoodOperands (plan : Plan) (taken : List OperandEvent) : Type 0 where
-  pub number : length (operands_of taken) ≡ length (operands plan)
+  pub number : length (operands_read taken) ≡ length (operands plan)
   pub good : AllByRecursion IsGoodOperand taken
 
 -- Of each automaton that may be read and is kept, with operands that were read, it isn't so that nothing is due under the plan and
 -- no limit is passed.
 abbrev pub IsAlwaysDue : Plan → Type 0
 IsAlwaysDue plan =
-    (taken : List OperandEvent) → AreGoodOperands plan taken → (w : Written) → IsValid w → PassesNone w → IsKept plan (operands_of taken) (described w)
-    → (((text : List ℕ) × IsDue plan (operands_of taken) w text) ⊎ ((which : Limit) × IsOver which plan (operands_of taken) w) → ⊥) → ⊥
+    (taken : List OperandEvent) → AreGoodOperands plan taken → (w : Written) → IsValid w → PassesNone w → IsKept plan (operands_read taken) (described w)
+    → (((text : List ℕ) × IsDue plan (operands_read taken) w text) ⊎ ((which : Limit) × IsOverLimit which plan (operands_read taken) w) → ⊥) → ⊥
 
 -- So it is under each plan.
 abbrev pub EachIsDue : Type 0
 EachIsDue = (plan : Plan) → IsAlwaysDue plan
 
 -- It isn't so that there is no run of a plan over texts that together have fewer bytes than may be taken.
-abbrev pub SomeEnd : Type 0
-SomeEnd =
-    (plan : Plan) (texts : Texts) (left : Option (List ℕ)) → size_of texts (operands plan) + size_of (texts_or plan.made texts) (streams_of plan) < MOST_BYTES
+abbrev pub ARunExists : Type 0
+ARunExists =
+    (plan : Plan) (texts : Texts) (left : Option (List ℕ)) → size_of texts (operands plan) + size_of (texts_or plan.made texts) (plan_streams plan) < MOST_BYTES
     → ((o : Outcome) → IsEnded plan texts left o → ⊥) → ⊥

@@ -2,7 +2,7 @@
 
 ghost use Rattle.autfilt_laws.specs.Answers.{AnswerCompletes, OneAnswer, SomeAnswer};
 
-use crate::runs::{good_texts_are_read, one_end, some_end};
+use crate::runs::{a_run_exists, good_texts_are_read, runs_end_alike};
 use filter_plan::one_plan;
 use hoa_reader::one_standing;
 
@@ -12,7 +12,7 @@ pub fn one_answer()
     ensures { OneAnswer }
 {
     one_standing();
-    one_end();
+    runs_end_alike();
     one_plan();
 }
 
@@ -29,5 +29,5 @@ pub fn answer_completes()
 pub fn some_answer()
     ensures { SomeAnswer }
 {
-    some_end();
+    a_run_exists();
 }

@@ -9,4 +9,4 @@ mod runs;
 
 pub use answers::{answer_completes, one_answer, some_answer};
 pub use places::{none_asks_behind, refusals_are_shown};
-pub use runs::{each_is_due, good_texts_are_read, one_end, one_front, some_end};
+pub use runs::{a_run_exists, each_is_due, good_texts_are_read, runs_agree, runs_end_alike};

@@ -1,30 +1,30 @@
 //! Laws of runs: there is one, and no other.
 
-ghost use Rattle.autfilt_laws.specs.Runs.{Completes, EachIsDue, OneEnd, OneFront, OneOperandFront, SomeEnd};
+ghost use Rattle.autfilt_laws.specs.Runs.{Completes, EachIsDue, RunsEndAlike, RunsAgree, OperandRunsAgree, ARunExists};
 
 use crate::places::refusals_are_shown;
 use aut_ops::trimmed_is_determined;
 use hoa_reader::{one_standing, some_standing};
 use hoa_writer::canonical_text_reads_back;
-use plan_meaning::{changes_are_determined, one_verdict, some_verdict};
+use plan_meaning::{a_verdict_exists, changes_are_determined, verdict_is_one};
 
 /// The texts decide the end of a run, and what is read and written before.
-pub fn one_end()
-    ensures { OneEnd }
+pub fn runs_end_alike()
+    ensures { RunsEndAlike }
 {
     one_standing();
-    one_verdict();
+    verdict_is_one();
     changes_are_determined();
     trimmed_is_determined();
 }
 
 /// What a run reads and writes, as far as it comes, is the first of what any other run of the plan over the texts does.
-pub fn one_front()
-    ensures streams { OneFront }
-    ensures operands { OneOperandFront }
+pub fn runs_agree()
+    ensures streams { RunsAgree }
+    ensures operands { OperandRunsAgree }
 {
     one_standing();
-    one_verdict();
+    verdict_is_one();
     changes_are_determined();
     trimmed_is_determined();
 }
@@ -45,11 +45,11 @@ pub fn each_is_due()
 }
 
 /// There is a run of each plan over all texts of few bytes.
-pub fn some_end()
-    ensures { SomeEnd }
+pub fn a_run_exists()
+    ensures { ARunExists }
 {
     some_standing();
-    some_verdict();
+    a_verdict_exists();
     refusals_are_shown();
     each_is_due();
 }

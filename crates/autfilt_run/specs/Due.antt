@@ -15,7 +15,7 @@ use Rattle.filter_plan.specs.declared.plan.Output.TheVariants.{Hoa, Stats, Refut
 use Rattle.filter_plan.specs.declared.plan.Plan.{Plan}
 use Rattle.hoa_lexer.specs.Laws.{HasTokens}
 use Rattle.hoa_lexer.specs.declared.token.Token.{Token}
-use Rattle.hoa_parser.specs.Grammar.{Spells}
+use Rattle.hoa_parser.specs.Grammar.{SpellsAutomaton}
 use Rattle.hoa_parser.specs.Naming.{name_of}
 use Rattle.hoa_parser.specs.Raw.{Written}
 use Rattle.hoa_reader.specs.Described.{described}
@@ -31,14 +31,14 @@ pub record ReadsAs (text : List ℕ) (says : Language) : Type 0 where
   pub lexes : HasTokens text 0 tokens
   pub spelled : Written
   pub most : ℕ
-  pub spells : Spells most tokens spelled
-  pub alone : (n : ℕ) (v : Written) → Spells n tokens v → v ≡ spelled
+  pub spells : SpellsAutomaton most tokens spelled
+  pub alone : (n : ℕ) (v : Written) → SpellsAutomaton n tokens v → v ≡ spelled
   pub valid : IsValid spelled
   pub accepts : SayTheSame (λ u v. Accepts (described spelled) u v) says
 
 -- What the changes of the plan make of the automaton that was read. It keeps what its form promises, and accepts exactly
 -- the lasso words of which the plan's set operation says so.
-pub record IsMade (p : Plan) (ops : List Automaton) (w : Written) (made : Automaton) : Type 0 where
+pub record IsResult (p : Plan) (ops : List Automaton) (w : Written) (made : Automaton) : Type 0 where
   pub makes : MakesAll (changes_of p ops) (canonical (described w)) made
   pub promises : KeepsPromises p made
   pub few_sets : p.form ≡ form.Parity → HasFewSetsUnder p ops (canonical (described w)) made
@@ -50,21 +50,21 @@ name_due p w = if changes p then None else name_of w
 
 -- The canonical text of what is made. It reads as an automaton that accepts what the plan's set operation says, of the
 -- automaton as it was read.
-pub record IsCanonical (p : Plan) (ops : List Automaton) (w : Written) (text : List ℕ) : Type 0 where
+pub record IsCanonicalResult (p : Plan) (ops : List Automaton) (w : Written) (text : List ℕ) : Type 0 where
   pub made : Automaton
-  pub is_made : IsMade p ops w made
+  pub is_made : IsResult p ops w made
   pub same : text ≡ canonical_text made (name_due p w)
   pub reads_as : ReadsAs text (set_operation p ops (described w))
 
 -- the line of figures of what is made
 pub record IsFigures (p : Plan) (ops : List Automaton) (w : Written) (pieces : List Piece) (text : List ℕ) : Type 0 where
   pub made : Automaton
-  pub is_made : IsMade p ops w made
+  pub is_made : IsResult p ops w made
   pub line : IsLine pieces made text
 
 -- What is printed of an automaton that was read. A refutation is that of the automaton as it was read.
 abbrev pub IsPrinted : Output → Plan → List Automaton → Written → List ℕ → Type 0
-IsPrinted Hoa p ops w text = IsCanonical p ops w text
+IsPrinted Hoa p ops w text = IsCanonicalResult p ops w text
 IsPrinted (Stats pieces) p ops w text = IsFigures p ops w pieces text
 IsPrinted (Refute file) p ops w text = MatchOption (refuted_operand p ops) ⊥ (λ b. IsRefutationLine (described w) b text)
 

@@ -16,8 +16,8 @@ use Rattle.hoa_reader.specs.Validity.{IsValid}
 use Rattle.plan_meaning.specs.Filters.{IsDropped, IsKept}
 
 -- how many bytes of the text stand before its rest
-abbrev pub place : List ℕ → List ℕ → ℕ
-place text rest = length text - length rest
+abbrev pub bytes_before : List ℕ → List ℕ → ℕ
+bytes_before text rest = length text - length rest
 
 -- An automaton stands whole at the front of the rest, which begins `start` bytes after the start of the text. It is
 -- valid and within the limits, and `next` follows it.
@@ -82,16 +82,16 @@ opened_at p others name text = record {
 }
 
 -- the point where the open stream was read to its end
-abbrev pub ended_at : Point → Stream → Point
-ended_at p s = record { coming = p.coming; stream = None; left = Some []; before = p.before + length s.text; kept = p.kept }
+abbrev pub at_stream_end : Point → Stream → Point
+at_stream_end p s = record { coming = p.coming; stream = None; left = Some []; before = p.before + length s.text; kept = p.kept }
 
 -- More of the open stream is read: `read` tells what stands at its rest, and no more bytes are taken than may be.
 pub record ReadsOn (p : Point) (read : ℕ → List ℕ → List ℕ → Type 0) (kept : ℕ) (q : Point) : Type 0 where
   pub stream : Stream
   pub is_open : p.stream ≡ Some stream
   pub next : List ℕ
-  pub stands : read (place stream.text stream.rest) stream.rest next
-  pub few : p.before + place stream.text next ≤ MOST_BYTES
+  pub stands : read (bytes_before stream.text stream.rest) stream.rest next
+  pub few : p.before + bytes_before stream.text next ≤ MOST_BYTES
   pub to : q ≡ read_on p stream next kept
 
 -- An abandoned automaton of the stream of this name is skipped.
@@ -112,31 +112,31 @@ pub record EndsStream (p q : Point) : Type 0 where
   pub is_open : p.stream ≡ Some stream
   pub blank : IsBlanks stream.rest
   pub few : p.before + length stream.text < MOST_BYTES
-  pub to : q ≡ ended_at p stream
+  pub to : q ≡ at_stream_end p stream
 
 -- What an event asks of the point before it, and the point behind it.
-abbrev pub Goes : Texts → Event → Point → Point → Type 0
-Goes texts (Opened name) p q = OpensStream texts name p q
-Goes texts (Kept w text) p q = ReadsOn p (λ start rest next. IsGood start rest w next) (p.kept + 1) q
-Goes texts (Dropped w) p q = ReadsOn p (λ start rest next. IsGood start rest w next) p.kept q
-Goes texts (Skipped name) p q = PassesOver name p q
-Goes texts Ended p q = EndsStream p q
+abbrev pub EventLeads : Texts → Event → Point → Point → Type 0
+EventLeads texts (Opened name) p q = OpensStream texts name p q
+EventLeads texts (Kept w text) p q = ReadsOn p (λ start rest next. IsGood start rest w next) (p.kept + 1) q
+EventLeads texts (Dropped w) p q = ReadsOn p (λ start rest next. IsGood start rest w next) p.kept q
+EventLeads texts (Skipped name) p q = PassesOver name p q
+EventLeads texts Ended p q = EndsStream p q
 
 -- The events happen one after the other. Before each of them more automata are asked for.
 abbrev pub Happen : Plan → Texts → List Event → Point → Point → Type 0
 Happen plan texts [] p q = p ≡ q
-Happen plan texts (event ∷ events) p q = (asks_on plan p.kept ≡ true) × (m : Point) × Goes texts event p m × Happen plan texts events m q
+Happen plan texts (event ∷ events) p q = (asks_on plan p.kept ≡ true) × (m : Point) × EventLeads texts event p m × Happen plan texts events m q
 
 -- ---- what the events are, whatever the texts
 
 -- the verdict on the automaton that was read is this one, and the text that is written of it is the one that is due
-abbrev pub IsJudged : Plan → List Automaton → Event → Type 0
-IsJudged plan ops (Kept w text) = IsKept plan ops (described w) × IsDue plan ops w text
-IsJudged plan ops (Dropped w) = IsDropped plan ops (described w)
-IsJudged plan ops _ = Unit {0}
+abbrev pub IsEventJudged : Plan → List Automaton → Event → Type 0
+IsEventJudged plan ops (Kept w text) = IsKept plan ops (described w) × IsDue plan ops w text
+IsEventJudged plan ops (Dropped w) = IsDropped plan ops (described w)
+IsEventJudged plan ops _ = Unit {0}
 
 abbrev pub AreJudged : Plan → List Automaton → List Event → Type 0
-AreJudged plan ops = AllByRecursion (IsJudged plan ops)
+AreJudged plan ops = AllByRecursion (IsEventJudged plan ops)
 
 -- what is written of an event
 abbrev pub written_of : Event → List ℕ
@@ -174,14 +174,14 @@ pub record Tally : Type 0 where
   pub kept : ℕ
   pub skipped : ℕ
 
-abbrev pub counted : Tally → Event → Tally
-counted t (Kept w text) = record { kept = t.kept + 1; skipped = t.skipped }
-counted t (Skipped name) = record { kept = t.kept; skipped = t.skipped + 1 }
-counted t _ = t
+abbrev pub tally_with : Tally → Event → Tally
+tally_with t (Kept w text) = record { kept = t.kept + 1; skipped = t.skipped }
+tally_with t (Skipped name) = record { kept = t.kept; skipped = t.skipped + 1 }
+tally_with t _ = t
 
 abbrev pub tally_from : Tally → List Event → Tally
 tally_from t [] = t
-tally_from t (event ∷ events) = tally_from (counted t event) events
+tally_from t (event ∷ events) = tally_from (tally_with t event) events
 
 abbrev pub tally : List Event → Tally
 tally = tally_from (record { kept = 0; skipped = 0 })

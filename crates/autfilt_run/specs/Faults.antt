@@ -66,12 +66,12 @@ stop_of_limit AtToken = Elsewhere
 stop_of_limit AtByte = AtMost
 stop_of_limit OfWhole = Elsewhere
 
-abbrev pub stop_of_fault : RunFault → Stop
-stop_of_fault fault.Truncated = AtEnd
-stop_of_fault fault.ReadFault = AtFault
-stop_of_fault (fault.Limit which) = stop_of_limit (when_told which)
-stop_of_fault (fault.SyntaxAt k) = Elsewhere
-stop_of_fault (fault.Invalid rule) = Elsewhere
-stop_of_fault fault.CannotOpen = Elsewhere
-stop_of_fault fault.WriteFault = Elsewhere
-stop_of_fault fault.Memory = Elsewhere
+abbrev pub stop_of_run_fault : RunFault → Stop
+stop_of_run_fault fault.Truncated = AtEnd
+stop_of_run_fault fault.ReadFault = AtFault
+stop_of_run_fault (fault.Limit which) = stop_of_limit (when_told which)
+stop_of_run_fault (fault.SyntaxAt k) = Elsewhere
+stop_of_run_fault (fault.Invalid rule) = Elsewhere
+stop_of_run_fault fault.CannotOpen = Elsewhere
+stop_of_run_fault fault.WriteFault = Elsewhere
+stop_of_run_fault fault.Memory = Elsewhere

@@ -5,7 +5,7 @@ use Rattle.aut_base.specs.Automaton.{Automaton}
 use Rattle.aut_base.specs.CanonicalLabel.{canonical}
 use Rattle.aut_base.specs.declared.limit.TheConstants.{MOST_BYTES}
 use Rattle.aut_io.specs.Outside.{Texts}
-use Rattle.autfilt_run.specs.Events.{IsGood, OpensStream, PassesOver, Point, Stream, place}
+use Rattle.autfilt_run.specs.Events.{IsGood, OpensStream, PassesOver, Point, Stream, bytes_before}
 use Rattle.hoa_parser.specs.Raw.{Written}
 use Rattle.hoa_reader.specs.Described.{described}
 
@@ -19,15 +19,15 @@ pub data OperandEvent : Type 0 where
 
 -- the point where the operand was taken of the open file
 abbrev pub taken_at : Point → Stream → List ℕ → Point
-taken_at p s next = record { coming = p.coming; stream = None; left = Some next; before = p.before + place s.text next; kept = p.kept }
+taken_at p s next = record { coming = p.coming; stream = None; left = Some next; before = p.before + bytes_before s.text next; kept = p.kept }
 
 -- An automaton stands at the rest of the open file, and is taken. No more bytes are taken than may be.
 pub record TakesOperand (w : Written) (p q : Point) : Type 0 where
   pub stream : Stream
   pub is_open : p.stream ≡ Some stream
   pub next : List ℕ
-  pub good : IsGood (place stream.text stream.rest) stream.rest w next
-  pub few : p.before + place stream.text next ≤ MOST_BYTES
+  pub good : IsGood (bytes_before stream.text stream.rest) stream.rest w next
+  pub few : p.before + bytes_before stream.text next ≤ MOST_BYTES
   pub to : q ≡ taken_at p stream next
 
 -- What an event asks of the point before it, and the point behind it.
@@ -46,8 +46,8 @@ abbrev pub operand_of : OperandEvent → List Automaton
 operand_of (Taken w) = canonical (described w) ∷ []
 operand_of _ = []
 
-abbrev pub operands_of : List OperandEvent → List Automaton
-operands_of = flat_map operand_of
+abbrev pub operands_read : List OperandEvent → List Automaton
+operands_read = flat_map operand_of
 
 -- the names of the files that were opened
 abbrev pub opened_file : OperandEvent → List (List ℕ)

@@ -29,7 +29,7 @@ pub record IsOverPrinting (which : Limit) (p : Plan) (ops : List Automaton) (w :
   pub stops : StopsPrinting p.output which p ops (canonical (described w))
 
 -- The automaton is valid and within the limits of reading, but a filter or what is printed passes a limit.
-pub record IsOver (which : Limit) (p : Plan) (ops : List Automaton) (w : Written) : Type 0 where
+pub record IsOverLimit (which : Limit) (p : Plan) (ops : List Automaton) (w : Written) : Type 0 where
   pub valid : IsValid w
   pub within : PassesNone w
   pub over : IsOverFilters which p ops (described w) ⊎ IsOverPrinting which p ops w

@@ -11,12 +11,12 @@ abbrev pub streams_or : List (List ℕ) → Option ℕ → List (List ℕ)
 streams_or streams None = streams
 streams_or streams (Some n) = made_name ∷ []
 
-abbrev pub streams_of : Plan → List (List ℕ)
-streams_of p = streams_or p.streams p.made
+abbrev pub plan_streams : Plan → List (List ℕ)
+plan_streams p = streams_or p.streams p.made
 
 -- all files, in the order in which they are read: those of operands, and then the streams
 abbrev pub files_of : Plan → List (List ℕ)
-files_of p = operands p ++ streams_of p
+files_of p = operands p ++ plan_streams p
 
 -- whether more automata are asked for, once so many were kept
 abbrev pub is_below : Option ℕ → ℕ → Bool
@@ -35,8 +35,8 @@ abbrev pub prints_count : Plan → Bool
 prints_count p = p.count && not p.quiet
 
 -- the name of the file that was tried last, once so many were tried
-abbrev pub name_at : List (List ℕ) → ℕ → List ℕ
-name_at files tried = slice_index_or ([] ∷ files) tried []
+abbrev pub tried_name : List (List ℕ) → ℕ → List ℕ
+tried_name files tried = slice_index_or ([] ∷ files) tried []
 
 -- what is written at the end: this number and a line feed, where it is printed
 abbrev pub count_text : Plan → ℕ → List ℕ

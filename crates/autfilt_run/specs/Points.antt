@@ -1,9 +1,9 @@
 -- Where a session stands in a run.
 use Rattle.std.specs.Prelude.{◌≡◌, ℕ, ◌+◌, Bool, true, false, List, length, map, drop, Option, Some, None}
 use Rattle.aut_base.specs.Automaton.{Automaton}
-use Rattle.aut_core.specs.Core.{automaton_of}
+use Rattle.aut_core.specs.SymbolicAutomata.{automaton_of}
 use Rattle.autfilt_run.specs.Events.{Point, Stream}
-use Rattle.autfilt_run.specs.Plans.{files_of, name_at, streams_of}
+use Rattle.autfilt_run.specs.Plans.{files_of, tried_name, plan_streams}
 use Rattle.autfilt_run.specs.declared.session.Session.{Session}
 use Rattle.filter_plan.specs.Words.{operands}
 
@@ -13,23 +13,23 @@ operands_in s = map automaton_of s.operands
 
 -- the name in hand: that of the file that was tried last
 abbrev pub name_in : Session → List ℕ
-name_in s = name_at (files_of s.plan) s.tried
+name_in s = tried_name (files_of s.plan) s.tried
 
 -- A session stands at the file: none is open, or this one is, and so many bytes of it were taken.
-abbrev pub IsIn : Option Stream → Session → Option (List ℕ) → ℕ → Type 0
-IsIn None s left before = (s.is_open ≡ false) × (s.lexer.taken ≡ before)
-IsIn (Some t) s left before =
+abbrev pub IsInStream : Option Stream → Session → Option (List ℕ) → ℕ → Type 0
+IsInStream None s left before = (s.is_open ≡ false) × (s.lexer.taken ≡ before)
+IsInStream (Some t) s left before =
     (s.is_open ≡ true) × (left ≡ Some t.rest) × (name_in s ≡ t.name) × (s.lexer.since + length t.rest ≡ length t.text) × (s.lexer.taken ≡ before + s.lexer.since)
 
 -- a session stands where a run stands, with this left in the inputs
 pub record IsAt (s : Session) (left : Option (List ℕ)) (p : Point) : Type 0 where
   pub kept : p.kept ≡ s.kept
   pub left_is : p.left ≡ left
-  pub stream : IsIn p.stream s left p.before
+  pub stream : IsInStream p.stream s left p.before
 
 -- the same in the streams
-pub record StandsAt (s : Session) (left : Option (List ℕ)) (p : Point) : Type 0 where
-  pub coming : p.coming ≡ drop s.opened (streams_of s.plan)
+pub record StandsInStreams (s : Session) (left : Option (List ℕ)) (p : Point) : Type 0 where
+  pub coming : p.coming ≡ drop s.opened (plan_streams s.plan)
   pub at : IsAt s left p
 
 -- how many files are open

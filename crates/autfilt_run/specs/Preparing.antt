@@ -4,7 +4,7 @@ use Rattle.aut_io.specs.Outside.{Rose, Texts}
 use Rattle.aut_io.specs.Seen.{Seen}
 use Rattle.autfilt_run.specs.Events.{Point}
 use Rattle.autfilt_run.specs.Openings.{AreOpened, AreTried, WantsFile}
-use Rattle.autfilt_run.specs.OperandEvents.{AreRead, OperandEvent, PassedOver, all_passed, file_open_after, opened_files, operands_of}
+use Rattle.autfilt_run.specs.OperandEvents.{AreRead, OperandEvent, PassedOver, all_passed, file_open_after, opened_files, operands_read}
 use Rattle.autfilt_run.specs.Points.{StandsIn, name_in, open_count, operands_in}
 use Rattle.autfilt_run.specs.Runs.{IsCounted, StopsInOperands}
 use Rattle.autfilt_run.specs.declared.fault.RunFault.{RunFault}
@@ -19,8 +19,8 @@ abbrev pub opened_names : Session → List (List ℕ)
 opened_names s = take (length s.operands + open_count s.is_open) (operands s.plan)
 
 -- The events happened, each file was opened once, and no count of faults rose.
-pub record HasRead (events : List OperandEvent) (old new : Session) (seen seen' : Seen) : Type 0 where
-  pub operands : operands_in new ≡ operands_in old ++ operands_of events
+pub record HasReadOperands (events : List OperandEvent) (old new : Session) (seen seen' : Seen) : Type 0 where
+  pub operands : operands_in new ≡ operands_in old ++ operands_read events
   -- where the inputs tell their texts
   pub happened : (texts : Texts) → seen.texts ≡ Some texts → (p : Point) → StandsIn old seen.left p → (q : Point) × AreRead texts events p q × StandsIn new seen'.left q
   pub named : opened_names new ≡ opened_names old ++ opened_files events
@@ -31,9 +31,9 @@ pub record HasRead (events : List OperandEvent) (old new : Session) (seen seen' 
   pub texts : seen'.texts ≡ seen.texts
 
 -- All operands were read, and none was passed over in this call.
-pub record IsReady (old new : Session) (seen seen' : Seen) : Type 0 where
+pub record HasAllOperands (old new : Session) (seen seen' : Seen) : Type 0 where
   pub events : List OperandEvent
-  pub read : HasRead events old new seen seen'
+  pub read : HasReadOperands events old new seen seen'
   pub passed : all_passed events ≡ []
   pub all : length new.operands ≡ length (operands new.plan)
   pub skipped : new.skipped ≡ old.skipped
@@ -42,7 +42,7 @@ pub record IsReady (old new : Session) (seen seen' : Seen) : Type 0 where
 -- behind it: that is the last event, and the file is still open.
 pub record HasSkipped (old new : Session) (seen seen' : Seen) : Type 0 where
   pub before : List OperandEvent
-  pub read : HasRead (before ++ PassedOver (name_in new) ∷ []) old new seen seen'
+  pub read : HasReadOperands (before ++ PassedOver (name_in new) ∷ []) old new seen seen'
   pub passed : all_passed before ≡ []
   pub still_open : new.is_open ≡ true
   pub rises : old.lexer.taken < new.lexer.taken
@@ -71,6 +71,6 @@ pub record FailsToPrepare (f : RunFault) (old new : Session) (seen seen' : Seen)
   pub openings : AreTried f (WantsOperand old events) (length (opened_files events)) seen seen'
 
 abbrev pub Prepares : Result Prep RunFault → Session → Session → Seen → Seen → Type 0
-Prepares (Ok Ready) = IsReady
+Prepares (Ok Ready) = HasAllOperands
 Prepares (Ok Skipped) = HasSkipped
 Prepares (Err f) = FailsToPrepare f

@@ -3,15 +3,15 @@ use Rattle.std.specs.Prelude.{◌≡◌, ℕ, ◌+◌, ◌≤◌, ◌⊎◌, tru
 use Rattle.aut_base.specs.Automaton.{Automaton}
 use Rattle.aut_base.specs.declared.limit.Limit.{Limit}
 use Rattle.aut_base.specs.declared.limit.TheConstants.{MOST_BYTES}
-use Rattle.autfilt_run.specs.Events.{Point, Stream, place}
-use Rattle.autfilt_run.specs.Faults.{Told, AtToken, AtByte, OfWhole, stop_of_fault, when_told}
-use Rattle.autfilt_run.specs.Over.{IsOver}
+use Rattle.autfilt_run.specs.Events.{Point, Stream, bytes_before}
+use Rattle.autfilt_run.specs.Faults.{Told, AtToken, AtByte, OfWhole, stop_of_run_fault, when_told}
+use Rattle.autfilt_run.specs.Over.{IsOverLimit}
 use Rattle.autfilt_run.specs.Plans.{asks_on}
 use Rattle.autfilt_run.specs.declared.fault.RunFault.{RunFault}
 use Rattle.autfilt_run.specs.declared.fault.RunFault.TheVariants as fault
 use Rattle.filter_plan.specs.declared.plan.Plan.{Plan}
 use Rattle.hoa_lexer.specs.Blanks.{IsBlanks}
-use Rattle.hoa_lexer.specs.Moves.{IsWithin}
+use Rattle.hoa_lexer.specs.Moves.{IsWithinByteLimit}
 use Rattle.hoa_lexer.specs.Reading.{unread}
 use Rattle.hoa_parser.specs.Raw.{Written}
 use Rattle.hoa_parser.specs.Reads.{AskedForLast, AsksOn, EndsDeep, IsHopeless, MayHaveBegun}
@@ -61,20 +61,20 @@ StopsAtLimit AtByte passes start rest left = AsksOn start rest left
 StopsAtLimit OfWhole passes start rest left = StandsWith passes start rest left
 
 -- `over` tells which limits are passed behind the reader.
-abbrev pub StopsAt : (Limit → Written → Type 0) → RunFault → ℕ → List ℕ → List ℕ → Type 0
-StopsAt over (fault.SyntaxAt k) start rest left = IsSyntaxFault k start rest left
-StopsAt over fault.Truncated start rest left = IsTruncated start rest left
-StopsAt over (fault.Invalid rule) start rest left = StandsWith (IsFirstBroken rule) start rest left
-StopsAt over (fault.Limit which) start rest left = StopsAtLimit (when_told which) (λ w. PassesLimit which w ⊎ over which w) start rest left
-StopsAt over fault.ReadFault start rest left = AsksOn start rest left
-StopsAt over fault.Memory start rest left = WantsMemory start rest left
-StopsAt over fault.CannotOpen start rest left = ⊥
-StopsAt over fault.WriteFault start rest left = ⊥
+abbrev pub StopsReading : (Limit → Written → Type 0) → RunFault → ℕ → List ℕ → List ℕ → Type 0
+StopsReading over (fault.SyntaxAt k) start rest left = IsSyntaxFault k start rest left
+StopsReading over fault.Truncated start rest left = IsTruncated start rest left
+StopsReading over (fault.Invalid rule) start rest left = StandsWith (IsFirstBroken rule) start rest left
+StopsReading over (fault.Limit which) start rest left = StopsAtLimit (when_told which) (λ w. PassesLimit which w ⊎ over which w) start rest left
+StopsReading over fault.ReadFault start rest left = AsksOn start rest left
+StopsReading over fault.Memory start rest left = WantsMemory start rest left
+StopsReading over fault.CannotOpen start rest left = ⊥
+StopsReading over fault.WriteFault start rest left = ⊥
 
 -- The same where an operand is read. There has to be one: only blanks are too little, too.
 abbrev pub StopsAtOperand : RunFault → ℕ → List ℕ → List ℕ → Type 0
 StopsAtOperand fault.Truncated start rest left = IsTruncated start rest left ⊎ IsAllRead rest left
-StopsAtOperand f start rest left = StopsAt (λ which w. ⊥) f start rest left
+StopsAtOperand f start rest left = StopsReading (λ which w. ⊥) f start rest left
 
 -- ---- the ends of a run
 
@@ -98,7 +98,7 @@ pub record AtStream (on : Type 0) (p : Point) (left : Option (List ℕ)) (stops 
   pub is_open : p.stream ≡ Some stream
   pub now : List ℕ
   pub told : left ≡ Some now
-  pub stands : stops (place stream.text stream.rest) stream.rest now
+  pub stands : stops (bytes_before stream.text stream.rest) stream.rest now
 
 -- the open file is that of this name
 pub record AtNamed (on : Type 0) (p : Point) (name : List ℕ) (left : Option (List ℕ)) (stops : ℕ → List ℕ → List ℕ → Type 0) : Type 0 where
@@ -118,8 +118,8 @@ StopsWhere on stops fault.Memory name p left = LacksMemory on p left
 StopsWhere on stops f name p left = AtNamed on p name left (stops f)
 
 -- in the streams of a plan, whose operands these are: more automata are asked for
-abbrev pub Stops : Plan → List Automaton → RunFault → List ℕ → Point → Option (List ℕ) → Type 0
-Stops plan ops f name p left = StopsWhere (asks_on plan p.kept ≡ true) (StopsAt (λ which w. IsOver which plan ops w)) f name p left
+abbrev pub StopsRun : Plan → List Automaton → RunFault → List ℕ → Point → Option (List ℕ) → Type 0
+StopsRun plan ops f name p left = StopsWhere (asks_on plan p.kept ≡ true) (StopsReading (λ which w. IsOverLimit which plan ops w)) f name p left
 
 -- in the files of its operands
 abbrev pub StopsInOperands : RunFault → List ℕ → Point → Option (List ℕ) → Type 0
@@ -127,13 +127,13 @@ StopsInOperands f name p left = StopsWhere (Unit {0}) StopsAtOperand f name p le
 
 -- how many bytes were taken of the streams, where the run stands here and so much is left
 abbrev pub taken_in : Option Stream → Option (List ℕ) → ℕ
-taken_in (Some s) (Some now) = place s.text now
+taken_in (Some s) (Some now) = bytes_before s.text now
 taken_in _ _ = 0
 
-abbrev pub taken_of : Point → Option (List ℕ) → ℕ
-taken_of p left = p.before + taken_in p.stream left
+abbrev pub taken_until : Point → Option (List ℕ) → ℕ
+taken_until p left = p.before + taken_in p.stream left
 
 -- no more bytes were taken than may be; and all of them exactly where one more is asked for
 pub record IsCounted (f : RunFault) (p : Point) (left : Option (List ℕ)) : Type 0 where
-  pub few : taken_of p left ≤ MOST_BYTES
-  pub within : IsWithin (stop_of_fault f) (taken_of p left) MOST_BYTES
+  pub few : taken_until p left ≤ MOST_BYTES
+  pub within : IsWithinByteLimit (stop_of_run_fault f) (taken_until p left) MOST_BYTES

@@ -6,17 +6,17 @@ use Rattle.aut_io.specs.Outside.{Gains, GainsPrefix, Rose}
 use Rattle.aut_io.specs.Seen.{Opens, Seen, SinkSeen}
 use Rattle.autfilt_run.specs.Due.{IsDue}
 use Rattle.autfilt_run.specs.Events.{IsGood}
-use Rattle.autfilt_run.specs.Faults.{stop_of_fault}
-use Rattle.autfilt_run.specs.Over.{IsOver}
-use Rattle.autfilt_run.specs.Plans.{asks_on, prints_each, streams_of}
+use Rattle.autfilt_run.specs.Faults.{stop_of_run_fault}
+use Rattle.autfilt_run.specs.Over.{IsOverLimit}
+use Rattle.autfilt_run.specs.Plans.{asks_on, prints_each, plan_streams}
 use Rattle.autfilt_run.specs.Points.{name_in, operands_in}
-use Rattle.autfilt_run.specs.Runs.{IsAllRead, StopsAt, WantsMemory}
+use Rattle.autfilt_run.specs.Runs.{IsAllRead, StopsReading, WantsMemory}
 use Rattle.autfilt_run.specs.declared.fault.RunFault.{RunFault}
 use Rattle.autfilt_run.specs.declared.fault.RunFault.TheVariants as fault
 use Rattle.autfilt_run.specs.declared.session.Session.{Session}
 use Rattle.autfilt_run.specs.declared.session.Turn.{Turn}
 use Rattle.autfilt_run.specs.declared.session.Turn.TheVariants as turn
-use Rattle.hoa_lexer.specs.Moves.{Moves, Stop, AtEnd, Elsewhere}
+use Rattle.hoa_lexer.specs.Moves.{MovesLexer, Stop, AtEnd, Elsewhere}
 use Rattle.hoa_lexer.specs.Reading.{Between}
 use Rattle.hoa_parser.specs.Raw.{Written}
 use Rattle.hoa_parser.specs.Standing.{Aborted, Stands}
@@ -48,11 +48,11 @@ pub record IsReading (s : Session) : Type 0 where
 pub record IsOpening (s : Session) (name : List ℕ) : Type 0 where
   pub asks : asks s ≡ true
   pub is_closed : s.is_open ≡ false
-  pub named : slice_get (streams_of s.plan) s.opened ≡ Some name
+  pub named : slice_get (plan_streams s.plan) s.opened ≡ Some name
 
 -- The count that was asked for is reached, or there is nothing left to read.
 abbrev pub IsDoneWith : Session → Type 0
-IsDoneWith s = (asks s ≡ false) ⊎ ((s.is_open ≡ false) × (s.opened ≡ length (streams_of s.plan)))
+IsDoneWith s = (asks s ≡ false) ⊎ ((s.is_open ≡ false) × (s.opened ≡ length (plan_streams s.plan)))
 
 -- ---- the outside of a step
 
@@ -67,15 +67,15 @@ OpensNext seen name (Err opening.Memory) seen' = (seen' ≡ seen) ⊎ Opens seen
 OpensNext seen name r seen' = Opens seen name r seen'
 
 -- What is read, with what stands in the inputs before and after. Nothing is written.
-pub record Reads (stop : Stop) (stands : List ℕ → List ℕ → Type 0) (old new : Session) (seen seen' : Seen) (out out' : SinkSeen) : Type 0 where
+pub record ReadsInputs (stop : Stop) (stands : List ℕ → List ℕ → Type 0) (old new : Session) (seen seen' : Seen) (out out' : SinkSeen) : Type 0 where
   pub reading : IsReading old
   pub in_hand : new.tried ≡ old.tried
   pub read : Between seen.left seen'.left stands
-  pub moves : Moves stop old.lexer new.lexer seen seen'
+  pub moves : MovesLexer stop old.lexer new.lexer seen seen'
   pub output : out' ≡ out
 
 -- An automaton was read and kept, and the text that is due of it was written.
-pub record Keeps (old new : Session) (seen seen' : Seen) (out out' : SinkSeen) : Type 0 where
+pub record KeepsAutomaton (old new : Session) (seen seen' : Seen) (out out' : SinkSeen) : Type 0 where
   pub reading : IsReading old
   pub in_hand : new.tried ≡ old.tried
   pub automaton : Written
@@ -83,7 +83,7 @@ pub record Keeps (old new : Session) (seen seen' : Seen) (out out' : SinkSeen) :
   pub read : Between seen.left seen'.left (λ rest next. IsGood old.lexer.since rest automaton next)
   pub kept : IsKept old.plan (operands_in old) (described automaton)
   pub due : IsDue old.plan (operands_in old) automaton text
-  pub moves : Moves Elsewhere old.lexer new.lexer seen seen'
+  pub moves : MovesLexer Elsewhere old.lexer new.lexer seen seen'
   pub gains : Gains out.written out'.written text
   pub writes : out'.faults ≡ out.faults
 
@@ -97,7 +97,7 @@ pub record KeepsInPart (old new : Session) (seen seen' : Seen) (out out' : SinkS
   pub read : Between seen.left seen'.left (λ rest next. IsGood old.lexer.since rest automaton next)
   pub kept : IsKept old.plan (operands_in old) (described automaton)
   pub due : IsDue old.plan (operands_in old) automaton text
-  pub moves : Moves Elsewhere old.lexer new.lexer seen seen'
+  pub moves : MovesLexer Elsewhere old.lexer new.lexer seen seen'
   pub gains : GainsPrefix out.written out'.written text
   pub writes : Rose out.faults out'.faults
 
@@ -105,21 +105,21 @@ pub record KeepsInPart (old new : Session) (seen seen' : Seen) (out out' : SinkS
 pub record Drops (old new : Session) (seen seen' : Seen) (out out' : SinkSeen) : Type 0 where
   pub automaton : Written
   pub dropped : IsDropped old.plan (operands_in old) (described automaton)
-  pub reads : Reads Elsewhere (λ rest next. IsGood old.lexer.since rest automaton next) old new seen seen' out out'
+  pub reads : ReadsInputs Elsewhere (λ rest next. IsGood old.lexer.since rest automaton next) old new seen seen' out out'
 
 -- A new text begins for the lexer.
-pub record Begins (old new : Session) : Type 0 where
+pub record BeginsText (old new : Session) : Type 0 where
   pub most : new.lexer.most ≡ old.lexer.most
   pub taken : new.lexer.taken ≡ old.lexer.taken
   pub since : new.lexer.since ≡ 0
 
 -- The next stream is tried. Nothing is written.
-pub record Tries (r : Result (Unit {0}) OpenFail) (old new : Session) (seen seen' : Seen) (out out' : SinkSeen) : Type 0 where
+pub record TriesStream (r : Result (Unit {0}) OpenFail) (old new : Session) (seen seen' : Seen) (out out' : SinkSeen) : Type 0 where
   pub name : List ℕ
   pub opening : IsOpening old name
   pub in_hand : name_in new ≡ name
   pub opens : OpensNext seen name r seen'
-  pub begins : Begins old new
+  pub begins : BeginsText old new
   pub output : out' ≡ out
 
 -- ---- the answers
@@ -127,54 +127,54 @@ pub record Tries (r : Result (Unit {0}) OpenFail) (old new : Session) (seen seen
 -- what a turn says
 abbrev pub Turns : Turn → Session → Session → Seen → Seen → SinkSeen → SinkSeen → Type 0
 Turns turn.Done old new seen seen' out out' = IsDoneWith old × IsStill seen seen' out out' × (new.tried ≡ old.tried)
-Turns turn.Opened old new seen seen' out out' = Tries (Ok tt) old new seen seen' out out'
-Turns turn.StreamEnd old new seen seen' out out' = Reads AtEnd IsAllRead old new seen seen' out out'
-Turns turn.Kept old new seen seen' out out' = Keeps old new seen seen' out out'
+Turns turn.Opened old new seen seen' out out' = TriesStream (Ok tt) old new seen seen' out out'
+Turns turn.StreamEnd old new seen seen' out out' = ReadsInputs AtEnd IsAllRead old new seen seen' out out'
+Turns turn.Kept old new seen seen' out out' = KeepsAutomaton old new seen seen' out out'
 Turns turn.Dropped old new seen seen' out out' = Drops old new seen seen' out out'
-Turns turn.Skipped old new seen seen' out out' = Reads Elsewhere (λ rest next. Stands (Aborted next) old.lexer.since rest) old new seen seen' out out'
+Turns turn.Skipped old new seen seen' out out' = ReadsInputs Elsewhere (λ rest next. Stands (Aborted next) old.lexer.since rest) old new seen seen' out out'
 
 -- what a fault says
-abbrev pub Fails : RunFault → Session → Session → Seen → Seen → SinkSeen → SinkSeen → Type 0
-Fails fault.CannotOpen old new seen seen' out out' = Tries (Err opening.Failed) old new seen seen' out out'
-Fails fault.WriteFault old new seen seen' out out' = KeepsInPart old new seen seen' out out'
-Fails fault.Memory old new seen seen' out out' =
-    Tries (Err opening.Memory) old new seen seen' out out' ⊎ Reads Elsewhere (WantsMemory old.lexer.since) old new seen seen' out out'
-Fails f old new seen seen' out out' = Reads (stop_of_fault f) (StopsAt (λ which w. IsOver which old.plan (operands_in old) w) f old.lexer.since) old new seen seen' out out'
+abbrev pub FailsAfter : RunFault → Session → Session → Seen → Seen → SinkSeen → SinkSeen → Type 0
+FailsAfter fault.CannotOpen old new seen seen' out out' = TriesStream (Err opening.Failed) old new seen seen' out out'
+FailsAfter fault.WriteFault old new seen seen' out out' = KeepsInPart old new seen seen' out out'
+FailsAfter fault.Memory old new seen seen' out out' =
+    TriesStream (Err opening.Memory) old new seen seen' out out' ⊎ ReadsInputs Elsewhere (WantsMemory old.lexer.since) old new seen seen' out out'
+FailsAfter f old new seen seen' out out' = ReadsInputs (stop_of_run_fault f) (StopsReading (λ which w. IsOverLimit which old.plan (operands_in old) w) f old.lexer.since) old new seen seen' out out'
 
-abbrev pub Steps : Result Turn RunFault → Session → Session → Seen → Seen → SinkSeen → SinkSeen → Type 0
-Steps (Ok t) = Turns t
-Steps (Err f) = Fails f
+abbrev pub StepsSession : Result Turn RunFault → Session → Session → Seen → Seen → SinkSeen → SinkSeen → Type 0
+StepsSession (Ok t) = Turns t
+StepsSession (Err f) = FailsAfter f
 
 -- where an automaton is read, bytes are taken, also where the inputs don't tell what is left
 abbrev pub Rises : Turn → ℕ → ℕ → Type 0
-Rises turn.Kept before after = before < after
-Rises turn.Dropped before after = before < after
-Rises turn.Skipped before after = before < after
-Rises _ before after = Unit {0}
+Rises turn.Kept before progress_after = before < progress_after
+Rises turn.Dropped before progress_after = before < progress_after
+Rises turn.Skipped before progress_after = before < progress_after
+Rises _ before progress_after = Unit {0}
 
 -- how far the session has come after a turn
-abbrev pub after : Turn → Progress → Progress
-after turn.Done p = p
-after turn.Opened p = record p { opened = p.opened + 1; is_open = true }
-after turn.StreamEnd p = record p { is_open = false }
-after turn.Kept p = record p { kept = p.kept + 1 }
-after turn.Dropped p = p
-after turn.Skipped p = record p { skipped = p.skipped + 1 }
+abbrev pub progress_after : Turn → Progress → Progress
+progress_after turn.Done p = p
+progress_after turn.Opened p = record p { opened = p.opened + 1; is_open = true }
+progress_after turn.StreamEnd p = record p { is_open = false }
+progress_after turn.Kept p = record p { kept = p.kept + 1 }
+progress_after turn.Dropped p = p
+progress_after turn.Skipped p = record p { skipped = p.skipped + 1 }
 
 -- One step, whatever it answers: what happened, and what is so of the session behind it. A fault changes no count.
 pub record IsStep (r : Result Turn RunFault) (old new : Session) (seen seen' : Seen) (out out' : SinkSeen) : Type 0 where
-  pub steps : Steps r old new seen seen' out out'
+  pub steps : StepsSession r old new seen seen' out out'
   pub plan : new.plan ≡ old.plan
   pub operands : new.operands ≡ old.operands
   pub most : new.lexer.most ≡ old.lexer.most
   pub rises : IfOk r (λ turn. Rises turn old.lexer.taken new.lexer.taken)
-  pub counts : IfOk r (λ turn. progress new ≡ after turn (progress old))
+  pub counts : IfOk r (λ turn. progress new ≡ progress_after turn (progress old))
   pub failed : OnErr r (progress new ≡ progress old)
   pub spent : OnOk r (new.lexer.spent ≡ false)
   pub held : OnOk r (new.lexer.held ≡ None)
 
 -- The text of the count, where it is due, was written, or a part of it.
-abbrev pub Finishes : Result (Unit {0}) RunFault → List ℕ → SinkSeen → SinkSeen → Type 0
-Finishes (Ok done) text out out' = Gains out.written out'.written text × (out'.faults ≡ out.faults)
-Finishes (Err fault.WriteFault) text out out' = GainsPrefix out.written out'.written text × Rose out.faults out'.faults
-Finishes (Err f) text out out' = ⊥
+abbrev pub WritesCount : Result (Unit {0}) RunFault → List ℕ → SinkSeen → SinkSeen → Type 0
+WritesCount (Ok done) text out out' = Gains out.written out'.written text × (out'.faults ≡ out.faults)
+WritesCount (Err fault.WriteFault) text out out' = GainsPrefix out.written out'.written text × Rose out.faults out'.faults
+WritesCount (Err f) text out out' = ⊥

@@ -2,7 +2,7 @@
 
 ghost use Rattle.std.specs.Prelude.{◌≡◌, ◌++◌, IfOk, IfSome, OnOk, length};
 ghost use Rattle.std.specs.Fmt.{decimal};
-ghost use Rattle.aut_core.specs.Core.{automaton_of};
+ghost use Rattle.aut_core.specs.SymbolicAutomata.{automaton_of};
 ghost use Rattle.aut_ops.specs.Trimming.{IsReachedSize};
 ghost use Rattle.autfilt_run.specs.Figures.{IsLine, IsShownAs, ShowsReached};
 ghost use Rattle.filter_plan.specs.declared.format.Piece.TheVariants as piece;

@@ -2,12 +2,12 @@
 
 ghost use Rattle.std.specs.Prelude.{◌≡◌, if◌then◌else◌, map, true, None};
 ghost use Rattle.std.specs.Option.{option_copied};
-ghost use Rattle.aut_core.specs.Core.{automaton_of};
+ghost use Rattle.aut_core.specs.SymbolicAutomata.{automaton_of};
 ghost use Rattle.autfilt_run.specs.Plans.{prints_each};
 ghost use Rattle.autfilt_run.specs.inner.Handling.{Handles, PrintsOrStops};
 ghost use Rattle.filter_plan.specs.Words.{changes};
 ghost use Rattle.hoa_parser.specs.Raw.{written};
-ghost use Rattle.plan_meaning.specs.Complements.{AreKept};
+ghost use Rattle.plan_meaning.specs.Complements.{AreComplementsKept};
 ghost use Rattle.plan_meaning.specs.Operands.{AreOperands, IsOfReadSize};
 
 use crate::fault::RunFault;
@@ -34,9 +34,9 @@ pub(crate) fn handle<W: Sink>(
     out: &mut W,
 ) -> Result<bool, RunFault>
     requires operands { AreOperands plan.now (map automaton_of operands.now) }
-    requires kept { AreKept plan.now (map automaton_of operands.now) complements.old }
+    requires kept { AreComplementsKept plan.now (map automaton_of operands.now) complements.old }
     ensures handles { Handles result plan.now (map automaton_of operands.now) (written raw) (W.seen out.old) (W.seen out.new) }
-    ensures kept { AreKept plan.now (map automaton_of operands.now) complements.new }
+    ensures kept { AreComplementsKept plan.now (map automaton_of operands.now) complements.new }
 {
     let read = automaton_taken(alloc, raw)?;
     let automaton = read.automaton;
@@ -73,9 +73,9 @@ fn printed(
 ) -> Result<Text, PlanFault>
     requires operands { AreOperands plan.now (map automaton_of operands.now) }
     requires size { IsOfReadSize (automaton_of a) }
-    requires kept { AreKept plan.now (map automaton_of operands.now) complements.old }
+    requires kept { AreComplementsKept plan.now (map automaton_of operands.now) complements.old }
     ensures prints { PrintsOrStops result plan.now.output plan.now (map automaton_of operands.now) (automaton_of a) (option_copied name.entry) }
-    ensures kept { AreKept plan.now (map automaton_of operands.now) complements.new }
+    ensures kept { AreComplementsKept plan.now (map automaton_of operands.now) complements.new }
 {
     match &plan.output {
         Output::Hoa => {

@@ -3,7 +3,7 @@
 ghost use Rattle.std.specs.Prelude.{◌≡◌, ◌<◌, ◌≤◌, ◌++◌, [], List, ℕ, length};
 ghost use Rattle.std.specs.List.{slice_index_or};
 ghost use Rattle.filter_plan.specs.Table.{refuted};
-ghost use Rattle.filter_plan.specs.Words.{listed, operands};
+ghost use Rattle.filter_plan.specs.Words.{file_list, operands};
 
 use aut_base::Text;
 use filter_plan::{Output, Plan, file_count};
@@ -41,8 +41,8 @@ pub(crate) fn operand_file(plan: &Plan, place: usize) -> &Text
 
 /// The same, from the operand of the first operation on.
 fn combined_file(plan: &Plan, place: usize) -> &Text
-    requires { place < length (listed plan.now.product ++ (listed plan.now.product_or ++ (listed plan.now.sum ++ listed (refuted plan.now.output)))) }
-    ensures { result.now ≡ slice_index_or (listed plan.now.product ++ (listed plan.now.product_or ++ (listed plan.now.sum ++ listed (refuted plan.now.output)))) place [] }
+    requires { place < length (file_list plan.now.product ++ (file_list plan.now.product_or ++ (file_list plan.now.sum ++ file_list (refuted plan.now.output)))) }
+    ensures { result.now ≡ slice_index_or (file_list plan.now.product ++ (file_list plan.now.product_or ++ (file_list plan.now.sum ++ file_list (refuted plan.now.output)))) place [] }
 {
     if place < file_count(&plan.product) {
         return file_of(&plan.product);
@@ -60,8 +60,8 @@ fn combined_file(plan: &Plan, place: usize) -> &Text
 
 /// The file that there is.
 fn file_of(file: &Option<Text>) -> &Text
-    requires { 0 < length (listed file.now) }
-    ensures { (rest : List (List ℕ)) → slice_index_or (listed file.now ++ rest) 0 [] ≡ result.now }
+    requires { 0 < length (file_list file.now) }
+    ensures { (rest : List (List ℕ)) → slice_index_or (file_list file.now ++ rest) 0 [] ≡ result.now }
 {
     match file {
         Some(file) => file,
@@ -71,7 +71,7 @@ fn file_of(file: &Option<Text>) -> &Text
 
 /// 1 where a refutation is printed.
 fn refuted_count(output: &Output) -> usize
-    ensures number { result ≡ length (listed (refuted output.now)) }
+    ensures number { result ≡ length (file_list (refuted output.now)) }
     ensures few { result ≤ 1 }
 {
     match output {
@@ -82,8 +82,8 @@ fn refuted_count(output: &Output) -> usize
 
 /// The file of the refutation that is printed.
 fn refuted_file(output: &Output) -> &Text
-    requires { 0 < length (listed (refuted output.now)) }
-    ensures { result.now ≡ slice_index_or (listed (refuted output.now)) 0 [] }
+    requires { 0 < length (file_list (refuted output.now)) }
+    ensures { result.now ≡ slice_index_or (file_list (refuted output.now)) 0 [] }
 {
     match output {
         Output::Refute(file) => file,

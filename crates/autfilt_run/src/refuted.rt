@@ -1,10 +1,10 @@
 //! The line of a refutation.
 
 ghost use Rattle.std.specs.Prelude.{◌≡◌, ◌++◌, All, IfOk, codes, is_some, map, true};
-ghost use Rattle.aut_core.specs.Core.{automaton_of};
+ghost use Rattle.aut_core.specs.SymbolicAutomata.{automaton_of};
 ghost use Rattle.autfilt_run.specs.inner.Handling.{TellsRefutation};
 ghost use Rattle.filter_plan.specs.Table.{refuted};
-ghost use Rattle.plan_meaning.specs.Complements.{AreKept};
+ghost use Rattle.plan_meaning.specs.Complements.{AreComplementsKept};
 ghost use Rattle.plan_meaning.specs.Operands.{AreOperands, IsOfReadSize};
 ghost use Rattle.word_syntax.specs.Printing.{HoldsOnly, word_text};
 
@@ -27,9 +27,9 @@ pub(crate) fn refutation_line(
     requires refutes { is_some (refuted plan.now.output) ≡ true }
     requires operands { AreOperands plan.now (map automaton_of operands.now) }
     requires size { IsOfReadSize (automaton_of a.now) }
-    requires kept { AreKept plan.now (map automaton_of operands.now) complements.old }
+    requires kept { AreComplementsKept plan.now (map automaton_of operands.now) complements.old }
     ensures tells { TellsRefutation result plan.now (map automaton_of operands.now) (automaton_of a.now) }
-    ensures kept { AreKept plan.now (map automaton_of operands.now) complements.new }
+    ensures kept { AreComplementsKept plan.now (map automaton_of operands.now) complements.new }
 {
     match refute(alloc, plan, operands, complements, a)? {
         Some(found) => Ok(word_line(alloc, &found)?),

@@ -2,8 +2,8 @@
 
 ghost use Rattle.std.specs.Prelude.{◌≡◌, ◌+◌, ◌<◌, ◌≤◌, ◌⊎◌, All, None, false, length, map, true};
 ghost use Rattle.aut_base.specs.declared.limit.TheConstants.{MOST_BYTES};
-ghost use Rattle.aut_core.specs.Core.{automaton_of};
-ghost use Rattle.autfilt_run.specs.Plans.{files_of, streams_of};
+ghost use Rattle.aut_core.specs.SymbolicAutomata.{automaton_of};
+ghost use Rattle.autfilt_run.specs.Plans.{files_of, plan_streams};
 ghost use Rattle.autfilt_run.specs.declared.session.Stage.{Stage};
 ghost use Rattle.filter_plan.specs.Words as words;
 ghost use Rattle.plan_meaning.specs.Operands.{IsOfReadSize};
@@ -77,7 +77,7 @@ pub struct Session {
     kept: u64,
     skipped: u64,
     stage: Stage,
-    ghost opened_within: { opened ≤ length (streams_of plan) },
+    ghost opened_within: { opened ≤ length (plan_streams plan) },
     ghost tried_within: { tried ≤ length (files_of plan) },
     ghost read_within: { length operands ≤ length (words.operands plan) },
     ghost next_within: { stage ≡ Stage.New → is_open ≡ true → length operands < length (words.operands plan) },
@@ -98,9 +98,9 @@ impl Session {
     ghost use Rattle.autfilt_run.specs.Plans.{count_text, prints_count};
     ghost use Rattle.autfilt_run.specs.Points.{name_in, operands_in};
     ghost use Rattle.autfilt_run.specs.Preparing.{Prepares};
-    ghost use Rattle.autfilt_run.specs.Turns.{Finishes, IsStep, progress};
+    ghost use Rattle.autfilt_run.specs.Turns.{WritesCount, IsStep, progress};
     ghost use Rattle.autfilt_run.specs.declared.fault.RunFault.TheVariants as run_fault;
-    ghost use Rattle.plan_meaning.specs.Complements.{AreKept};
+    ghost use Rattle.plan_meaning.specs.Complements.{AreComplementsKept};
     ghost use Rattle.autfilt_run.specs.declared.session.Prep.TheVariants as prep;
 
     /// A session for a plan, which may take 2^40 bytes.
@@ -171,12 +171,12 @@ impl Session {
         out: &mut W,
     ) -> Result<Turn, RunFault>
         requires stage { self.old.stage ≡ Stage.Prepared }
-        requires names { All I.may_open (streams_of self.old.plan) }
-        requires kept { AreKept self.old.plan (operands_in self.old) complements.old }
+        requires names { All I.may_open (plan_streams self.old.plan) }
+        requires kept { AreComplementsKept self.old.plan (operands_in self.old) complements.old }
 
         // What happened, outside and to the session.
         ensures step { IsStep result self.old self.new (I.seen inputs.old) (I.seen inputs.new) (W.seen out.old) (W.seen out.new) }
-        ensures kept { AreKept self.old.plan (operands_in self.old) complements.new }
+        ensures kept { AreComplementsKept self.old.plan (operands_in self.old) complements.new }
 
         // What may be done with it next.
         ensures prepared { IfOk result (λ turn. turn ≢ Turn.Done → self.new.stage ≡ Stage.Prepared) }
@@ -195,7 +195,7 @@ impl Session {
     /// Where only the number of automata is asked for, writes how many were kept, and a line feed.
     pub fn finish<W: Sink>(&mut self, out: &mut W) -> Result<(), RunFault>
         requires { self.old.stage ≡ Stage.Done }
-        ensures finishes { Finishes result (count_text self.old.plan self.old.kept) (W.seen out.old) (W.seen out.new) }
+        ensures finishes { WritesCount result (count_text self.old.plan self.old.kept) (W.seen out.old) (W.seen out.new) }
         ensures due { IsErrOf result run_fault.WriteFault → prints_count self.old.plan ≡ true }
         ensures stage { self.new.stage ≡ Stage.Over }
         ensures plan { self.new.plan ≡ self.old.plan }

@@ -2,7 +2,7 @@
 
 ghost use Rattle.std.specs.Prelude.{◌≡◌, ◌<◌, [], All, length};
 ghost use Rattle.std.specs.List.{slice_index_or};
-ghost use Rattle.autfilt_run.specs.Plans.{files_of, streams_of};
+ghost use Rattle.autfilt_run.specs.Plans.{files_of, plan_streams};
 ghost use Rattle.autfilt_run.specs.Turns.{OpensNext};
 
 use crate::operand_files::{operand_count, operand_file};
@@ -13,7 +13,7 @@ use std::alloc::Global;
 
 /// How many streams the plan has.
 pub(crate) fn stream_count(plan: &Plan) -> usize
-    ensures { result ≡ length (streams_of plan.now) }
+    ensures { result ≡ length (plan_streams plan.now) }
 {
     match plan.made {
         Some(_) => 1,
@@ -28,9 +28,9 @@ pub(crate) fn open_stream<I: Inputs>(
     place: usize,
     inputs: &mut I,
 ) -> Result<(), OpenFail>
-    requires place { place < length (streams_of plan.now) }
-    requires names { All I.may_open (streams_of plan.now) }
-    ensures { OpensNext (I.seen inputs.old) (slice_index_or (streams_of plan.now) place []) result (I.seen inputs.new) }
+    requires place { place < length (plan_streams plan.now) }
+    requires names { All I.may_open (plan_streams plan.now) }
+    ensures { OpensNext (I.seen inputs.old) (slice_index_or (plan_streams plan.now) place []) result (I.seen inputs.new) }
 {
     if plan.made.is_none() {
         return inputs.open(plan.streams.at(place));

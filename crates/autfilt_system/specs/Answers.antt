@@ -16,7 +16,7 @@ use Rattle.autfilt_command.specs.declared.ended.Ended.TheVariants as ended
 use Rattle.autfilt_run.specs.declared.fault.RunFault.TheVariants as fault
 
 -- a run of the words, whose status is that of the answer
-pub record Runs (words : List (List ℕ)) (code : ExitCode) (seen seen' : Seen) (out out' notes notes' : SinkSeen) : Type 0 where
+pub record ExitsAfterRun (words : List (List ℕ)) (code : ExitCode) (seen seen' : Seen) (out out' notes notes' : SinkSeen) : Type 0 where
   pub answer : Ended
   pub status : exit_status code ≡ status_of answer
   pub run : EndsBy words answer seen seen' out out' notes notes'
@@ -27,13 +27,13 @@ pub record Runs (words : List (List ℕ)) (code : ExitCode) (seen seen' : Seen) 
   pub untouched : AreRefused words → (seen' ≡ seen) × (out' ≡ out)
 
 -- No run began: nothing was opened, read or written, but for the line that says why.
-pub record Refuses (why : End) (code : ExitCode) (seen seen' : Seen) (out out' notes notes' : SinkSeen) : Type 0 where
+pub record RefusesRun (why : End) (code : ExitCode) (seen seen' : Seen) (out out' notes notes' : SinkSeen) : Type 0 where
   pub status : exit_status code ≡ status_of (ended_of why)
   pub inputs : seen' ≡ seen
   pub output : out' ≡ out
   pub noted : Notes (line_of why []) notes notes'
 
 -- a run of the words, or want of memory before it began
-abbrev pub Answers : List (List ℕ) → ExitCode → Seen → Seen → SinkSeen → SinkSeen → SinkSeen → SinkSeen → Type 0
-Answers words code seen seen' out out' notes notes' =
-    Runs words code seen seen' out out' notes notes' ⊎ Refuses (end.Fault fault.Memory) code seen seen' out out' notes notes'
+abbrev pub EndsProgram : List (List ℕ) → ExitCode → Seen → Seen → SinkSeen → SinkSeen → SinkSeen → SinkSeen → Type 0
+EndsProgram words code seen seen' out out' notes notes' =
+    ExitsAfterRun words code seen seen' out out' notes notes' ⊎ RefusesRun (end.Fault fault.Memory) code seen seen' out out' notes notes'

@@ -12,10 +12,10 @@ use row_files::number;
 use std::alloc::Global;
 use std::hash::Hash;
 
-/// How an exploration ended: with so many things and edges, or at a limit.
+/// How an exploration ended: with so many states and edges, or at a limit.
 #[derive(Clone, Copy)]
 enum Outcome {
-    Found { things: usize, edges: usize },
+    Found { states: usize, edges: usize },
     Met(Fault),
 }
 
@@ -27,7 +27,7 @@ pub(crate) fn doubled(alloc: Global, line: &str) -> Result<Text, row_files::Faul
         made: Numbers::new(alloc),
     };
     let limits = limits(rest)?;
-    if limits.things == 0 {
+    if limits.states == 0 {
         return Err(row_files::Fault::Missing);
     }
     let found = explore(alloc, &mut system, Number { n: 1 }, limits);
@@ -37,7 +37,7 @@ pub(crate) fn doubled(alloc: Global, line: &str) -> Result<Text, row_files::Faul
 /// How the exploration from the list of 1 and 2 ends, from `THINGS CLASSES`.
 pub(crate) fn risen(alloc: Global, line: &str) -> Result<Text, row_files::Fault> {
     let limits = limits(line)?;
-    if limits.things == 0 {
+    if limits.states == 0 {
         return Err(row_files::Fault::Missing);
     }
     let mut start = Numbers::new(alloc);
@@ -50,11 +50,11 @@ pub(crate) fn risen(alloc: Global, line: &str) -> Result<Text, row_files::Fault>
     )
 }
 
-/// The limits of things and of classes.
+/// The limits of states and of classes.
 fn limits(words: &str) -> Result<Limits, row_files::Fault> {
-    let (things, classes) = words.split_once(' ').ok_or(row_files::Fault::Missing)?;
+    let (states, classes) = words.split_once(' ').ok_or(row_files::Fault::Missing)?;
     Ok(Limits {
-        things: number(things)?,
+        states: number(states)?,
         classes: number(classes)?,
     })
 }
@@ -64,7 +64,7 @@ fn outcome_of<T: Eq + Hash + Drop, C: Copy, N: Copy>(
 ) -> Outcome {
     match found {
         Ok(found) => Outcome::Found {
-            things: found.things.len(),
+            states: found.states.len(),
             edges: found.edges.len(),
         },
         Err(fault) => Outcome::Met(fault),
@@ -73,7 +73,7 @@ fn outcome_of<T: Eq + Hash + Drop, C: Copy, N: Copy>(
 
 fn shown(alloc: Global, outcome: Outcome) -> Result<Text, row_files::Fault> {
     let words = match outcome {
-        Outcome::Found { things, edges } => format!(in alloc; "{things} things, {edges} edges")?,
+        Outcome::Found { states, edges } => format!(in alloc; "{states} states, {edges} edges")?,
         Outcome::Met(fault) => format!(in alloc; "limit {fault:?}")?,
     };
     text(alloc, words.as_bytes())

@@ -12,7 +12,7 @@ use Rattle.acc_forms.specs.Terms.{terms}
 use Rattle.acc_forms.specs.declared.literal.Literal.{Literal}
 use Rattle.fin_removal.proofs.TermCopies.{copies_count}
 use Rattle.fin_removal.specs.Copies.{copied, owned, owned_sets, term_copies}
-use Rattle.degeneralise.specs.Buchi.{Watch, buchi, buchi_states, inf_literals, is_generalised_buchi, levelled, levels, most_levels, watch_of, watches}
+use Rattle.degeneralise.specs.Buchi.{Watch, buchi, buchi_states, inf_literals, is_generalised_buchi, with_counters, levels, most_levels, watch_of, watches}
 use Rattle.degeneralise.proofs.CopiesLaw.{copies_accept_the_same}
 use Rattle.degeneralise.proofs.GeneralisedLaw.{generalised_accepts_the_same}
 use Rattle.degeneralise.proofs.WatchLists.{room_in, room_of, some_room}
@@ -29,20 +29,21 @@ watches_one f e = ap (λ b. cond b (one_watch f) (copy_watches f)) e
 pub watches_copies : (f : FormulaTree) → is_generalised_buchi f ≡ false → watches f ≡ None ∷ map (λ sets. Some sets) (owned_sets (terms f))
 watches_copies f e = ap (λ b. cond b (one_watch f) (copy_watches f)) e
 
-pub buchi_one : (a : Automaton) → is_generalised_buchi a.formula ≡ true → buchi a ≡ levelled (most_levels (watches a.formula)) (watch_of a.states (watches a.formula)) a
-buchi_one a e = ap (λ b. levelled (most_levels (watches a.formula)) (watch_of a.states (watches a.formula)) (cond b a (copied a))) e
+pub buchi_one : (a : Automaton) → is_generalised_buchi a.formula ≡ true → buchi a ≡ with_counters (most_levels (watches a.formula)) (watch_of a.states (watches a.formula)) a
+buchi_one a e = ap (λ b. with_counters (most_levels (watches a.formula)) (watch_of a.states (watches a.formula)) (cond b a (copied a))) e
 
-pub buchi_copies : (a : Automaton) → is_generalised_buchi a.formula ≡ false → buchi a ≡ levelled (most_levels (watches a.formula)) (watch_of a.states (watches a.formula)) (copied a)
-buchi_copies a e = ap (λ b. levelled (most_levels (watches a.formula)) (watch_of a.states (watches a.formula)) (cond b a (copied a))) e
+pub buchi_copies : (a : Automaton) → is_generalised_buchi a.formula ≡ false → buchi a ≡ with_counters (most_levels (watches a.formula)) (watch_of a.states (watches a.formula)) (copied a)
+buchi_copies a e = ap (λ b. with_counters (most_levels (watches a.formula)) (watch_of a.states (watches a.formula)) (cond b a (copied a))) e
 
 has_room : (n : ℕ) (ws : List Watch) (state : ℕ) → levels (watch_of n ws state) ≤ most_levels ws
 has_room n ws state = room_of (most_levels ws) n ws (some_room ws) (room_in ws) state
 
 pub buchi_accepts_the_same : (a : Automaton) → IsWellFormed a → AcceptTheSame (buchi a) a
 buchi_accepts_the_same a formed = elim (cases_Bool (is_generalised_buchi a.formula)) [
-  | inl e ↦ subst (λ (b : Automaton). AcceptTheSame b a) (sym (buchi_one a e ∙ ap (λ (ws : List Watch). levelled (most_levels ws) (watch_of a.states ws) a) (watches_one a.formula e)))
+  | inl e ↦ subst (λ (b : Automaton). AcceptTheSame b a) (sym (buchi_one a e ∙ ap (λ (ws : List Watch). with_counters (most_levels ws) (watch_of a.states ws) a) (watches_one a.formula e)))
       (generalised_accepts_the_same (most_levels (one_watch a.formula)) a formed e (has_room a.states (one_watch a.formula)))
-  | inr e ↦ subst (λ (b : Automaton). AcceptTheSame b a) (sym (buchi_copies a e ∙ ap (λ (ws : List Watch). levelled (most_levels ws) (watch_of a.states ws) (copied a)) (watches_copies a.formula e)))
+  | inr e ↦ subst (λ (b : Automaton). AcceptTheSame b a)
+      (sym (buchi_copies a e ∙ ap (λ (ws : List Watch). with_counters (most_levels ws) (watch_of a.states ws) (copied a)) (watches_copies a.formula e)))
       (copies_accept_the_same a formed (most_levels (copy_watches a.formula)) (has_room a.states (copy_watches a.formula)))
 ]
 

@@ -6,7 +6,7 @@ use Rattle.std.proofs.lemmas.Option.{none-some, same_Some}
 use Rattle.aut_base.proofs.lists.Members.{from_map, from_range, there_map, there_range}
 use Rattle.aut_base.proofs.runs.LassoRuns.{marks_of}
 use Rattle.aut_base.specs.Acceptance.{IsPath}
-use Rattle.aut_base.specs.Automaton.{Automaton, IsWellFormed, TreeEdge}
+use Rattle.aut_base.specs.Automaton.{Automaton, IsWellFormed, LabelledEdge}
 use Rattle.aut_base.specs.Formula.{met}
 use Rattle.aut_base.specs.Marks.{is_in}
 use Rattle.aut_base.specs.Word.{NameSet}
@@ -22,20 +22,20 @@ use Rattle.fin_removal.proofs.CopyNumbers.{Owns}
 use Rattle.fin_removal.proofs.TermMet.{each_passed, passes_each}
 use Rattle.fin_removal.specs.Copies.{CopyOfTerm as TermCopy, copied, owned, owned_sets, state_in}
 use Rattle.fin_removal.specs.Meeting.{meets, literal_places}
-use Rattle.degeneralise.specs.Buchi.{Watch, levelled, levels, watch_of}
+use Rattle.degeneralise.specs.Buchi.{Watch, with_counters, levels, watch_of}
 use Rattle.degeneralise.proofs.GeneralisedLaw.{begins}
 use Rattle.degeneralise.proofs.LevelledLaw.{PassesAll, levelled_accepts_the_same}
 use Rattle.degeneralise.proofs.WatchLists.{watch_copy, watch_first}
 
 -- a cycle with all sets of a copy passes all of its literals, and the other way round
-sets_passed : (copy : TermCopy) (es : List TreeEdge) → 0 < length es → ((set : ℕ) → Owns copy set → list_any (is_in set) (marks_of es) ≡ true) → PassesAll (owned copy) es
+sets_passed : (copy : TermCopy) (es : List LabelledEdge) → 0 < length es → ((set : ℕ) → Owns copy set → list_any (is_in set) (marks_of es) ≡ true) → PassesAll (owned copy) es
 sets_passed copy es some carried level within =
-    passes_each (owned copy) (marks_of es) (omega (arith, some, length-map es (λ (e : TreeEdge). e.marks))) (λ l there.
+    passes_each (owned copy) (marks_of es) (omega (arith, some, length-map es (λ (e : LabelledEdge). e.marks))) (λ l there.
     (let at = from_map (λ set. Inf set false) (range_with_len copy.first (literal_places copy.infs)) l there in
     let set = from_range copy.first (literal_places copy.infs) at.0 at.1 in
     ap (λ m. list_any (λ marks. meets marks m) (marks_of es)) (sym at.2) ∙ carried at.0 (record { from = set.0; to = set.1 }))) level
 
-passed_sets : (copy : TermCopy) (es : List TreeEdge) → PassesAll (owned copy) es → (set : ℕ) → Owns copy set → list_any (is_in set) (marks_of es) ≡ true
+passed_sets : (copy : TermCopy) (es : List LabelledEdge) → PassesAll (owned copy) es → (set : ℕ) → Owns copy set → list_any (is_in set) (marks_of es) ≡ true
 passed_sets copy es passes set own =
     each_passed (owned copy) (marks_of es) passes (Inf set false)
     (there_map (λ s. Inf s false) (range_with_len copy.first (literal_places copy.infs)) set (there_range copy.first (literal_places copy.infs) set own.from own.to))
@@ -48,13 +48,13 @@ record IsIn (a : Automaton) (state : ℕ) : Type 0 where
   below : own < a.states
   at : state ≡ state_in a.states copy.number own
 
-where_from : (a : Automaton) → IsWellFormed a → (f : TreeEdge) → Contains (copied a).edges f → (f.from < a.states) ⊎ IsIn a f.from
+where_from : (a : Automaton) → IsWellFormed a → (f : LabelledEdge) → Contains (copied a).edges f → (f.from < a.states) ⊎ IsIn a f.from
 where_from a formed f there = ⊎_elim
-    (λ (s : Stays a f). (let bounds = edge_bounds a formed s.edge s.there in inl (subst (λ (g : TreeEdge). g.from < a.states) s.is bounds.from)))
+    (λ (s : Stays a f). (let bounds = edge_bounds a formed s.edge s.there in inl (subst (λ (g : LabelledEdge). g.from < a.states) s.is bounds.from)))
     (⊎_elim
-    (λ (s : Enters a (copies_of a) f). (let bounds = edge_bounds a formed s.edge s.there in inl (subst (λ (g : TreeEdge). g.from < a.states) s.is bounds.from)))
+    (λ (s : Enters a (copies_of a) f). (let bounds = edge_bounds a formed s.edge s.there in inl (subst (λ (g : LabelledEdge). g.from < a.states) s.is bounds.from)))
     (λ (s : Within a (copies_of a) f). inr (record
-    { copy = s.copy; listed = s.listed; own = s.edge.from; below = (edge_bounds a formed s.edge s.there).from; at = ap (λ (g : TreeEdge). g.from) (sym s.is) })))
+    { copy = s.copy; listed = s.listed; own = s.edge.from; below = (edge_bounds a formed s.edge s.there).from; at = ap (λ (g : LabelledEdge). g.from) (sym s.is) })))
     (comes_from a (copies_of a) f there)
 
 module _ (a : Automaton) (formed : IsWellFormed a) where
@@ -69,28 +69,28 @@ module _ (a : Automaton) (formed : IsWellFormed a) where
   unfolding watch
   in_copy state i = ap watch i.at ∙ watch_copy a.states i.own (terms a.formula) i.copy i.listed i.below
 
-  settled : (f : TreeEdge) → Contains (copied a).edges f → (ls : List Literal) → watch f.from ≡ Some ls → watch f.to ≡ Some ls
+  settled : (f : LabelledEdge) → Contains (copied a).edges f → (ls : List Literal) → watch f.from ≡ Some ls → watch f.to ≡ Some ls
   settled f there ls waits = ⊎_elim
-      (λ (s : Stays a f). absurd (none-some ls (sym (in_main f.from (subst (λ (g : TreeEdge). g.from < a.states) s.is (edge_bounds a formed s.edge s.there).from)) ∙ waits)))
+      (λ (s : Stays a f). absurd (none-some ls (sym (in_main f.from (subst (λ (g : LabelledEdge). g.from < a.states) s.is (edge_bounds a formed s.edge s.there).from)) ∙ waits)))
       (⊎_elim
-      (λ (s : Enters a (copies_of a) f). absurd (none-some ls (sym (in_main f.from (subst (λ (g : TreeEdge). g.from < a.states) s.is (edge_bounds a formed s.edge s.there).from)) ∙ waits)))
+      (λ (s : Enters a (copies_of a) f). absurd (none-some ls (sym (in_main f.from (subst (λ (g : LabelledEdge). g.from < a.states) s.is (edge_bounds a formed s.edge s.there).from)) ∙ waits)))
       (λ (s : Within a (copies_of a) f).
       let bounds = edge_bounds a formed s.edge s.there in
-      let from = in_copy f.from (record { copy = s.copy; listed = s.listed; own = s.edge.from; below = bounds.from; at = ap (λ (g : TreeEdge). g.from) (sym s.is) }) in
-      let to = in_copy f.to (record { copy = s.copy; listed = s.listed; own = s.edge.to; below = bounds.to; at = ap (λ (g : TreeEdge). g.to) (sym s.is) }) in
+      let from = in_copy f.from (record { copy = s.copy; listed = s.listed; own = s.edge.from; below = bounds.from; at = ap (λ (g : LabelledEdge). g.from) (sym s.is) }) in
+      let to = in_copy f.to (record { copy = s.copy; listed = s.listed; own = s.edge.to; below = bounds.to; at = ap (λ (g : LabelledEdge). g.to) (sym s.is) }) in
       to ∙ (sym from ∙ waits)))
       (comes_from a (copies_of a) f there)
 
-  copy_asks : (q : ℕ) (i : IsIn a q) (xs : List NameSet) (es : List TreeEdge) → 0 < length es → IsPath (copied a) q xs es q
+  copy_asks : (q : ℕ) (i : IsIn a q) (xs : List NameSet) (es : List LabelledEdge) → 0 < length es → IsPath (copied a) q xs es q
       → (met (marks_of es) (copied a).formula ≡ true) ↔ PassesAll (owned i.copy) es
   copy_asks q i xs es some path =
       let inside = from_copy a formed i.copy i.listed i.own i.below xs es q (subst (λ (s : ℕ). IsPath (copied a) s xs es q) i.at path) in (
-        λ holds. sets_passed i.copy es some (subst (λ (fs : List TreeEdge). (set : ℕ) → Owns i.copy set → list_any (is_in set) (marks_of fs) ≡ true) (sym inside.is)
-            (own_sets a i.copy i.listed inside.edges (subst (λ (fs : List TreeEdge). met (marks_of fs) (copied a).formula ≡ true) inside.is holds))),
+        λ holds. sets_passed i.copy es some (subst (λ (fs : List LabelledEdge). (set : ℕ) → Owns i.copy set → list_any (is_in set) (marks_of fs) ≡ true) (sym inside.is)
+            (own_sets a i.copy i.listed inside.edges (subst (λ (fs : List LabelledEdge). met (marks_of fs) (copied a).formula ≡ true) inside.is holds))),
         λ passes. own_sets_met a i.copy i.listed es (passed_sets i.copy es passes),
       )
 
-  waits_asks : (q : ℕ) (ls : List Literal) (xs : List NameSet) (es : List TreeEdge) → 0 < length es → IsPath (copied a) q xs es q → watch q ≡ Some ls
+  waits_asks : (q : ℕ) (ls : List Literal) (xs : List NameSet) (es : List LabelledEdge) → 0 < length es → IsPath (copied a) q xs es q → watch q ≡ Some ls
       → (met (marks_of es) (copied a).formula ≡ true) ↔ PassesAll ls es
   waits_asks q ls xs es some path waits =
       let first = begins (copied a) q q xs es some path in
@@ -102,7 +102,7 @@ module _ (a : Automaton) (formed : IsWellFormed a) where
       (copy_asks q here xs es some path))
       (where_from a formed first.edge first.there)
 
-  never_met : (q : ℕ) (xs : List NameSet) (es : List TreeEdge) → 0 < length es → IsPath (copied a) q xs es q → watch q ≡ None → met (marks_of es) (copied a).formula ≡ true → ⊥
+  never_met : (q : ℕ) (xs : List NameSet) (es : List LabelledEdge) → 0 < length es → IsPath (copied a) q xs es q → watch q ≡ None → met (marks_of es) (copied a).formula ≡ true → ⊥
   never_met q xs es some path waits holds =
       let first = begins (copied a) q q xs es some path in
       ⊎_elim
@@ -110,14 +110,14 @@ module _ (a : Automaton) (formed : IsWellFormed a) where
       let below : q < a.states = omega (arith, main, first.from) in
       let back = from_main a formed q below xs es q path in
       ⊎_elim
-      (λ (m : IsMain a formed back.end back.edges es q). not_in_main a back.edges (subst (λ (fs : List TreeEdge). met (marks_of fs) (copied a).formula ≡ true) m.is holds))
+      (λ (m : IsMain a formed back.end back.edges es q). not_in_main a back.edges (subst (λ (fs : List LabelledEdge). met (marks_of fs) (copied a).formula ≡ true) m.is holds))
       (λ (m : IsElsewhere a formed back.end q). not_main a m.copy m.listed back.end q back.below below (sym m.at))
       back.place)
       (λ (i : IsIn a first.edge.from). none-some (owned i.copy) (sym waits ∙ (ap watch first.from ∙ in_copy first.edge.from i)))
       (where_from a formed first.edge first.there)
 
   pub copies_accept_the_same : (k : ℕ) → ((state : ℕ) → levels (watch_of a.states (None ∷ map (λ sets. Some sets) (owned_sets (terms a.formula))) state) ≤ k)
-      → AcceptTheSame (levelled k (watch_of a.states (None ∷ map (λ sets. Some sets) (owned_sets (terms a.formula)))) (copied a)) a
+      → AcceptTheSame (with_counters k (watch_of a.states (None ∷ map (λ sets. Some sets) (owned_sets (terms a.formula)))) (copied a)) a
   unfolding watch
   copies_accept_the_same k room u v =
       let by_levels = levelled_accepts_the_same k watch (copied a) (record { formed = copied_well_formed a formed; room = room; settled = settled })

@@ -8,23 +8,23 @@ use Rattle.aut_base.proofs.lists.Members.{each_from, each_is, first_there, from_
 use Rattle.aut_base.proofs.numbers.Truth.{and-true}
 use Rattle.aut_base.proofs.runs.LassoRuns.{marks_of}
 use Rattle.aut_base.specs.Acceptance.{IsPath}
-use Rattle.aut_base.specs.Automaton.{Automaton, IsWellFormed, TreeEdge}
+use Rattle.aut_base.specs.Automaton.{Automaton, IsWellFormed, LabelledEdge}
 use Rattle.aut_base.specs.Formula.{FormulaTree, FormulaTrees, True, False, And, Or, none, more, met, all_met}
 use Rattle.aut_base.specs.Formula as formula
 use Rattle.aut_base.specs.Word.{NameSet}
 use Rattle.aut_core.specs.OtherNames.{AcceptTheSame}
-use Rattle.acc_forms.specs.Joined.{conjuncts, listed}
+use Rattle.acc_forms.specs.Joined.{conjuncts, parts_list}
 use Rattle.acc_forms.specs.declared.literal.Literal.{Literal}
 use Rattle.acc_forms.specs.declared.literal.Literal.TheVariants.{Inf}
 use Rattle.fin_removal.proofs.CopiedEdges.{edge_bounds}
 use Rattle.fin_removal.proofs.TermMet.{each_passed, passes_each}
 use Rattle.fin_removal.specs.Meeting.{meets}
-use Rattle.degeneralise.specs.Buchi.{Watch, inf_literals, is_generalised_buchi, is_inf_atom, levelled, levels, watch_of}
+use Rattle.degeneralise.specs.Buchi.{Watch, inf_literals, is_generalised_buchi, is_inf_atom, with_counters, levels, watch_of}
 use Rattle.degeneralise.proofs.LevelledLaw.{PassesAll, levelled_accepts_the_same}
 use Rattle.degeneralise.proofs.WatchLists.{watch_first}
 
 -- the truth of a condition, by the parts that it gives to a conjunction
-all-listed : (cycle : List (List ℕ)) (fs : FormulaTrees) → list_all (met cycle) (listed fs) ≡ all_met cycle fs
+all-listed : (cycle : List (List ℕ)) (fs : FormulaTrees) → list_all (met cycle) (parts_list fs) ≡ all_met cycle fs
 all-listed cycle none = refl
 all-listed cycle (more f fs) = ap (λ b. met cycle f && b) (all-listed cycle fs)
 
@@ -55,9 +55,9 @@ literal_of (formula.Fin set neg) inf = absurd (false≢true inf)
 literal_of (And a b cs) inf = absurd (false≢true inf)
 literal_of (Or a b cs) inf = absurd (false≢true inf)
 
-pub generalised_asks : (f : FormulaTree) (es : List TreeEdge) → is_generalised_buchi f ≡ true → 0 < length es → (met (marks_of es) f ≡ true) ↔ PassesAll (flat_map inf_literals (conjuncts f)) es
+pub generalised_asks : (f : FormulaTree) (es : List LabelledEdge) → is_generalised_buchi f ≡ true → 0 < length es → (met (marks_of es) f ≡ true) ↔ PassesAll (flat_map inf_literals (conjuncts f)) es
 generalised_asks f es generalised some = (
-  λ holds level within. passes_each (flat_map inf_literals (conjuncts f)) (marks_of es) (omega (arith, some, length-map es (λ (e : TreeEdge). e.marks))) (λ l there.
+  λ holds level within. passes_each (flat_map inf_literals (conjuncts f)) (marks_of es) (omega (arith, some, length-map es (λ (e : LabelledEdge). e.marks))) (λ l there.
       (let part = from_flat_map inf_literals (conjuncts f) l there in
       sym (met_literal (marks_of es) part.0 l part.2) ∙ each_is (met (marks_of es)) (conjuncts f) part.0 (all-conjuncts (marks_of es) f ∙ holds) part.1)) level,
   λ passes. sym (all-conjuncts (marks_of es) f) ∙ each_from (met (marks_of es)) (conjuncts f) (λ part there.
@@ -67,18 +67,18 @@ generalised_asks f es generalised some = (
 
 -- a path that isn't empty begins with an edge
 pub record Begins (a : Automaton) (p : ℕ) : Type 0 where
-  pub edge : TreeEdge
+  pub edge : LabelledEdge
   pub there : Contains a.edges edge
   pub from : p ≡ edge.from
 
-pub begins : (a : Automaton) (p q : ℕ) (xs : List NameSet) (es : List TreeEdge) → 0 < length es → IsPath a p xs es q → Begins a p
+pub begins : (a : Automaton) (p q : ℕ) (xs : List NameSet) (es : List LabelledEdge) → 0 < length es → IsPath a p xs es q → Begins a p
 begins a p q xs [] some path = absurd (omega (arith, some))
 begins a p q [] (e ∷ es) some path = absurd path
 begins a p q (x ∷ xs) (e ∷ es) some path = record { edge = e; there = path.1; from = path.0 }
 
 pub generalised_accepts_the_same : (k : ℕ) (a : Automaton) → IsWellFormed a → is_generalised_buchi a.formula ≡ true
     → ((state : ℕ) → levels (watch_of a.states (Some (flat_map inf_literals (conjuncts a.formula)) ∷ []) state) ≤ k)
-    → AcceptTheSame (levelled k (watch_of a.states (Some (flat_map inf_literals (conjuncts a.formula)) ∷ [])) a) a
+    → AcceptTheSame (with_counters k (watch_of a.states (Some (flat_map inf_literals (conjuncts a.formula)) ∷ [])) a) a
 generalised_accepts_the_same k a formed generalised room =
     let ls : List Literal = flat_map inf_literals (conjuncts a.formula) in
     let watch : ℕ → Watch = watch_of a.states (Some ls ∷ []) in

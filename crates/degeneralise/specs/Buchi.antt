@@ -3,7 +3,7 @@
 use Rattle.std.specs.Prelude.{◌≡◌, ℕ, ◌+◌, ◌*◌, ◌/◌, ◌<◌, ◌==◌, max, Bool, true, false, if◌then◌else◌, Option, None, Some, List, [], ◌∷◌, length, map, flat_map, slice_get}
 use Rattle.std.specs.List.{fold, list_all, range_with_len}
 use Rattle.std.specs.Option.{option_and_then}
-use Rattle.aut_base.specs.Automaton.{Automaton, TreeEdge}
+use Rattle.aut_base.specs.Automaton.{Automaton, LabelledEdge}
 use Rattle.aut_base.specs.Formula.{FormulaTree}
 use Rattle.acc_forms.specs.Joined.{conjuncts}
 use Rattle.acc_forms.specs.Terms.{count, terms}
@@ -37,24 +37,24 @@ abbrev pub level_after : Watch → ℕ → List ℕ → ℕ
 level_after watch level marks = if meets_level watch level marks then next_level watch level else level
 
 -- the mark of the edge at this level: only the one that meets the last level has it
-abbrev pub marks_at : Watch → ℕ → List ℕ → List ℕ
-marks_at watch level marks = if meets_level watch level marks then (if level + 1 == levels watch then 0 ∷ [] else []) else []
+abbrev pub marks_at_level : Watch → ℕ → List ℕ → List ℕ
+marks_at_level watch level marks = if meets_level watch level marks then (if level + 1 == levels watch then 0 ∷ [] else []) else []
 
 -- the state at this level, where there is room for k levels
 abbrev pub state_at : ℕ → ℕ → ℕ → ℕ
 state_at k state level = state * k + level
 
 -- the edge as it leaves this level
-abbrev pub edge_at : ℕ → Watch → ℕ → TreeEdge → TreeEdge
-edge_at k watch level e = record { from = state_at k e.from level; label = e.label; to = state_at k e.to (level_after watch level e.marks); marks = marks_at watch level e.marks }
+abbrev pub edge_at_level : ℕ → Watch → ℕ → LabelledEdge → LabelledEdge
+edge_at_level k watch level e = record { from = state_at k e.from level; label = e.label; to = state_at k e.to (level_after watch level e.marks); marks = marks_at_level watch level e.marks }
 
 -- the edges that leave the levels of one state
-abbrev pub level_edges : ℕ → List TreeEdge → Watch → List TreeEdge
-level_edges k edges watch = flat_map (λ level. map (edge_at k watch level) edges) (range_with_len 0 (levels watch))
+abbrev pub level_edges : ℕ → List LabelledEdge → Watch → List LabelledEdge
+level_edges k edges watch = flat_map (λ level. map (edge_at_level k watch level) edges) (range_with_len 0 (levels watch))
 
 -- the automaton with room for k levels at each state, where `watch` says what a state waits for
-abbrev pub levelled : ℕ → (ℕ → Watch) → Automaton → Automaton
-levelled k watch a = record {
+abbrev pub with_counters : ℕ → (ℕ → Watch) → Automaton → Automaton
+with_counters k watch a = record {
   names = a.names;
   starts = map (λ start. state_at k start 0) a.starts;
   states = a.states * k;
@@ -90,7 +90,7 @@ watch_of n those state = option_and_then (λ watch. watch) (slice_get those (sta
 
 -- The Büchi form. Law: it accepts the same lasso words.
 abbrev pub buchi : Automaton → Automaton
-buchi a = levelled (most_levels (watches a.formula)) (watch_of a.states (watches a.formula)) (if is_generalised_buchi a.formula then a else copied a)
+buchi a = with_counters (most_levels (watches a.formula)) (watch_of a.states (watches a.formula)) (if is_generalised_buchi a.formula then a else copied a)
 
 -- how many states it has
 abbrev pub buchi_states : Automaton → ℕ

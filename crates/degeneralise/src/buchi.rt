@@ -2,9 +2,9 @@
 
 ghost use Rattle.std.specs.Prelude.{◌≡◌, ◌*◌, ◌<◌, ◌≤◌, ◌^◌, ◌↔◌, All, Err, IfOk, IsTrue, OnOk, false, length};
 ghost use Rattle.aut_base.specs.Formula.{FormulaTree};
-ghost use Rattle.aut_core.specs.Core.{automaton_of};
+ghost use Rattle.aut_core.specs.SymbolicAutomata.{automaton_of};
 ghost use Rattle.aut_core.specs.OtherNames.{AcceptTheSame};
-ghost use Rattle.degeneralise.specs.Buchi.{NeedsTooManyTerms, buchi, buchi_states, levelled, levels, most_levels, watch_of, watches};
+ghost use Rattle.degeneralise.specs.Buchi.{NeedsTooManyTerms, buchi, buchi_states, with_counters, levels, most_levels, watch_of, watches};
 ghost use Rattle.aut_base.specs.declared.limit.TheConstants.{MOST_BUCHI_STATES};
 ghost use Rattle.degeneralise.specs.declared.fault.BuchiFault.{BuchiFault};
 
@@ -33,7 +33,7 @@ pub fn to_buchi(alloc: Global, a: &Automaton) -> Result<Automaton, BuchiFault>
     ensures within { OnOk result (buchi_states (automaton_of a.now) ≤ MOST_BUCHI_STATES) }
     ensures only_states { result ≡ Err BuchiFault.BuchiStates → MOST_BUCHI_STATES < buchi_states (automaton_of a.now) }
 {
-    a.whole();
+    a.well_formed();
     let watches = watches(alloc, a.formula())?;
     let k = most_levels(&watches);
     if !are_few(a.states(), watches.len(), k) {
@@ -86,9 +86,9 @@ fn put_on_levels(
     requires room { All (λ watch. levels watch ≤ k) watches.now }
     requires some { 0 < k }
     requires fit { a.now.states * k < 2 ^ 32 }
-    ensures { IfOk result (λ made. automaton_of made ≡ levelled k (watch_of states watches.now) (automaton_of a.now)) }
+    ensures { IfOk result (λ made. automaton_of made ≡ with_counters k (watch_of states watches.now) (automaton_of a.now)) }
 {
-    a.whole();
+    a.well_formed();
     let links = levelled_links(alloc, a, states, watches, k)?;
     let starts = first_levels(alloc, a.starts(), k)?;
     Automaton::from_parts(

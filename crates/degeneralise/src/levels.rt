@@ -1,7 +1,7 @@
 //! Levels, and the steps between them.
 
 ghost use Rattle.std.specs.Prelude.{◌≡◌, ◌<◌, IfOk};
-ghost use Rattle.degeneralise.specs.Buchi.{level_after, levels, marks_at, meets_level};
+ghost use Rattle.degeneralise.specs.Buchi.{level_after, levels, marks_at_level, meets_level};
 
 use crate::watches::Watch;
 use aut_base::{Marks, Memory};
@@ -51,7 +51,7 @@ pub(crate) fn marks_at(
     marks: &Marks,
 ) -> Result<Marks, Memory>
     requires { level < levels watch.now }
-    ensures { IfOk result (λ found. found ≡ marks_at watch.now level marks.now) }
+    ensures { IfOk result (λ found. found ≡ marks_at_level watch.now level marks.now) }
 {
     let count = levels(watch);
     let mut found = Marks::new(alloc);

@@ -2,12 +2,12 @@
 
 ghost use Rattle.std.specs.Prelude.{◌≡◌, ◌*◌, ◌+◌, ◌<◌, ◌≤◌, ◌^◌, All, IfOk, OnOk, flat_map, length, map};
 ghost use Rattle.std.specs.List.{range_with_len};
-ghost use Rattle.aut_base.specs.Automaton.{TreeEdge};
-ghost use Rattle.aut_core.specs.Core.{IsLinkOf, edge_of};
+ghost use Rattle.aut_base.specs.Automaton.{LabelledEdge};
+ghost use Rattle.aut_core.specs.SymbolicAutomata.{IsLinkOf, edge_of};
 ghost use Rattle.aut_core.specs.Surveys.{edges_from};
 ghost use Rattle.label_guards.specs.Store.{Has};
-ghost use Rattle.fin_removal.specs.inner.Links.{Adds};
-ghost use Rattle.degeneralise.specs.Buchi.{edge_at, level_after, level_edges, levels, marks_at, state_at, watch_of};
+ghost use Rattle.fin_removal.specs.inner.Links.{AddsLinks};
+ghost use Rattle.degeneralise.specs.Buchi.{edge_at_level, level_after, level_edges, levels, marks_at_level, state_at, watch_of};
 
 use crate::levels::{level_after, levels, marks_at};
 use crate::watches::{Watch, Watches, watch_of};
@@ -56,7 +56,7 @@ fn push_state(
     requires state { state < a.now.states }
     requires room { levels watch.now ≤ k }
     requires fit { a.now.states * k < 2 ^ 32 }
-    ensures { OnOk result (Adds a.now.store links.old links.new (level_edges k (edges_from state (map (edge_of a.now.store) a.now.links)) watch.now)) }
+    ensures { OnOk result (AddsLinks a.now.store links.old links.new (level_edges k (edges_from state (map (edge_of a.now.store) a.now.links)) watch.now)) }
 {
     'levels: for level in 0..levels(watch) {
         push_level(alloc, links, a, watch, k, state, level)?;
@@ -78,9 +78,9 @@ fn push_level(
     requires room { levels watch.now ≤ k }
     requires level { level < levels watch.now }
     requires fit { a.now.states * k < 2 ^ 32 }
-    ensures { OnOk result (Adds a.now.store links.old links.new (map (edge_at k watch.now level) (edges_from state (map (edge_of a.now.store) a.now.links)))) }
+    ensures { OnOk result (AddsLinks a.now.store links.old links.new (map (edge_at_level k watch.now level) (edges_from state (map (edge_of a.now.store) a.now.links)))) }
 {
-    a.whole();
+    a.well_formed();
     'links: for link in a.links_of(state) {
         let at_level = link_at(alloc, link, watch, k, level)?;
         links.push(at_level)?;
@@ -103,7 +103,7 @@ fn link_at(
     ensures guard { IfOk result (λ made. made.guard ≡ link.now.guard) }
     ensures from { IfOk result (λ made. made.from ≡ state_at k link.now.from level) }
     ensures to { IfOk result (λ made. made.to ≡ state_at k link.now.to (level_after watch.now level link.now.marks)) }
-    ensures marks { IfOk result (λ made. made.marks ≡ marks_at watch.now level link.now.marks) }
+    ensures marks { IfOk result (λ made. made.marks ≡ marks_at_level watch.now level link.now.marks) }
 {
     let next = level_after(watch, level, &link.marks);
     Ok(Link {

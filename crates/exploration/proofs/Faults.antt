@@ -2,8 +2,8 @@
 use Rattle.std.proofs.Common.{◌≡◌, ◌⊎◌, IfErr, Result, Ok, Err, inl, inr, subst, sym}
 use Rattle.std.specs.Result.{IsErrAnd}
 use Rattle.aut_base.proofs.Outcomes.{hands_on}
-use Rattle.exploration.specs.Faults.{step_fault}
-use Rattle.exploration.specs.Moves.{Fails, IsStep, Move}
+use Rattle.exploration.specs.Faults.{fault_of_step}
+use Rattle.exploration.specs.TransitionFunctions.{StepFailed, IsStepAnswer, StepOutcome}
 use Rattle.exploration.specs.declared.fault.Fault.{Fault}
 use Rattle.exploration.specs.declared.fault.Fault.TheVariants as fault
 use Rattle.exploration.specs.declared.fault.StepFault.{StepFault}
@@ -12,12 +12,12 @@ use Rattle.exploration.specs.declared.fault.StepFault.TheVariants as step
 pub err_is : {T : Type 0} (P : Fault → Type 0) (r : Result T Fault) (came : Fault) → IsErrAnd r (λ y. y ≡ came) → P came → IfErr r P
 err_is P r came e p = hands_on r came (λ x. IfErr x P) e p
 
-pub step_met : {T X : Type 0} (N : Type 0) (seen : T → X) (P : Fault → Type 0) (move : Move X) (came : StepFault) → IsStep {N = N} seen move (Err came)
-    → (move ≡ Fails → P fault.Nodes) → P fault.Memory → P (step_fault came)
-step_met N seen P move step.Nodes is fails memory = fails is
+pub step_met : {T X : Type 0} (N : Type 0) (seen : T → X) (P : Fault → Type 0) (move : StepOutcome X) (came : StepFault) → IsStepAnswer {N = N} seen move (Err came)
+    → (move ≡ StepFailed → P fault.StepFailed) → P fault.Memory → P (fault_of_step came)
+step_met N seen P move step.Failed is fails memory = fails is
 step_met N seen P move step.Memory is fails memory = memory
 
-pub list_met : (P : Fault → Type 0) (Q : Type 0) (came : Fault) → (came ≡ fault.Memory) ⊎ ((came ≡ fault.Things) × Q) → (Q → P fault.Things) → P fault.Memory → P came
+pub list_met : (P : Fault → Type 0) (Q : Type 0) (came : Fault) → (came ≡ fault.Memory) ⊎ ((came ≡ fault.States) × Q) → (Q → P fault.States) → P fault.Memory → P came
 list_met P Q came is full memory = elim is [
   | inl e ↦ subst P (sym e) memory
   | inr e ↦ subst P (sym e.0) (full e.1)

@@ -1,6 +1,6 @@
 pub mod Causes
 pub mod Edges
-pub mod Ends
+pub mod Finished
 pub mod Exploring
 pub mod Faults
 pub mod InOrder

@@ -8,14 +8,14 @@ use Rattle.std.specs.List.{list_any}
 use Rattle.aut_base.proofs.lists.Lists.{slice_get-append_left, slice_get-at}
 use Rattle.exploration.specs.Turns.{with_new}
 
--- a thing that is listed adds nothing, and one that isn't itself
+-- a state that is listed adds nothing, and one that isn't itself
 pub new_cases : {X : Type 0} (same : X → X → Bool) (xs : List X) (y : X) → ((list_any (same y) xs ≡ true) × (with_new same xs y ≡ xs)) ⊎
     ((list_any (same y) xs ≡ false) × (with_new same xs y ≡ xs ++ y ∷ []))
-new_cases same xs y = by (list_any (same y) xs) refl
+new_cases same xs y = by_cases (list_any (same y) xs) refl
   where
-    by : (b : Bool) → list_any (same y) xs ≡ b → ((list_any (same y) xs ≡ true) × (with_new same xs y ≡ xs)) ⊎ ((list_any (same y) xs ≡ false) × (with_new same xs y ≡ xs ++ y ∷ []))
-    by true e = inl (e, ap (λ (c : Bool). cond c xs (xs ++ y ∷ [])) e)
-    by false e = inr (e, ap (λ (c : Bool). cond c xs (xs ++ y ∷ [])) e)
+    by_cases : (b : Bool) → list_any (same y) xs ≡ b → ((list_any (same y) xs ≡ true) × (with_new same xs y ≡ xs)) ⊎ ((list_any (same y) xs ≡ false) × (with_new same xs y ≡ xs ++ y ∷ []))
+    by_cases true e = inl (e, ap (λ (c : Bool). cond c xs (xs ++ y ∷ [])) e)
+    by_cases false e = inr (e, ap (λ (c : Bool). cond c xs (xs ++ y ∷ [])) e)
 
 pub new_longer : {X : Type 0} (same : X → X → Bool) (xs : List X) (y : X) → (rest : List X) × (with_new same xs y ≡ xs ++ rest)
 new_longer same xs y = elim (new_cases same xs y) [

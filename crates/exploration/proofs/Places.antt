@@ -1,4 +1,4 @@
--- The place at which a thing is found.
+-- The place at which a state is found.
 use Rattle.std.proofs.Common.{◌≡◌, ◌∙◌, ◌⊎◌, ◌+◌, ◌||◌, ℕ, suc, Bool, true, false, cond, not, List, [], ◌∷◌, ◌++◌, Some, ap, arith, get_or, inl, inr, length, refl, slice_get, sym}
 use Rattle.std.proofs.lemmas.Bool.{true≢false}
 use Rattle.std.proofs.lemmas.List.Folds.{list_any_at}
@@ -13,28 +13,28 @@ FoundAt {X} p xs = (y : X) × (slice_get xs (position_or_len p xs) ≡ Some y) �
 
 pub found_at : {X : Type 0} (p : X → Bool) (xs : List X) → list_any p xs ≡ true → FoundAt p xs
 found_at p [] e = absurd (true≢false (sym e))
-found_at p (x ∷ xs) e = by (p x) refl (found_at p xs)
+found_at p (x ∷ xs) e = by_cases (p x) refl (found_at p xs)
   where
-    by : (b : Bool) → p x ≡ b → (list_any p xs ≡ true → FoundAt p xs) → FoundAt p (x ∷ xs)
-    by true is rest = (x, ap (λ (c : Bool). slice_get (x ∷ xs) (cond (not c) (1 + position_or_len p xs) 0)) is, is)
-    by false is rest =
+    by_cases : (b : Bool) → p x ≡ b → (list_any p xs ≡ true → FoundAt p xs) → FoundAt p (x ∷ xs)
+    by_cases true is rest = (x, ap (λ (c : Bool). slice_get (x ∷ xs) (cond (not c) (1 + position_or_len p xs) 0)) is, is)
+    by_cases false is rest =
         let later = rest (sym (ap (λ (c : Bool). c || list_any p xs) is) ∙ e) in
         let n : 1 + position_or_len p xs ≡ suc (position_or_len p xs) = omega arith in
         (later.0, ap (λ (c : Bool). slice_get (x ∷ xs) (cond (not c) (1 + position_or_len p xs) 0)) is ∙ (ap (slice_get (x ∷ xs)) n ∙ later.1), later.2)
 
 pub absent_at : {X : Type 0} (p : X → Bool) (xs : List X) → list_any p xs ≡ false → position_or_len p xs ≡ length xs
 absent_at p [] e = refl
-absent_at p (x ∷ xs) e = by (p x) refl (absent_at p xs)
+absent_at p (x ∷ xs) e = by_cases (p x) refl (absent_at p xs)
   where
-    by : (b : Bool) → p x ≡ b → (list_any p xs ≡ false → position_or_len p xs ≡ length xs) → position_or_len p (x ∷ xs) ≡ length (x ∷ xs)
-    by true is rest = absurd (true≢false (sym (ap (λ (c : Bool). c || list_any p xs) is) ∙ e))
-    by false is rest =
+    by_cases : (b : Bool) → p x ≡ b → (list_any p xs ≡ false → position_or_len p xs ≡ length xs) → position_or_len p (x ∷ xs) ≡ length (x ∷ xs)
+    by_cases true is rest = absurd (true≢false (sym (ap (λ (c : Bool). c || list_any p xs) is) ∙ e))
+    by_cases false is rest =
         let later = rest (sym (ap (λ (c : Bool). c || list_any p xs) is) ∙ e) in
         let n : 1 + position_or_len p xs ≡ length (x ∷ xs) = omega (arith, later) in
         ap (λ (c : Bool). cond (not c) (1 + position_or_len p xs) 0) is ∙ n
 
 module _ {X : Type 0} (same : X → X → Bool) (tells : (a b : X) → same a b ≡ true → a ≡ b) (itself : (a : X) → same a a ≡ true) where
-  -- a thing that is listed unless it is there stands at its place
+  -- a state that is listed unless it is there stands at its place
   pub new_place : (xs : List X) (y : X) → slice_get (with_new same xs y) (position_or_len (same y) xs) ≡ Some y
   new_place xs y = elim (new_cases same xs y) [
     | inl old ↦ (let f = found_at (same y) xs old.0 in ap (λ (l : List X). slice_get l (position_or_len (same y) xs)) old.1 ∙ (f.1 ∙ ap Some (sym (tells y f.0 f.2))))
@@ -47,7 +47,7 @@ module _ {X : Type 0} (same : X → X → Bool) (tells : (a b : X) → same a b 
       let e : same y (get_or xs i y) ≡ true = ap (same y) (get_or_from_slice_get xs i y y at) ∙ itself y in
       true≢false (sym (list_any_at (same y) xs i y (slice_get_within xs i y at) e) ∙ none)
 
-  -- what stands in the list with a thing that is listed unless it is there
+  -- what stands in the list with a state that is listed unless it is there
   pub new_at : (xs : List X) (y : X) (i : ℕ) (x : X) → slice_get (with_new same xs y) i ≡ Some x → (slice_get xs i ≡ Some x) ⊎ ((i ≡ length xs) × (y ≡ x) × (list_any (same y) xs ≡ false))
   new_at xs y i x at = elim (new_cases same xs y) [
     | inl old ↦ inl (sym (ap (λ (l : List X). slice_get l i) old.1) ∙ at)

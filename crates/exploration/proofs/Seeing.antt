@@ -1,4 +1,4 @@
--- Lists of things, and of what is seen of them.
+-- Lists of states, and of what is seen of them.
 use Rattle.std.proofs.Common.{◌≡◌, ◌∙◌, ◌↔◌, ◌||◌, ◌+◌, ◌<◌, ◌≤◌, ℕ, Bool, true, false, cond, not, List, [], ◌∷◌, ◌++◌, Some, ap, arith, get_or, length, ltb, map, refl, slice_get, sym}
 use Rattle.std.proofs.lemmas.List.{length-map, map-append}
 use Rattle.std.proofs.lemmas.Option.{slice_get-map}
@@ -44,8 +44,8 @@ module _ {T X : Type 0} (eq : T → T → Bool) (same : X → X → Bool) (seen 
   room_seen most y xs = λ i. any_seen y xs i || ltb (sym (length-map xs seen) i) most
 
   pub new_seen : (y : T) (xs : List T) → map seen (with_new eq xs y) ≡ with_new same (map seen xs) (seen y)
-  new_seen y xs = by (list_any (eq y) xs) (any_seen y xs)
+  new_seen y xs = by_cases (list_any (eq y) xs) (any_seen y xs)
     where
-      by : (b : Bool) → b ≡ list_any (same (seen y)) (map seen xs) → map seen (cond b xs (xs ++ y ∷ [])) ≡ with_new same (map seen xs) (seen y)
-      by true e = ap (λ (c : Bool). cond c (map seen xs) (map seen xs ++ seen y ∷ [])) e
-      by false e = map-append seen xs (y ∷ []) ∙ ap (λ (c : Bool). cond c (map seen xs) (map seen xs ++ seen y ∷ [])) e
+      by_cases : (b : Bool) → b ≡ list_any (same (seen y)) (map seen xs) → map seen (cond b xs (xs ++ y ∷ [])) ≡ with_new same (map seen xs) (seen y)
+      by_cases true e = ap (λ (c : Bool). cond c (map seen xs) (map seen xs ++ seen y ∷ [])) e
+      by_cases false e = map-append seen xs (y ∷ []) ∙ ap (λ (c : Bool). cond c (map seen xs) (map seen xs ++ seen y ∷ [])) e

@@ -4,6 +4,6 @@ use Rattle.exploration.specs.declared.fault.StepFault.{StepFault}
 use Rattle.exploration.specs.declared.fault.Fault.TheVariants as fault
 use Rattle.exploration.specs.declared.fault.StepFault.TheVariants as step
 
-abbrev pub step_fault : StepFault → Fault
-step_fault step.Nodes = fault.Nodes
-step_fault step.Memory = fault.Memory
+abbrev pub fault_of_step : StepFault → Fault
+fault_of_step step.Failed = fault.StepFailed
+fault_of_step step.Memory = fault.Memory

@@ -1,5 +1,5 @@
 pub mod Explorations
 pub mod Faults
-pub mod Moves
+pub mod TransitionFunctions
 pub mod Reached
 pub mod Turns

@@ -1,126 +1,126 @@
 -- The exploration of what a system reaches, turn by turn.
 use Rattle.std.specs.Prelude.{◌≡◌, ◌+◌, ◌-◌, ◌∷◌, ◌++◌, ◌||◌, ℕ, zero, suc, Bool, if◌then◌else◌, List, [], Option, None, Some, leb, length, ltb, slice_get}
 use Rattle.std.specs.List.{list_any, position_or_len}
-use Rattle.exploration.specs.Moves.{Move, Gives, Lacks, Fails, Moves}
+use Rattle.exploration.specs.TransitionFunctions.{StepOutcome, Successor, NoSuccessor, StepFailed, TransitionFunction}
 use Rattle.exploration.specs.declared.fault.Fault.{Fault}
 use Rattle.exploration.specs.declared.fault.Fault.TheVariants as fault
 
 -- what is explored, and how far
 pub record Rules (X : Type 0) : Type 0 where
   pub same : X → X → Bool
-  pub moves : Moves X
-  pub most_things : ℕ
-  pub most_classes : ℕ
+  pub moves : TransitionFunction X
+  pub max_states : ℕ
+  pub max_classes : ℕ
 
--- an edge between the places of two things, and the number of its class
-pub record Arrow : Type 0 where
+-- an edge between the places of two states, and the number of its class
+pub record Transition : Type 0 where
   pub from : ℕ
   pub class : ℕ
   pub to : ℕ
 
 -- how far an exploration has come
-pub record Stage (X : Type 0) : Type 0 where
-  pub things : List X  -- those listed
-  pub sum : ℕ  -- of the numbers of classes of those that were in hand
-  pub next : ℕ  -- the place of the one that comes into hand next; the one in hand stands before it
-  pub hand : Option (X × ℕ)  -- the thing in hand, and the number of the first of its classes still to come
-  pub arrows : List Arrow  -- the edges made
+pub record ExplorationState (X : Type 0) : Type 0 where
+  pub states : List X  -- those listed
+  pub sum : ℕ  -- of the numbers of classes of those that were expanded
+  pub next : ℕ  -- the place of the one that is expanded next; the current one stands before it
+  pub current : Option (X × ℕ)  -- the current state, and the number of the first of its classes still to come
+  pub transitions : List Transition  -- the edges made
 
 -- what a turn leads to: it goes on, or ends, or meets a limit
 pub data Turn (X : Type 0) : Type 0 where
-  Goes : Stage X → Turn X
-  Ends : Stage X → Turn X
-  Meets : Fault → Turn X
+  Running : ExplorationState X → Turn X
+  Finished : ExplorationState X → Turn X
+  LimitMet : Fault → Turn X
 
--- the list, and the thing behind it unless it is there
+-- the list, and the state behind it unless it is there
 abbrev pub with_new : {X : Type 0} → (X → X → Bool) → List X → X → List X
-with_new same things y = if list_any (same y) things then things else things ++ y ∷ []
+with_new same states y = if list_any (same y) states then states else states ++ y ∷ []
 
--- the thing is listed, or there is room for it
+-- the state is listed, or there is room for it
 abbrev pub has_room : {X : Type 0} → (X → X → Bool) → ℕ → List X → X → Bool
-has_room same most things y = list_any (same y) things || ltb (length things) most
+has_room same most states y = list_any (same y) states || ltb (length states) most
 
--- the step for a class of the thing in hand, by what it gives
-abbrev pub stepped : {X : Type 0} → Rules X → Stage X → X → ℕ → Move X → Turn X
-stepped r s x k (Gives y) = if has_room r.same r.most_things s.things y
-    then Goes (record {
-      things = with_new r.same s.things y;
+-- the step for a class of the current state, by what it gives
+abbrev pub stepped : {X : Type 0} → Rules X → ExplorationState X → X → ℕ → StepOutcome X → Turn X
+stepped r s x k (Successor y) = if has_room r.same r.max_states s.states y
+    then Running (record {
+      states = with_new r.same s.states y;
       sum = s.sum;
       next = s.next;
-      hand = Some (x, k + 1);
-      arrows = s.arrows ++ record { from = s.next - 1; class = k; to = position_or_len (r.same y) s.things } ∷ [];
+      current = Some (x, k + 1);
+      transitions = s.transitions ++ record { from = s.next - 1; class = k; to = position_or_len (r.same y) s.states } ∷ [];
     })
-    else Meets fault.Things
-stepped r s x k Lacks = Goes (record { things = s.things; sum = s.sum; next = s.next; hand = Some (x, k + 1); arrows = s.arrows })
-stepped r s x k Fails = Meets fault.Nodes
+    else LimitMet fault.States
+stepped r s x k NoSuccessor = Running (record { states = s.states; sum = s.sum; next = s.next; current = Some (x, k + 1); transitions = s.transitions })
+stepped r s x k StepFailed = LimitMet fault.StepFailed
 
--- the next thing comes into hand
-abbrev pub taken : {X : Type 0} → Rules X → Stage X → Option X → Turn X
-taken r s None = Ends s
-taken r s (Some x) = if leb (s.sum + r.moves.count x) r.most_classes
-    then Goes (record { things = s.things; sum = s.sum + r.moves.count x; next = s.next + 1; hand = Some (x, 0); arrows = s.arrows })
-    else Meets fault.Classes
+-- the next state is expanded
+abbrev pub turn_taken : {X : Type 0} → Rules X → ExplorationState X → Option X → Turn X
+turn_taken r s None = Finished s
+turn_taken r s (Some x) = if leb (s.sum + r.moves.count x) r.max_classes
+    then Running (record { states = s.states; sum = s.sum + r.moves.count x; next = s.next + 1; current = Some (x, 0); transitions = s.transitions })
+    else LimitMet fault.Classes
 
-abbrev pub turned : {X : Type 0} → Rules X → Stage X → Option (X × ℕ) → Turn X
-turned r s None = taken r s (slice_get s.things s.next)
-turned r s (Some hand) = if ltb hand.1 (r.moves.count hand.0)
-    then stepped r s hand.0 hand.1 (r.moves.step hand.0 hand.1)
-    else taken r s (slice_get s.things s.next)
+abbrev pub turned : {X : Type 0} → Rules X → ExplorationState X → Option (X × ℕ) → Turn X
+turned r s None = turn_taken r s (slice_get s.states s.next)
+turned r s (Some current) = if ltb current.1 (r.moves.count current.0)
+    then stepped r s current.0 current.1 (r.moves.step current.0 current.1)
+    else turn_taken r s (slice_get s.states s.next)
 
-abbrev pub turn : {X : Type 0} → Rules X → Stage X → Turn X
-turn r s = turned r s s.hand
+abbrev pub turn : {X : Type 0} → Rules X → ExplorationState X → Turn X
+turn r s = turned r s s.current
 
--- the start is listed, and none is in hand
-abbrev pub begin : {X : Type 0} → X → Stage X
-begin start = record { things = start ∷ []; sum = 0; next = 0; hand = None; arrows = [] }
+-- the start is listed, and none is current
+abbrev pub begin : {X : Type 0} → X → ExplorationState X
+begin start = record { states = start ∷ []; sum = 0; next = 0; current = None; transitions = [] }
 
 -- a turn more, unless it has ended
 abbrev pub go_on : {X : Type 0} → Rules X → Turn X → Turn X
-go_on r (Goes s) = turn r s
-go_on r (Ends s) = Ends s
-go_on r (Meets f) = Meets f
+go_on r (Running s) = turn r s
+go_on r (Finished s) = Finished s
+go_on r (LimitMet f) = LimitMet f
 
 -- where so many turns lead from a stage
-abbrev pub after : {X : Type 0} → Rules X → Stage X → ℕ → Turn X
-after r s zero = Goes s
-after r s (suc n) = go_on r (after r s n)
+abbrev pub after_turns : {X : Type 0} → Rules X → ExplorationState X → ℕ → Turn X
+after_turns r s zero = Running s
+after_turns r s (suc n) = go_on r (after_turns r s n)
 
 -- some number of turns leads there
-pub record Comes {X : Type 0} (r : Rules X) (s : Stage X) (t : Turn X) : Type 0 where
+pub record Comes {X : Type 0} (r : Rules X) (s : ExplorationState X) (t : Turn X) : Type 0 where
   pub turns : ℕ
-  pub comes : after r s turns ≡ t
+  pub comes : after_turns r s turns ≡ t
 
 -- it goes on no longer
-abbrev pub IsOver : {X : Type 0} → Turn X → Type 0
-IsOver (Goes s) = ⊥
-IsOver (Ends s) = Unit {0}
-IsOver (Meets f) = Unit {0}
+abbrev pub HasStopped : {X : Type 0} → Turn X → Type 0
+HasStopped (Running s) = ⊥
+HasStopped (Finished s) = Unit {0}
+HasStopped (LimitMet f) = Unit {0}
 
--- the exploration from the start ends with these things and edges
-pub record EndsWith {X : Type 0} (r : Rules X) (start : X) (things : List X) (arrows : List Arrow) : Type 0 where
+-- the exploration from the start ends with these states and edges
+pub record EndsWith {X : Type 0} (r : Rules X) (start : X) (states : List X) (transitions : List Transition) : Type 0 where
   pub sum : ℕ
   pub next : ℕ
-  pub hand : Option (X × ℕ)
-  pub ends : Comes r (begin start) (Ends (record { things = things; sum = sum; next = next; hand = hand; arrows = arrows }))
+  pub current : Option (X × ℕ)
+  pub ends : Comes r (begin start) (Finished (record { states = states; sum = sum; next = next; current = current; transitions = transitions }))
 
 -- An exploration has one outcome: it ends, with one stage, or meets one limit, and not both.
 abbrev pub HasOneOutcome : (X : Type 0) → Type 0
-HasOneOutcome X = (r : Rules X) (s : Stage X) (t u : Turn X) → IsOver t → IsOver u → Comes r s t → Comes r s u → t ≡ u
+HasOneOutcome X = (r : Rules X) (s : ExplorationState X) (t u : Turn X) → HasStopped t → HasStopped u → Comes r s t → Comes r s u → t ≡ u
 
--- So it ends with one list of things and one of edges.
+-- So it ends with one list of states and one of edges.
 abbrev pub HasOneEnding : (X : Type 0) → Type 0
-HasOneEnding X = (r : Rules X) (start : X) (things others : List X) (arrows more : List Arrow) →
-    EndsWith r start things arrows → EndsWith r start others more → (things ≡ others) × (arrows ≡ more)
+HasOneEnding X = (r : Rules X) (start : X) (states others : List X) (transitions more : List Transition) →
+    EndsWith r start states transitions → EndsWith r start others more → (states ≡ others) × (transitions ≡ more)
 
 -- and where it ends, it meets no limit
 abbrev pub EndsOrMeets : (X : Type 0) → Type 0
-EndsOrMeets X = (r : Rules X) (start : X) (things : List X) (arrows : List Arrow) (f : Fault) →
-    EndsWith r start things arrows → Comes r (begin start) (Meets f) → ⊥
+EndsOrMeets X = (r : Rules X) (start : X) (states : List X) (transitions : List Transition) (f : Fault) →
+    EndsWith r start states transitions → Comes r (begin start) (LimitMet f) → ⊥
 
 -- it ends, or it meets a limit
 pub data HasOutcome {X : Type 0} (r : Rules X) (start : X) : Type 0 where
-  has_end : (things : List X) (arrows : List Arrow) → EndsWith r start things arrows → HasOutcome r start
-  has_limit : (f : Fault) → (f ≡ fault.Memory → ⊥) → Comes r (begin start) (Meets f) → HasOutcome r start
+  has_end : (states : List X) (transitions : List Transition) → EndsWith r start states transitions → HasOutcome r start
+  has_limit : (f : Fault) → (f ≡ fault.Memory → ⊥) → Comes r (begin start) (LimitMet f) → HasOutcome r start
 
 -- Each exploration ends or meets a limit.
 abbrev pub HasSomeOutcome : (X : Type 0) → Type 0

@@ -3,7 +3,7 @@
 ghost use Rattle.std.specs.Prelude.{◌≡◌};
 ghost use Rattle.exploration.specs.declared.fault.Fault.{Fault};
 ghost use Rattle.exploration.specs.declared.fault.StepFault.{StepFault};
-ghost use Rattle.exploration.specs.Faults.{step_fault};
+ghost use Rattle.exploration.specs.Faults.{fault_of_step};
 
 use aut_base::Memory;
 use std::alloc::AllocFailed;
@@ -11,8 +11,8 @@ use std::alloc::AllocFailed;
 /// Why a step could not be taken.
 #[derive(Clone, Copy, Debug, PartialEq, Eq)]
 pub enum StepFault {
-    /// The step needs more nodes than there may be.
-    Nodes,
+    /// What the step gives would pass a limit of its own.
+    Failed,
     /// Want of memory.
     Memory,
 }
@@ -20,12 +20,12 @@ pub enum StepFault {
 /// Why an exploration ended early.
 #[derive(Clone, Copy, Debug, PartialEq, Eq)]
 pub enum Fault {
-    /// The things that were taken in hand have more classes together than there may be.
+    /// The states that were expanded have more classes together than there may be.
     Classes,
-    /// A step of a thing that is reached fails.
-    Nodes,
-    /// More things are reached than there may be.
-    Things,
+    /// A step of a state that is reached fails.
+    StepFailed,
+    /// More states are reached than there may be.
+    States,
     /// Want of memory.
     Memory,
 }
@@ -55,11 +55,11 @@ impl<T: Drop> From<AllocFailed<T>> for Fault {
 }
 
 impl From<StepFault> for Fault {
-    ghost from_gives = { λ came fault. fault ≡ step_fault came };
+    ghost from_gives = { λ came fault. fault ≡ fault_of_step came };
 
     fn from(came: StepFault) -> Fault {
         match came {
-            StepFault::Nodes => Fault::Nodes,
+            StepFault::Failed => Fault::StepFailed,
             StepFault::Memory => Fault::Memory,
         }
     }

@@ -1,6 +1,6 @@
 //! What a deterministic transition system reaches, in breadth-first order, within limits.
 //!
-//! A caller writes a `System` and calls `explore`. What a system does is defined in `specs/Moves`, the exploration turn by
+//! A caller writes a `TransitionSystem` and calls `explore`. What a system does is defined in `specs/Moves`, the exploration turn by
 //! turn, and so which limit it meets first, in `specs/Turns`, and what it finds in `specs/Reached`.
 #![tactic(auto)]
 
@@ -14,4 +14,4 @@ pub use exploration::{Edge, Explored, explore};
 pub use fault::{Fault, StepFault};
 pub use law::{ending_is_one, ends_or_meets, outcome_exists, outcome_is_one};
 pub use limits::Limits;
-pub use system::System;
+pub use system::TransitionSystem;

@@ -1,8 +1,8 @@
 //! The limits of an exploration.
 
-/// How many things may be reached, and how many classes they may have together, each counted as often as a thing has one.
+/// How many states may be reached, and how many classes they may have together, each counted as often as a state has one.
 #[derive(Clone, Copy, Debug)]
 pub struct Limits {
-    pub things: u32,
+    pub states: u32,
     pub classes: u32,
 }

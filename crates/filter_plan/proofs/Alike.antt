@@ -5,15 +5,15 @@ use Rattle.clap.specs.Words.{Row}
 use Rattle.filter_plan.proofs.OneReading.{same_format, same_hidden, same_number, same_range}
 use Rattle.filter_plan.proofs.TableRows.{given, place_in}
 use Rattle.filter_plan.specs.Formats.{IsFormat}
-use Rattle.filter_plan.specs.Hiding.{IsHidden}
+use Rattle.filter_plan.specs.Hiding.{IsHideOption}
 use Rattle.filter_plan.specs.Numbers.{IsMadeCount, IsNumber}
 use Rattle.filter_plan.specs.Spans.{IsRange}
-use Rattle.filter_plan.specs.Table.{EachGives, File, Flag, Format, FormFlag, Gives, Hiding, IsFile, IsPattern, MadeCount, Number, Place, Reads, Span, Stream, Word, table, values_of}
+use Rattle.filter_plan.specs.Table.{EachGives, File, Flag, Format, FormFlag, Gives, Hiding, IsFile, IsPattern, MadeCount, Number, Place, ReadsOption, Span, Stream, Word, table, values_of}
 use Rattle.filter_plan.specs.declared.plan.Plan.{Plan}
 
 -- what can be read in one way is
-same_value : {X : Type 0} (IsRead : List ℕ → X → Type 0) → ((t : List ℕ) (x y : X) → IsRead t x → IsRead t y → x ≡ y) → (values : List (List ℕ)) (x y : Option X) → Reads IsRead values x
-    → Reads IsRead values y → x ≡ y
+same_value : {X : Type 0} (IsRead : List ℕ → X → Type 0) → ((t : List ℕ) (x y : X) → IsRead t x → IsRead t y → x ≡ y) → (values : List (List ℕ)) (x y : Option X) → ReadsOption IsRead values x
+    → ReadsOption IsRead values y → x ≡ y
 same_value IsRead one [] None None h k = refl
 same_value IsRead one [] None (Some y) h k = absurd k
 same_value IsRead one [] (Some x) y h k = absurd h
@@ -24,7 +24,7 @@ same_value IsRead one (v ∷ w ∷ ws) None y h k = absurd h
 same_value IsRead one (v ∷ w ∷ ws) (Some x) y h k = absurd h
 
 -- whether there is a value
-same_presence : {X : Type 0} (IsRead : List ℕ → X → Type 0) (values : List (List ℕ)) (x y : Option X) → Reads IsRead values x → Reads IsRead values y → is_some x ≡ is_some y
+same_presence : {X : Type 0} (IsRead : List ℕ → X → Type 0) (values : List (List ℕ)) (x y : Option X) → ReadsOption IsRead values x → ReadsOption IsRead values y → is_some x ≡ is_some y
 same_presence IsRead [] None None h k = refl
 same_presence IsRead [] None (Some y) h k = absurd k
 same_presence IsRead [] (Some x) y h k = absurd h
@@ -55,7 +55,7 @@ alike_in (MadeCount at) values p q h k = same_value IsMadeCount (λ t x y m n. s
 alike_in (Span at) values p q h k = same_value IsRange same_range values (at p) (at q) h k
 alike_in (File at) values p q h k = same_value IsFile (λ t x y m n. m ∙ sym n) values (at p) (at q) h k
 alike_in (Word at) values p q h k = same_presence IsPattern values (at p) (at q) h k
-alike_in (Hiding at) values p q h k = same_value IsHidden same_hidden values (at p) (at q) h k
+alike_in (Hiding at) values p q h k = same_value IsHideOption same_hidden values (at p) (at q) h k
 alike_in (Format at) values p q h k = same_value IsFormat same_format values (at p) (at q) h k
 alike_in Stream values p q h k = tt
 

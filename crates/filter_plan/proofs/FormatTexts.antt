@@ -6,7 +6,7 @@ use Rattle.std.proofs.lemmas.Grind.{flat_map-append}
 use Rattle.std.proofs.lemmas.List.{append-nil}
 use Rattle.filter_plan.specs.Formats.{piece_text}
 use Rattle.filter_plan.specs.declared.format.Piece.{Piece}
-use Rattle.filter_plan.specs.declared.format.Piece.TheVariants.{Byte, States, Edges, Sets, Word}
+use Rattle.filter_plan.specs.declared.format.Piece.TheVariants.{Byte, States}
 use Rattle.filter_plan.specs.inner.FormatPieces.{first_piece}
 
 pub first_of_text : (p : Piece) (rest : List ℕ) → first_piece (piece_text p ++ rest) ≡ Some (p, rest)
@@ -16,9 +16,7 @@ first_of_text (Byte b) rest = go (b == 37) refl
     go true e = let is : b ≡ 37 = grind (arith, nat_tests) in rw is refl
     go false e = rw e refl
 first_of_text States rest = refl
-first_of_text Edges rest = refl
-first_of_text Sets rest = refl
-first_of_text Word rest = refl
+first_of_text _ rest = refl
 
 -- One piece more was taken: a text that pieces write goes on with others.
 pub step_of_format : (bytes rest : List ℕ) (p : Piece) → Some (p, rest) ≡ first_piece bytes → (pieces : List Piece) → bytes ≡ flat_map piece_text pieces

@@ -8,10 +8,10 @@ use Rattle.aut_base.proofs.lists.Lists.{cons-head, cons-tail}
 use Rattle.filter_plan.proofs.FormatTexts.{first_of_text}
 use Rattle.filter_plan.proofs.RangeTexts.{IsOnlyCut, bounds_of_range, digits_have_no_dot, dot_is_no_digit}
 use Rattle.filter_plan.specs.Formats.{IsFormat, piece_text}
-use Rattle.filter_plan.specs.Hiding.{IsHidden, suffix}
+use Rattle.filter_plan.specs.Hiding.{IsHideOption, suffix}
 use Rattle.filter_plan.specs.Numbers.{IsNumber}
 use Rattle.filter_plan.specs.Spans.{IsRange, one, between, from, up_to, range}
-use Rattle.filter_plan.specs.Table.{IsPattern, Reads, figures, refuted}
+use Rattle.filter_plan.specs.Table.{IsPattern, ReadsOption, figures, refuted}
 use Rattle.filter_plan.specs.declared.format.Piece.{Piece}
 use Rattle.filter_plan.specs.declared.plan.Hidden.{Hidden}
 use Rattle.ap_project.specs.declared.hide.Hide.{Hide}
@@ -106,7 +106,7 @@ same_way Present Any e = cc
 same_way Present Absent e = absurd (apart 48 refl (sym (cons-head 49 48 [] [] (cons-tail 61 61 (49 ∷ []) (48 ∷ []) e))))
 same_way Present Present e = refl
 
-pub same_hidden : (text : List ℕ) (h k : Hidden) → IsHidden text h → IsHidden text k → h ≡ k
+pub same_hidden : (text : List ℕ) (h k : Hidden) → IsHideOption text h → IsHideOption text k → h ≡ k
 same_hidden text h k is other =
     let front = one_front text (Name h.name) (Name k.name) (suffix h.how) (suffix k.how) is other in
     let name : h.name ≡ k.name = cc (front.0) in
@@ -131,7 +131,7 @@ same_output (Refute a) (Refute b) f r = ap Refute (same_Some a b r)
 
 -- ---- patterns
 
-pub same_pattern : ((text : List ℕ) → OneReading text) → (values : List (List ℕ)) (x y : Option Pattern) → Reads IsPattern values x → Reads IsPattern values y
+pub same_pattern : ((text : List ℕ) → OneReading text) → (values : List (List ℕ)) (x y : Option Pattern) → ReadsOption IsPattern values x → ReadsOption IsPattern values y
     → option_map word_pattern x ≡ option_map word_pattern y
 same_pattern law [] None None h k = refl
 same_pattern law [] None (Some y) h k = absurd k

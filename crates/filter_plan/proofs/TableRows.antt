@@ -14,14 +14,14 @@ place_in (o ∷ os) name = cond (bytes_eq o.long name) (Some o.place) (place_in 
 
 given_in : (rows : List Row) (p : Plan) (os : List OptionRow) (name : List ℕ) (place : Place) → place_in os name ≡ Some place → EachGives os rows p → Gives place (values_of name rows) p
 given_in rows p [] name place is gives = cc
-given_in rows p (o ∷ os) name place is gives = by (bytes_eq o.long name) refl is (λ found. given_in rows p os name place found gives.1)
+given_in rows p (o ∷ os) name place is gives = by_cases (bytes_eq o.long name) refl is (λ found. given_in rows p os name place found gives.1)
   where
-    by : (same : Bool) → bytes_eq o.long name ≡ same → cond same (Some o.place) (place_in os name) ≡ Some place → (place_in os name ≡ Some place → Gives place (values_of name rows) p)
+    by_cases : (same : Bool) → bytes_eq o.long name ≡ same → cond same (Some o.place) (place_in os name) ≡ Some place → (place_in os name ≡ Some place → Gives place (values_of name rows) p)
         → Gives place (values_of name rows) p
-    by true same found later =
+    by_cases true same found later =
         subst (λ (x : Place). Gives x (values_of name rows) p) (same_Some o.place place found)
         (subst (λ (n : List ℕ). Gives o.place (values_of n rows) p) ((bytes_eq-Decides o.long name).0 same) gives.0)
-    by false same found later = later found
+    by_cases false same found later = later found
 
 -- the option of this name gives the plan what its row says
 pub given : (rows : List Row) (p : Plan) → EachGives table rows p → (name : List ℕ) (place : Place) → place_in table name ≡ Some place → Gives place (values_of name rows) p

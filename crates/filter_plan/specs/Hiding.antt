@@ -1,6 +1,6 @@
 -- Which proposition is hidden, and how.
 use Rattle.std.specs.Prelude.{List, ℕ, [], codes}
-use Rattle.word_syntax.specs.Tokens.{IsFront}
+use Rattle.word_syntax.specs.Tokens.{IsWordFront}
 use Rattle.word_syntax.specs.declared.token.Token.TheVariants.{Name}
 use Rattle.filter_plan.specs.declared.plan.Hidden.{Hidden}
 use Rattle.ap_project.specs.declared.hide.Hide.{Hide}
@@ -13,5 +13,5 @@ suffix Absent = codes "=0"
 suffix Present = codes "=1"
 
 -- the text begins with the name, and what says how it is hidden follows
-abbrev pub IsHidden : List ℕ → Hidden → Type 0
-IsHidden text h = IsFront text (Name h.name) (suffix h.how)
+abbrev pub IsHideOption : List ℕ → Hidden → Type 0
+IsHideOption text h = IsWordFront text (Name h.name) (suffix h.how)

@@ -18,5 +18,5 @@ IsAtMost n None = ⊤
 IsAtMost n (Some high) = n ≤ high
 
 -- the number is in the range, which has both its ends; one that ends before it begins has no number
-abbrev pub IsIn : Range → ℕ → Type 0
-IsIn r n = (r.low ≤ n) × IsAtMost n r.high
+abbrev pub IsInRange : Range → ℕ → Type 0
+IsInRange r n = (r.low ≤ n) × IsAtMost n r.high

@@ -3,10 +3,10 @@ use Rattle.std.specs.Prelude.{◌≡◌, ◌↔◌, ◌≤◌, ⊤, ℕ, Bool, f
 use Rattle.std.specs.Str.{bytes_eq}
 use Rattle.clap.specs.Words.{Row, all_of}
 use Rattle.std.specs.Option.{unwrap_or}
-use Rattle.word_syntax.specs.Writing.{Writes, word_pattern}
+use Rattle.word_syntax.specs.Writing.{WritesWord, word_pattern}
 use Rattle.word_syntax.specs.declared.pattern.Pattern.{Pattern}
 use Rattle.filter_plan.specs.Formats.{IsFormat}
-use Rattle.filter_plan.specs.Hiding.{IsHidden}
+use Rattle.filter_plan.specs.Hiding.{IsHideOption}
 use Rattle.filter_plan.specs.Numbers.{IsNumber, IsMadeCount}
 use Rattle.filter_plan.specs.Spans.{IsRange}
 use Rattle.filter_plan.specs.declared.format.Piece.{Piece}
@@ -109,10 +109,10 @@ is_on [] = false
 is_on (value ∷ values) = bytes_eq value (codes "true")
 
 -- The option was given once and its value is read as this, or it wasn't given. One that was given twice reads as nothing.
-abbrev pub Reads : {X : Type 0} → (List ℕ → X → Type 0) → List (List ℕ) → Option X → Type 0
-Reads IsRead [] None = ⊤
-Reads IsRead (value ∷ []) (Some x) = IsRead value x
-Reads IsRead _ _ = ⊥
+abbrev pub ReadsOption : {X : Type 0} → (List ℕ → X → Type 0) → List (List ℕ) → Option X → Type 0
+ReadsOption IsRead [] None = ⊤
+ReadsOption IsRead (value ∷ []) (Some x) = IsRead value x
+ReadsOption IsRead _ _ = ⊥
 
 -- a file stands in the plan as it is named
 abbrev pub IsFile : List ℕ → List ℕ → Type 0
@@ -120,19 +120,19 @@ IsFile value file = file ≡ value
 
 -- a word stands in the plan as the pattern that it writes
 abbrev pub IsPattern : List ℕ → Pattern → Type 0
-IsPattern value pattern = Writes value (word_pattern pattern)
+IsPattern value pattern = WritesWord value (word_pattern pattern)
 
 -- The plan has in this place what the values of the option give. Since a plan has one form, two forms give none.
 abbrev pub Gives : Place → List (List ℕ) → Plan → Type 0
 Gives (Flag at) values p = at p ≡ is_on values
 Gives (FormFlag form) values p = IsTrue (is_on values) ↔ (p.form ≡ form)
-Gives (Number at) values p = Reads IsNumber values (at p)
-Gives (MadeCount at) values p = Reads IsMadeCount values (at p)
-Gives (Span at) values p = Reads IsRange values (at p)
-Gives (File at) values p = Reads IsFile values (at p)
-Gives (Word at) values p = Reads IsPattern values (at p)
-Gives (Hiding at) values p = Reads IsHidden values (at p)
-Gives (Format at) values p = Reads IsFormat values (at p)
+Gives (Number at) values p = ReadsOption IsNumber values (at p)
+Gives (MadeCount at) values p = ReadsOption IsMadeCount values (at p)
+Gives (Span at) values p = ReadsOption IsRange values (at p)
+Gives (File at) values p = ReadsOption IsFile values (at p)
+Gives (Word at) values p = ReadsOption IsPattern values (at p)
+Gives (Hiding at) values p = ReadsOption IsHideOption values (at p)
+Gives (Format at) values p = ReadsOption IsFormat values (at p)
 Gives Stream values p = length values ≤ 1
 
 -- each option of the list, where `rows` has what `clap` found

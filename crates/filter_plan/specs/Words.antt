@@ -57,14 +57,14 @@ streams_of named made = named
 
 -- ---- rules between options
 
-abbrev pub listed : Option (List ℕ) → List (List ℕ)
-listed None = []
-listed (Some file) = file ∷ []
+abbrev pub file_list : Option (List ℕ) → List (List ℕ)
+file_list None = []
+file_list (Some file) = file ∷ []
 
 -- the files that automata are compared or combined with, in the order in which they are read
 abbrev pub operands : Plan → List (List ℕ)
-operands p = listed p.included_in ++ (listed p.equivalent_to ++ (listed p.intersect ++ (listed p.product
-    ++ (listed p.product_or ++ (listed p.sum ++ listed (refuted p.output))))))
+operands p = file_list p.included_in ++ (file_list p.equivalent_to ++ (file_list p.intersect ++ (file_list p.product
+    ++ (file_list p.product_or ++ (file_list p.sum ++ file_list (refuted p.output))))))
 
 abbrev pub has_form : Form → Bool
 has_form AsIs = false

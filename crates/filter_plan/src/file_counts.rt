@@ -1,13 +1,13 @@
 //! How many operands there are.
 
 ghost use Rattle.std.specs.Prelude.{◌≡◌, ◌≤◌, length};
-ghost use Rattle.filter_plan.specs.Words.{listed};
+ghost use Rattle.filter_plan.specs.Words.{file_list};
 
 use aut_base::Text;
 
 /// How many files an option names: 1 where it stands.
 pub fn file_count(file: &Option<Text>) -> usize
-    ensures is { result ≡ length (listed file.now) }
+    ensures is { result ≡ length (file_list file.now) }
     ensures few { result ≤ 1 }
 {
     match file {

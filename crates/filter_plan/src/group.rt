@@ -2,7 +2,7 @@
 
 ghost use Rattle.std.specs.Prelude.{◌≡◌, IfOk, IsErrOf};
 ghost use Rattle.clap.specs.Words.{found_of, rows_of};
-ghost use Rattle.filter_plan.specs.inner.Groups.{AreOperands};
+ghost use Rattle.filter_plan.specs.inner.Groups.{AreOperandOptions};
 ghost use Rattle.filter_plan.specs.declared.group.Operands.{Operands};
 
 use crate::UsageFault;
@@ -24,8 +24,8 @@ pub(crate) struct Operands {
 
 /// The files that stand.
 pub(crate) fn read_operands(alloc: Global, matches: &ArgMatches) -> Result<Operands, UsageFault>
-    ensures reads { IfOk result (AreOperands (rows_of (found_of matches.now))) }
-    ensures usage { IsErrOf result UsageFault.Usage → (x : Operands) → AreOperands (rows_of (found_of matches.now)) x → ⊥ }
+    ensures reads { IfOk result (AreOperandOptions (rows_of (found_of matches.now))) }
+    ensures usage { IsErrOf result UsageFault.Usage → (x : Operands) → AreOperandOptions (rows_of (found_of matches.now)) x → ⊥ }
 {
     Ok(Operands {
         included_in: value_of(alloc, matches, "included-in")?,

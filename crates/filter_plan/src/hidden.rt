@@ -1,7 +1,7 @@
 //! Propositions to hide among the words.
 
 ghost use Rattle.std.specs.Prelude.{◌≡◌, MatchOption};
-ghost use Rattle.filter_plan.specs.Hiding.{IsHidden, suffix};
+ghost use Rattle.filter_plan.specs.Hiding.{IsHideOption, suffix};
 ghost use Rattle.ap_project.specs.declared.hide.Hide.{Hide};
 
 use crate::reading::OptionValue;
@@ -12,7 +12,7 @@ use std::alloc::Global;
 use word_syntax::read_name;
 
 impl OptionValue for Hidden {
-    ghost is_read = { IsHidden };
+    ghost is_read = { IsHideOption };
 
     /// The proposition that the text names, with how it is hidden.
     fn read(alloc: Global, text: &str) -> Result<Hidden, UsageFault> {

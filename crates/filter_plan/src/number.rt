@@ -3,7 +3,7 @@
 ghost use Rattle.std.specs.Prelude.{◌≡◌, ℕ, IfOk, IsErrOf, Option, MatchOption};
 ghost use Rattle.clap.specs.Words.{found_of, rows_of};
 ghost use Rattle.filter_plan.specs.Numbers.{IsMadeCount, IsNumber};
-ghost use Rattle.filter_plan.specs.Table.{Reads, values_of};
+ghost use Rattle.filter_plan.specs.Table.{ReadsOption, values_of};
 
 use crate::UsageFault;
 use crate::reading::OptionValue;
@@ -42,8 +42,8 @@ impl OptionValue for u32 {
 
 /// How many automata are made, by the value of the option.
 pub(crate) fn made_count_of(matches: &ArgMatches, id: &str) -> Result<Option<u32>, UsageFault>
-    ensures reads { IfOk result (λ n. Reads IsMadeCount (values_of id.now (rows_of (found_of matches.now))) n) }
-    ensures usage { IsErrOf result UsageFault.Usage → (n : Option ℕ) → Reads IsMadeCount (values_of id.now (rows_of (found_of matches.now))) n → ⊥ }
+    ensures reads { IfOk result (λ n. ReadsOption IsMadeCount (values_of id.now (rows_of (found_of matches.now))) n) }
+    ensures usage { IsErrOf result UsageFault.Usage → (n : Option ℕ) → ReadsOption IsMadeCount (values_of id.now (rows_of (found_of matches.now))) n → ⊥ }
 {
     match value(matches, id)? {
         Some(text) => match made_count(text) {

@@ -3,7 +3,7 @@
 ghost use Rattle.std.specs.Prelude.{◌≡◌, ◌++◌, ℕ, List, IsTrue, ◌↔◌, Option, MatchOption, codes};
 ghost use Rattle.std.specs.Str.Parse.{AllDigits};
 ghost use Rattle.filter_plan.specs.Numbers.{IsNumber};
-ghost use Rattle.filter_plan.specs.Spans.{IsIn, IsRange};
+ghost use Rattle.filter_plan.specs.Spans.{IsInRange, IsRange};
 ghost use Rattle.filter_plan.specs.inner.Bounds.{IsBounds, IsHigh, IsLow};
 ghost use Rattle.filter_plan.specs.declared.range.Range.{Range};
 
@@ -22,7 +22,7 @@ pub struct Range {
 impl Range {
     /// Whether the number is in the range.
     pub fn has(&self, n: u64) -> bool
-        ensures { IsTrue result ↔ IsIn self.now n }
+        ensures { IsTrue result ↔ IsInRange self.now n }
     {
         let is_below = match self.high {
             Some(high) => n <= high as u64,

@@ -2,7 +2,7 @@
 
 ghost use Rattle.std.specs.Prelude.{◌≡◌, ℕ, List, IfOk, IsErrOf, Option};
 ghost use Rattle.clap.specs.Words.{found_of, rows_of};
-ghost use Rattle.filter_plan.specs.Table.{Reads, values_of};
+ghost use Rattle.filter_plan.specs.Table.{ReadsOption, values_of};
 
 use crate::UsageFault;
 use crate::values::value;
@@ -26,8 +26,8 @@ pub(crate) fn value_of<T: OptionValue>(
     matches: &ArgMatches,
     id: &str,
 ) -> Result<Option<T>, UsageFault>
-    ensures reads { IfOk result (λ x. Reads T.is_read (values_of id.now (rows_of (found_of matches.now))) x) }
-    ensures usage { IsErrOf result UsageFault.Usage → (x : Option T) → Reads T.is_read (values_of id.now (rows_of (found_of matches.now))) x → ⊥ }
+    ensures reads { IfOk result (λ x. ReadsOption T.is_read (values_of id.now (rows_of (found_of matches.now))) x) }
+    ensures usage { IsErrOf result UsageFault.Usage → (x : Option T) → ReadsOption T.is_read (values_of id.now (rows_of (found_of matches.now))) x → ⊥ }
 {
     match value(matches, id)? {
         Some(text) => Ok(Some(T::read(alloc, text)?)),

@@ -3,7 +3,7 @@
 ghost use Rattle.std.specs.Prelude.{◌≡◌, ◌++◌, ◌≤◌, [], ◌∷◌, true, false, IsTrue, ◌↔◌, is_some, count_by};
 ghost use Rattle.std.specs.Str.{bytes_eq};
 ghost use Rattle.filter_plan.specs.Table.{refuted};
-ghost use Rattle.filter_plan.specs.Words.{KeepsRules, changes, dash, has_form, listed, operands};
+ghost use Rattle.filter_plan.specs.Words.{KeepsRules, changes, dash, has_form, file_list, operands};
 
 use crate::{Form, Output, Plan};
 use aut_base::Text;
@@ -77,7 +77,7 @@ fn operand_dashes(plan: &Plan) -> usize
 
 /// 1 where the file is standard input.
 fn dashes_of(file: &Option<Text>) -> usize
-    ensures number { result ≡ count_by (bytes_eq dash) (listed file.now) }
+    ensures number { result ≡ count_by (bytes_eq dash) (file_list file.now) }
     ensures few { result ≤ 1 }
 {
     match file {
@@ -88,7 +88,7 @@ fn dashes_of(file: &Option<Text>) -> usize
 
 /// 1 where the automaton to refute against is read from standard input.
 fn refuted_dashes(output: &Output) -> usize
-    ensures number { result ≡ count_by (bytes_eq dash) (listed (refuted output.now)) }
+    ensures number { result ≡ count_by (bytes_eq dash) (file_list (refuted output.now)) }
     ensures few { result ≤ 1 }
 {
     match output {

@@ -4,7 +4,7 @@ ghost use Rattle.std.specs.Prelude.{◌≡◌, ◌<◌, IfOk, IfErr, length, map
 ghost use Rattle.std.specs.Option.{option_map};
 ghost use Rattle.clap.specs.Words.{all_of, found_of, rows_of};
 ghost use Rattle.filter_plan.specs.Table.{is_on, values_of};
-ghost use Rattle.filter_plan.specs.Words.{listed};
+ghost use Rattle.filter_plan.specs.Words.{file_list};
 
 use crate::UsageFault;
 use clap::ArgMatches;
@@ -39,7 +39,7 @@ fn is_true(values: &[&str]) -> bool
 
 /// The value of the option, if it stands, or `Usage` exactly where it has several.
 pub(crate) fn value<'a>(matches: &ArgMatches<'a>, id: &str) -> Result<Option<&'a str>, UsageFault>
-    ensures once { IfOk result (λ v. values_of id.now (rows_of (found_of matches.now)) ≡ listed (option_map (λ t. t.now) v)) }
+    ensures once { IfOk result (λ v. values_of id.now (rows_of (found_of matches.now)) ≡ file_list (option_map (λ t. t.now) v)) }
     ensures several { IfErr result (λ fault. (fault ≡ UsageFault.Usage) × (1 < length (values_of id.now (rows_of (found_of matches.now))))) }
 {
     match values(matches, id) {
@@ -50,7 +50,7 @@ pub(crate) fn value<'a>(matches: &ArgMatches<'a>, id: &str) -> Result<Option<&'a
 
 /// The one value, if there is any.
 fn one<'a>(values: &[&'a str]) -> Result<Option<&'a str>, UsageFault>
-    ensures once { IfOk result (λ v. map (λ t. t.now) values.now ≡ listed (option_map (λ t. t.now) v)) }
+    ensures once { IfOk result (λ v. map (λ t. t.now) values.now ≡ file_list (option_map (λ t. t.now) v)) }
     ensures several { IfErr result (λ fault. (fault ≡ UsageFault.Usage) × (1 < length (map (λ t. t.now) values.now))) }
 {
     match values {

@@ -7,10 +7,10 @@ use Rattle.aut_base.proofs.lists.AllByRecursion.{AllByRecursion-map, AllByRecurs
 use Rattle.aut_base.proofs.lists.Members.{each_there, from_map, there_cases}
 use Rattle.aut_base.proofs.order.Ordered.{range_within}
 use Rattle.aut_base.proofs.order.Rising.{increases_kept, increases_moved, increases_range, increasing, risen, Rises, rises_each, rises_kept, rises_moved, rises_then, rising}
-use Rattle.aut_base.specs.Automaton.{Automaton, IsEdgeOf, IsWellFormed, TreeEdge}
+use Rattle.aut_base.specs.Automaton.{Automaton, IsEdgeOf, IsWellFormed, LabelledEdge}
 use Rattle.aut_base.specs.Formula.{FormulaTree, SetsBelow}
 use Rattle.acc_forms.specs.Atoms.{has_fin}
-use Rattle.acc_forms.specs.Terms.{literal_tree, terms}
+use Rattle.acc_forms.specs.Terms.{literal_formula, terms}
 use Rattle.acc_forms.specs.declared.literal.Literal.{Literal}
 use Rattle.acc_forms.specs.declared.literal.Literal.TheVariants.{Inf}
 use Rattle.fin_removal.proofs.CopiedEdges.{Enters, Stays, Within, comes_from, edge_bounds}
@@ -26,14 +26,14 @@ use Rattle.fin_removal.proofs.TermCopies.{copy_of}
 -- what is said of the sets of each copy holds of the literals of the condition
 owned_each : (P : FormulaTree → Type 0) (ts : List (List Literal))
     → ((copy : TermCopy) → Contains (term_copies ts) copy → (set : ℕ) → set < copy.first + literal_places copy.infs → P (FormulaTree.Inf set false))
-    → AllByRecursion (λ term. AllByRecursion (λ l. P (literal_tree l)) term) (owned_sets ts)
-owned_each P ts each = AllByRecursion-map (λ term. AllByRecursion (λ l. P (literal_tree l)) term) owned (term_copies ts) (each_copy (term_copies ts) each)
+    → AllByRecursion (λ term. AllByRecursion (λ l. P (literal_formula l)) term) (owned_sets ts)
+owned_each P ts each = AllByRecursion-map (λ term. AllByRecursion (λ l. P (literal_formula l)) term) owned (term_copies ts) (each_copy (term_copies ts) each)
   where
     each_copy : (cs : List TermCopy) → ((copy : TermCopy) → Contains cs copy → (set : ℕ) → set < copy.first + literal_places copy.infs → P (FormulaTree.Inf set false))
-        → AllByRecursion (λ copy. AllByRecursion (λ l. P (literal_tree l)) (owned copy)) cs
+        → AllByRecursion (λ copy. AllByRecursion (λ l. P (literal_formula l)) (owned copy)) cs
     each_copy [] each = tt
     each_copy (k ∷ ks) each = (
-      AllByRecursion-map (λ l. P (literal_tree l)) (λ set. Inf set false) (range_with_len k.first (literal_places k.infs))
+      AllByRecursion-map (λ l. P (literal_formula l)) (λ set. Inf set false) (range_with_len k.first (literal_places k.infs))
           (AllByRecursion-weaker (λ x. (k.first ≤ x) × (x < k.first + literal_places k.infs)) (λ x. P (FormulaTree.Inf x false)) (range_with_len k.first (literal_places k.infs))
           (λ x h. each k (0, omega arith, refl) x h.1) (range_within k.first (literal_places k.infs))),
       each_copy ks (λ copy there. each copy (suc there.0, omega (arith, there.1), there.2)),
@@ -50,13 +50,13 @@ copied_below a =
     omega (arith, within, among.sets_to)))
 
 -- the edges in order
-main_from : (n : ℕ) (copies : List TermCopy) (e d : TreeEdge) → Contains (main_edges n copies e) d → d.from ≡ e.from
+main_from : (n : ℕ) (copies : List TermCopy) (e d : LabelledEdge) → Contains (main_edges n copies e) d → d.from ≡ e.from
 main_from n copies e d there = ⊎_elim
-    (λ (same : stay e ≡ d). ap (λ (f : TreeEdge). f.from) (sym same))
-    (λ (other : Contains (map (enter n e) copies) d). let at = from_map (enter n e) copies d other in ap (λ (f : TreeEdge). f.from) (sym at.2))
+    (λ (same : stay e ≡ d). ap (λ (f : LabelledEdge). f.from) (sym same))
+    (λ (other : Contains (map (enter n e) copies) d). let at = from_map (enter n e) copies d other in ap (λ (f : LabelledEdge). f.from) (sym at.2))
     (there_cases (stay e) (map (enter n e) copies) d there)
 
-copies_rise : (n : ℕ) (edges : List TreeEdge) → Rises 0 n edges → (number first : ℕ) (ts : List (List Literal))
+copies_rise : (n : ℕ) (edges : List LabelledEdge) → Rises 0 n edges → (number first : ℕ) (ts : List (List Literal))
     → Rises (number * n) ((number + length ts) * n) (flat_map (copy_edges n edges) (copies_from number first ts))
 copies_rise n edges r number first [] = tt
 copies_rise n edges r number first (t ∷ ts) =
@@ -64,10 +64,10 @@ copies_rise n edges r number first (t ∷ ts) =
     let far : number + 1 + length ts ≡ number + length (t ∷ ts) = omega arith in
     let low : number * n + 0 ≡ number * n = omega arith in
     let high : number * n + n ≡ (number + 1) * n = omega arith in
-    let kept = rises_kept (λ (e : TreeEdge). allows k e.marks) 0 n edges r in
+    let kept = rises_kept (λ (e : LabelledEdge). allows k e.marks) 0 n edges r in
     let here : Rises (number * n) ((number + 1) * n) (copy_edges n edges k) =
     subst (λ h. Rises (number * n) h (copy_edges n edges k)) high
-    (subst (λ l. Rises l (number * n + n) (copy_edges n edges k)) low (rises_moved (edge_in n k) (number * n) (λ e. refl) 0 n (filter (λ (e : TreeEdge). allows k e.marks) edges) kept)) in
+    (subst (λ l. Rises l (number * n + n) (copy_edges n edges k)) low (rises_moved (edge_in n k) (number * n) (λ e. refl) 0 n (filter (λ (e : LabelledEdge). allows k e.marks) edges) kept)) in
     let up : (number + 1) * n ≤ (number + 1 + length ts) * n = mul-le-mul_right n (let e : number + 1 ≤ number + 1 + length ts = omega arith in e) in
     subst (λ m. Rises (number * n) (m * n) (flat_map (copy_edges n edges) (copies_from number first (t ∷ ts)))) far
     (rises_then (number * n) ((number + 1) * n) ((number + 1 + length ts) * n) (copy_edges n edges k) (flat_map (copy_edges n edges) (copies_from (number + 1) (first + sets_of t) ts))
@@ -94,7 +94,7 @@ in_copies a number q below within =
 in_main : (a : Automaton) (q : ℕ) → q < a.states → q < (copied a).states
 in_main a q within = omega (arith, in_copies a 0 q (omega arith) within)
 
-no_marks : (a : Automaton) (from to : ℕ) (e : TreeEdge) → IsEdgeOf a e → from < (copied a).states → to < (copied a).states
+no_marks : (a : Automaton) (from to : ℕ) (e : LabelledEdge) → IsEdgeOf a e → from < (copied a).states → to < (copied a).states
     → IsEdgeOf (copied a) (record { from = from; label = e.label; to = to; marks = [] })
 no_marks a from to e bounds below_from below_to =
     record { from = below_from; to = below_to; label = bounds.label; marks = All-nil (λ mark. mark < (copied a).sets); marks_rise = λ i j d order within. absurd (omega (arith, within)) }
@@ -103,7 +103,7 @@ marks_climb : (copy : TermCopy) (marks : List ℕ) → AllPairs (λ m n. m < n) 
 marks_climb copy marks = increasing (copy.first + 0) (marks_in copy marks)
     (increases_moved copy.first 0 _ (increases_kept (λ s. meets_at copy.infs s marks) 0 (range_with_len 0 (literal_places copy.infs)) (increases_range 0 (literal_places copy.infs))))
 
-edge_whole : (a : Automaton) → IsWellFormed a → (f : TreeEdge) → Contains (copied a).edges f → IsEdgeOf (copied a) f
+edge_whole : (a : Automaton) → IsWellFormed a → (f : LabelledEdge) → Contains (copied a).edges f → IsEdgeOf (copied a) f
 edge_whole a formed f there = ⊎_elim
     (λ (s : Stays a f).
     let bounds = edge_bounds a formed s.edge s.there in

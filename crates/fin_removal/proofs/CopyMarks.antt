@@ -4,7 +4,7 @@ use Rattle.std.specs.List.{range_with_len}
 use Rattle.std.proofs.lemmas.List.{append-nil, map-append}
 use Rattle.std.proofs.lemmas.List.Elements.{All-append, All-nil, All-cons, All-weaker, filter-append}
 use Rattle.aut_base.proofs.lists.Lists.{range_more, take-push}
-use Rattle.aut_base.specs.Automaton.{TreeEdge}
+use Rattle.aut_base.specs.Automaton.{LabelledEdge}
 use Rattle.fin_removal.specs.Copies.{allows, copy_edges, edge_in}
 use Rattle.fin_removal.specs.Meeting.{meets_at}
 use Rattle.fin_removal.specs.declared.term_copy.TermCopy.{TermCopy}
@@ -53,14 +53,14 @@ marks_push copy marks found new n so_far passes pushed =
     pushed ∙ (ap (λ xs. xs ++ (copy.first + n) ∷ []) so_far ∙ sym (marks_more copy marks n ∙ ap (λ b. marks_to copy marks n ++ cond b ((copy.first + n) ∷ []) []) passes))
 
 -- the edges of a copy, with one edge more of the automaton
-one_edge : (n : ℕ) (copy : TermCopy) (e : TreeEdge) (b : Bool) → map (edge_in n copy) (cond b (e ∷ []) []) ≡ cond b (edge_in n copy e ∷ []) []
+one_edge : (n : ℕ) (copy : TermCopy) (e : LabelledEdge) (b : Bool) → map (edge_in n copy) (cond b (e ∷ []) []) ≡ cond b (edge_in n copy e ∷ []) []
 one_edge n copy e true = refl
 one_edge n copy e false = refl
 
-pub copy_edges_more : {X : Type 0} (f : X → TreeEdge) (n : ℕ) (copy : TermCopy) (xs : List X) (i : ℕ) (x : X) → i < length xs → x ≡ get_or xs i x
+pub copy_edges_more : {X : Type 0} (f : X → LabelledEdge) (n : ℕ) (copy : TermCopy) (xs : List X) (i : ℕ) (x : X) → i < length xs → x ≡ get_or xs i x
     → copy_edges n (map f (take (i + 1) xs)) copy ≡ copy_edges n (map f (take i xs)) copy ++ cond (allows copy (f x).marks) (edge_in n copy (f x) ∷ []) []
 copy_edges_more f n copy xs i x within is =
-    let p : TreeEdge → Bool = λ e. allows copy e.marks in
+    let p : LabelledEdge → Bool = λ e. allows copy e.marks in
     ap (λ es. map (edge_in n copy) (filter p es)) (ap (map f) (take-push xs i x within is) ∙ map-append f (take i xs) (x ∷ []))
     ∙ (ap (map (edge_in n copy)) (filter-append p (map f (take i xs)) (f x ∷ []))
     ∙ (map-append (edge_in n copy) (filter p (map f (take i xs))) (filter p (f x ∷ []))

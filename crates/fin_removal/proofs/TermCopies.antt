@@ -11,7 +11,7 @@ use Rattle.acc_forms.specs.Terms.{count, literals}
 use Rattle.acc_forms.specs.declared.literal.Literal.{Literal}
 use Rattle.fin_removal.specs.Copies.{copies_from, sets_of, term_copies}
 use Rattle.fin_removal.specs.Meeting.{fins, infs, is_inf, literal_places}
-use Rattle.fin_removal.specs.inner.Links.{IsNumbered}
+use Rattle.fin_removal.specs.inner.Links.{IsCopyInRange}
 use Rattle.fin_removal.specs.declared.term_copy.TermCopy.{TermCopy}
 
 -- the copy of a term
@@ -68,14 +68,14 @@ pub terms_within : (ts : List (List Literal)) → count ts ≤ MOST_TERMS → le
 terms_within ts few = omega arith
 
 -- the numbers of the copies can be told
-numbered_from : (n number first : ℕ) (ts : List (List Literal)) → (number + length ts) * n < 2 ^ 32 → first + sum_by sets_of ts < 2 ^ 32 → All (IsNumbered n) (copies_from number first ts)
-numbered_from n number first [] states sets = All-nil (IsNumbered n)
+numbered_from : (n number first : ℕ) (ts : List (List Literal)) → (number + length ts) * n < 2 ^ 32 → first + sum_by sets_of ts < 2 ^ 32 → All (IsCopyInRange n) (copies_from number first ts)
+numbered_from n number first [] states sets = All-nil (IsCopyInRange n)
 numbered_from n number first (t ∷ ts) states sets =
     let next : (number + 1 + length ts) * n < 2 ^ 32 = (let e : number + 1 + length ts ≡ number + length (t ∷ ts) = omega arith in subst (λ m. m * n < 2 ^ 32) (sym e) states) in
     let here : (number + 1) * n ≤ (number + 1 + length ts) * n = mul-le-mul_right n (let e : number + 1 ≤ number + 1 + length ts = omega arith in e) in
-    All-cons (IsNumbered n) (copy_of number first t) (copies_from (number + 1) (first + sets_of t) ts)
+    All-cons (IsCopyInRange n) (copy_of number first t) (copies_from (number + 1) (first + sets_of t) ts)
     (record { states = omega (arith, here, next); sets = omega (arith, sets, sum_by-cons sets_of t ts) })
     (numbered_from n (number + 1) (first + sets_of t) ts next (omega (arith, sets, sum_by-cons sets_of t ts)))
 
-pub are_numbered : (n : ℕ) (ts : List (List Literal)) → (1 + length ts) * n < 2 ^ 32 → sum_by sets_of ts < 2 ^ 32 → All (IsNumbered n) (term_copies ts)
+pub are_numbered : (n : ℕ) (ts : List (List Literal)) → (1 + length ts) * n < 2 ^ 32 → sum_by sets_of ts < 2 ^ 32 → All (IsCopyInRange n) (term_copies ts)
 are_numbered n ts states sets = numbered_from n 1 0 ts states (omega (arith, sets))

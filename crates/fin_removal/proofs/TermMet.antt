@@ -8,7 +8,7 @@ use Rattle.std.proofs.lemmas.Option.{slice_get-get_or, slice_get_past}
 use Rattle.aut_base.proofs.lists.Members.{any_found, any_from, each_from, each_is, from_filter, from_map, from_range, there_filter, there_map, there_range}
 use Rattle.aut_base.specs.Formula.{met}
 use Rattle.aut_base.specs.Marks.{is_in}
-use Rattle.acc_forms.specs.Terms.{literal_tree}
+use Rattle.acc_forms.specs.Terms.{literal_formula}
 use Rattle.acc_forms.specs.declared.literal.Literal.{Literal}
 use Rattle.acc_forms.specs.declared.literal.Literal.TheVariants.{Inf, Fin}
 use Rattle.fin_removal.specs.Copies.{allows, marks_in, owned}
@@ -16,12 +16,12 @@ use Rattle.fin_removal.specs.Meeting.{fins, infs, is_inf, meets, meets_at, liter
 use Rattle.fin_removal.specs.declared.term_copy.TermCopy.{TermCopy}
 use Rattle.fin_removal.proofs.CopyNumbers.{Owns}
 
-pub met_inf : (cycle : List (List ℕ)) (l : Literal) → is_inf l ≡ true → met cycle (literal_tree l) ≡ list_any (λ marks. meets marks l) cycle
+pub met_inf : (cycle : List (List ℕ)) (l : Literal) → is_inf l ≡ true → met cycle (literal_formula l) ≡ list_any (λ marks. meets marks l) cycle
 met_inf cycle (Inf set false) e = refl
 met_inf cycle (Inf set true) e = refl
 met_inf cycle (Fin set neg) e = cc
 
-pub met_fin : (cycle : List (List ℕ)) (l : Literal) → is_inf l ≡ false → met cycle (literal_tree l) ≡ list_all (λ marks. meets marks l) cycle
+pub met_fin : (cycle : List (List ℕ)) (l : Literal) → is_inf l ≡ false → met cycle (literal_formula l) ≡ list_all (λ marks. meets marks l) cycle
 met_fin cycle (Fin set false) e = refl
 met_fin cycle (Fin set true) e = refl
 met_fin cycle (Inf set neg) e = cc
@@ -63,19 +63,19 @@ each_passed literals cycle passed l there =
 
 -- a term that is met, seen from its copy
 pub term_met : (cycle : List (List ℕ)) (term : List Literal) (copy : TermCopy) → 0 < length cycle → copy.fins ≡ fins term → copy.infs ≡ infs term
-    → list_all (λ l. met cycle (literal_tree l)) term ≡ true → IsMetIn copy cycle
+    → list_all (λ l. met cycle (literal_formula l)) term ≡ true → IsMetIn copy cycle
 term_met cycle term copy some is_fins is_infs holds = record {
   allowed = λ marks there. each_from (meets marks) copy.fins (λ l listed.
       let kept = from_filter (λ m. not (is_inf m)) term l (subst (λ (ls : List Literal). Contains ls l) is_fins listed) in
-      each_is (λ m. meets m l) cycle marks (sym (met_fin cycle l (not-true (is_inf l) kept.1)) ∙ each_is (λ m. met cycle (literal_tree m)) term l holds kept.0) there);
+      each_is (λ m. meets m l) cycle marks (sym (met_fin cycle l (not-true (is_inf l) kept.1)) ∙ each_is (λ m. met cycle (literal_formula m)) term l holds kept.0) there);
   passed = λ place within. passes_each copy.infs cycle some (λ l listed.
       let kept = from_filter is_inf term l (subst (λ (ls : List Literal). Contains ls l) is_infs listed) in
-      sym (met_inf cycle l kept.1) ∙ each_is (λ m. met cycle (literal_tree m)) term l holds kept.0) place;
+      sym (met_inf cycle l kept.1) ∙ each_is (λ m. met cycle (literal_formula m)) term l holds kept.0) place;
 }
 
 pub term_is_met : (cycle : List (List ℕ)) (term : List Literal) (copy : TermCopy) → copy.fins ≡ fins term → copy.infs ≡ infs term → IsMetIn copy cycle
-    → list_all (λ l. met cycle (literal_tree l)) term ≡ true
-term_is_met cycle term copy is_fins is_infs holds = each_from (λ l. met cycle (literal_tree l)) term (λ l there. elim (cases_Bool (is_inf l)) [
+    → list_all (λ l. met cycle (literal_formula l)) term ≡ true
+term_is_met cycle term copy is_fins is_infs holds = each_from (λ l. met cycle (literal_formula l)) term (λ l there. elim (cases_Bool (is_inf l)) [
   | inl inf ↦ met_inf cycle l inf ∙ each_passed copy.infs cycle holds.passed l (subst (λ (ls : List Literal). Contains ls l) (sym is_infs) (there_filter is_inf term l there inf))
   | inr fin ↦ met_fin cycle l fin ∙ each_from (λ marks. meets marks l) cycle (λ marks listed.
       each_is (meets marks) copy.fins l (holds.allowed marks listed)
@@ -105,13 +105,13 @@ of_marks copy marks set carried =
     record { place = at.0; within = omega (arith, within.1); is = at.2 ∙ eqb-true found.0 set found.2; meets = kept.1 }
 
 -- Inf of each set of the copy
-pub owned_met : (cycle : List (List ℕ)) (copy : TermCopy) → ((set : ℕ) → Owns copy set → list_any (is_in set) cycle ≡ true) → list_all (λ l. met cycle (literal_tree l)) (owned copy) ≡ true
-owned_met cycle copy each = each_from (λ l. met cycle (literal_tree l)) (owned copy) (λ l there.
+pub owned_met : (cycle : List (List ℕ)) (copy : TermCopy) → ((set : ℕ) → Owns copy set → list_any (is_in set) cycle ≡ true) → list_all (λ l. met cycle (literal_formula l)) (owned copy) ≡ true
+owned_met cycle copy each = each_from (λ l. met cycle (literal_formula l)) (owned copy) (λ l there.
     let at = from_map (λ set. Inf set false) (range_with_len copy.first (literal_places copy.infs)) l there in
     let within = from_range copy.first (literal_places copy.infs) at.0 at.1 in
-    ap (λ m. met cycle (literal_tree m)) (sym at.2) ∙ each at.0 (record { from = within.0; to = within.1 }))
+    ap (λ m. met cycle (literal_formula m)) (sym at.2) ∙ each at.0 (record { from = within.0; to = within.1 }))
 
-pub owned_is_met : (cycle : List (List ℕ)) (copy : TermCopy) → list_all (λ l. met cycle (literal_tree l)) (owned copy) ≡ true → (set : ℕ) → Owns copy set → list_any (is_in set) cycle ≡ true
+pub owned_is_met : (cycle : List (List ℕ)) (copy : TermCopy) → list_all (λ l. met cycle (literal_formula l)) (owned copy) ≡ true → (set : ℕ) → Owns copy set → list_any (is_in set) cycle ≡ true
 owned_is_met cycle copy holds set own =
-    each_is (λ l. met cycle (literal_tree l)) (owned copy) (Inf set false) holds
+    each_is (λ l. met cycle (literal_formula l)) (owned copy) (Inf set false) holds
     (there_map (λ s. Inf s false) (range_with_len copy.first (literal_places copy.infs)) set (there_range copy.first (literal_places copy.infs) set own.from own.to))

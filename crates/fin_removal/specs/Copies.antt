@@ -2,7 +2,7 @@
 -- into a copy when it will meet the term's Fin literals for ever, and is there held to them.
 use Rattle.std.specs.Prelude.{ℕ, ◌+◌, ◌*◌, ◌^◌, ◌<◌, ◌≤◌, Bool, false, if◌then◌else◌, List, [], ◌∷◌, ◌++◌, length, map, filter, flat_map}
 use Rattle.std.specs.List.{list_all, range_with_len, sum_by}
-use Rattle.aut_base.specs.Automaton.{Automaton, TreeEdge}
+use Rattle.aut_base.specs.Automaton.{Automaton, LabelledEdge}
 use Rattle.aut_base.specs.declared.limit.TheConstants.{MOST_TERMS}
 use Rattle.acc_forms.specs.Atoms.{has_fin}
 use Rattle.acc_forms.specs.Terms.{count, of_terms, terms}
@@ -33,15 +33,15 @@ abbrev pub state_in : ℕ → ℕ → ℕ → ℕ
 state_in n number state = number * n + state
 
 -- the edge stays in the main copy, unmarked
-abbrev pub stay : TreeEdge → TreeEdge
+abbrev pub stay : LabelledEdge → LabelledEdge
 stay e = record e { marks = [] }
 
 -- the edge leads from the main copy into this one, unmarked
-abbrev pub enter : ℕ → TreeEdge → TermCopy → TreeEdge
+abbrev pub enter : ℕ → LabelledEdge → TermCopy → LabelledEdge
 enter n e copy = record { from = e.from; label = e.label; to = state_in n copy.number e.to; marks = [] }
 
 -- the edge in the main copy, and then into each of the others
-abbrev pub main_edges : ℕ → List TermCopy → TreeEdge → List TreeEdge
+abbrev pub main_edges : ℕ → List TermCopy → LabelledEdge → List LabelledEdge
 main_edges n copies e = stay e ∷ map (enter n e) copies
 
 -- the copy has edges with these marks: they meet every Fin literal of its term
@@ -53,11 +53,11 @@ allows copy marks = list_all (meets marks) copy.fins
 abbrev pub marks_in : TermCopy → List ℕ → List ℕ
 marks_in copy marks = map (λ place. copy.first + place) (filter (λ place. meets_at copy.infs place marks) (range_with_len 0 (literal_places copy.infs)))
 
-abbrev pub edge_in : ℕ → TermCopy → TreeEdge → TreeEdge
+abbrev pub edge_in : ℕ → TermCopy → LabelledEdge → LabelledEdge
 edge_in n copy e = record { from = state_in n copy.number e.from; label = e.label; to = state_in n copy.number e.to; marks = marks_in copy e.marks }
 
 -- the edges within a copy
-abbrev pub copy_edges : ℕ → List TreeEdge → TermCopy → List TreeEdge
+abbrev pub copy_edges : ℕ → List LabelledEdge → TermCopy → List LabelledEdge
 copy_edges n edges copy = map (edge_in n copy) (filter (λ e. allows copy e.marks) edges)
 
 -- Inf of each of the copy's sets

@@ -1,11 +1,11 @@
 //! The edges of the copies.
 
 ghost use Rattle.std.specs.Prelude.{◌≡◌, ◌+◌, ◌<◌, ◌^◌, ◌++◌, ◌∷◌, [], All, IfOk, OnOk, flat_map, map};
-ghost use Rattle.aut_core.specs.Core.{IsLinkOf, edge_of};
+ghost use Rattle.aut_core.specs.SymbolicAutomata.{IsLinkOf, edge_of};
 ghost use Rattle.label_guards.specs.Store.{Has};
 ghost use Rattle.fin_removal.specs.Copies.{copy_edges, main_edges, marks_in};
 ghost use Rattle.fin_removal.specs.Meeting.{literal_places};
-ghost use Rattle.fin_removal.specs.inner.Links.{Adds, IsNumbered};
+ghost use Rattle.fin_removal.specs.inner.Links.{AddsLinks, IsCopyInRange};
 
 use crate::meeting::{meets_all, meets_at};
 use crate::term_copy::{TermCopies, TermCopy};
@@ -19,7 +19,7 @@ pub(crate) fn copied_links(
     a: &Automaton,
     copies: &TermCopies,
 ) -> Result<Links, Memory>
-    requires { All (IsNumbered a.now.states) copies.now }
+    requires { All (IsCopyInRange a.now.states) copies.now }
     ensures has { IfOk result (All (λ l. Has a.now.store l.guard)) }
     ensures edges { IfOk result (λ links. map (edge_of a.now.store) links
         ≡ flat_map (main_edges a.now.states copies.now) (map (edge_of a.now.store) a.now.links) ++ flat_map (copy_edges a.now.states (map (edge_of a.now.store) a.now.links)) copies.now) }
@@ -37,10 +37,10 @@ fn push_main_copy(
     a: &Automaton,
     copies: &TermCopies,
 ) -> Result<(), Memory>
-    requires { All (IsNumbered a.now.states) copies.now }
-    ensures { OnOk result (Adds a.now.store links.old links.new (flat_map (main_edges a.now.states copies.now) (map (edge_of a.now.store) a.now.links))) }
+    requires { All (IsCopyInRange a.now.states) copies.now }
+    ensures { OnOk result (AddsLinks a.now.store links.old links.new (flat_map (main_edges a.now.states copies.now) (map (edge_of a.now.store) a.now.links))) }
 {
-    a.whole();
+    a.well_formed();
     'links: for link in a.links() {
         push_main(alloc, links, a, copies, link)?;
     }
@@ -55,9 +55,9 @@ fn push_main(
     copies: &TermCopies,
     link: &Link,
 ) -> Result<(), Memory>
-    requires copies { All (IsNumbered a.now.states) copies.now }
+    requires copies { All (IsCopyInRange a.now.states) copies.now }
     requires link { IsLinkOf a.now link.now }
-    ensures { OnOk result (Adds a.now.store links.old links.new (main_edges a.now.states copies.now (edge_of a.now.store link.now))) }
+    ensures { OnOk result (AddsLinks a.now.store links.old links.new (main_edges a.now.states copies.now (edge_of a.now.store link.now))) }
 {
     push_unmarked(alloc, links, link, link.to)?;
     'copies: for copy in copies.as_slice() {
@@ -85,8 +85,8 @@ fn push_copies(
     a: &Automaton,
     copies: &TermCopies,
 ) -> Result<(), Memory>
-    requires { All (IsNumbered a.now.states) copies.now }
-    ensures { OnOk result (Adds a.now.store links.old links.new (flat_map (copy_edges a.now.states (map (edge_of a.now.store) a.now.links)) copies.now)) }
+    requires { All (IsCopyInRange a.now.states) copies.now }
+    ensures { OnOk result (AddsLinks a.now.store links.old links.new (flat_map (copy_edges a.now.states (map (edge_of a.now.store) a.now.links)) copies.now)) }
 {
     'copies: for copy in copies.as_slice() {
         push_copy(alloc, links, a, copy)?;
@@ -96,10 +96,10 @@ fn push_copies(
 
 /// Adds the edges of one copy: those that meet all Fin literals of its term.
 fn push_copy(alloc: Global, links: &mut Links, a: &Automaton, copy: &TermCopy) -> Result<(), Memory>
-    requires { IsNumbered a.now.states copy.now }
-    ensures { OnOk result (Adds a.now.store links.old links.new (copy_edges a.now.states (map (edge_of a.now.store) a.now.links) copy.now)) }
+    requires { IsCopyInRange a.now.states copy.now }
+    ensures { OnOk result (AddsLinks a.now.store links.old links.new (copy_edges a.now.states (map (edge_of a.now.store) a.now.links) copy.now)) }
 {
-    a.whole();
+    a.well_formed();
     let offset = copy.number * a.states();
     'links: for link in a.links() {
         if !meets_all(&copy.fins, &link.marks) {

@@ -5,7 +5,7 @@ ghost use Rattle.acc_forms.specs.Atoms.{has_fin};
 ghost use Rattle.acc_forms.specs.Terms.{count, terms};
 ghost use Rattle.acc_forms.specs.declared.fault.FormFault.{FormFault};
 ghost use Rattle.aut_base.specs.declared.limit.TheConstants.{MOST_TERMS};
-ghost use Rattle.aut_core.specs.Core.{automaton_of};
+ghost use Rattle.aut_core.specs.SymbolicAutomata.{automaton_of};
 ghost use Rattle.aut_core.specs.OtherNames.{AcceptTheSame};
 ghost use Rattle.fin_removal.specs.Copies.{CopiesFit, HasTooManyTerms, copied, without_fin};
 
@@ -28,7 +28,7 @@ pub fn copies(alloc: Global, a: &Automaton) -> Result<Automaton, FormFault>
     ensures passed { HasTooManyTerms (automaton_of a.now) → result ≡ Err FormFault.Terms }
     ensures only_passed { result ≡ Err FormFault.Terms → HasTooManyTerms (automaton_of a.now) }
 {
-    a.whole();
+    a.well_formed();
     let terms = disjuncts(alloc, a.formula())?;
     Ok(make_copies(alloc, a, &terms)?)
 }
@@ -59,7 +59,7 @@ fn make_copies(alloc: Global, a: &Automaton, listed: &Terms) -> Result<Automaton
     requires fit { CopiesFit (automaton_of a.now) }
     ensures { IfOk result (λ made. automaton_of made ≡ copied (automaton_of a.now)) }
 {
-    a.whole();
+    a.well_formed();
     let copies = term_copies(alloc, listed)?;
     let links = copied_links(alloc, a, &copies)?;
     let owned = sets_owned(alloc, &copies)?;

@@ -3,20 +3,20 @@ use Rattle.std.proofs.Common.{◌≡◌, ◌∙◌, ℕ, ◌+◌, ◌-◌, ◌<�
 use Rattle.std.proofs.lemmas.Bool.{cases_lt, cases_eq}
 use Rattle.graph_walk.specs.Walk.{Reaches}
 use Rattle.graph_walk.specs.declared.pass.Frame.{Frame}
-use Rattle.graph_walk.specs.inner.Chains.{head, tail, IsLast}
-use Rattle.graph_walk.specs.inner.Frames.{IsSettled, ReachesPlace, IsOpenNode, Hold}
+use Rattle.graph_walk.specs.inner.Chains.{head, tail, IsLastArc}
+use Rattle.graph_walk.specs.inner.Frames.{IsClosedOrAbove, ReachesPlace, IsOpenNode, Hold}
 use Rattle.graph_walk.specs.inner.Places.{At}
 use Rattle.graph_walk.proofs.Marked.{at_end, at_cases, at_same}
 use Rattle.graph_walk.proofs.WalkLemmas.{reach_none, reach_then}
 
 -- what is settled at a place is settled at one before it
-pub settled_below : (order : List ℕ) (closed : ℕ → Type 0) (low lower w : ℕ) → lower ≤ low → IsSettled order closed low w → IsSettled order closed lower w
+pub settled_below : (order : List ℕ) (closed : ℕ → Type 0) (low lower w : ℕ) → lower ≤ low → IsClosedOrAbove order closed low w → IsClosedOrAbove order closed lower w
 settled_below order closed low lower w le settled =
     ⊎_elim (λ (h : closed w). inl h)
     (λ (h : (place : ℕ) × (low ≤ place) × At order place w). inr (h.0, omega (arith, h.1), h.2))
     settled
 
-module _ (arcs : List (ℕ × ℕ)) (order order' : List ℕ) (closed closed' : ℕ → Type 0) (settles : (low w : ℕ) → IsSettled order closed low w → IsSettled order' closed' low w) where
+module _ (arcs : List (ℕ × ℕ)) (order order' : List ℕ) (closed closed' : ℕ → Type 0) (settles : (low w : ℕ) → IsClosedOrAbove order closed low w → IsClosedOrAbove order' closed' low w) where
   holds_move : (end : ℕ) (f : Frame) → ((i x : ℕ) → i < end → At order i x → At order' i x) → ((i x : ℕ) → i < end → At order' i x → At order i x) → IsOpenNode arcs order closed end f
       → IsOpenNode arcs order' closed' end f
   holds_move end f there back h = record {
@@ -44,7 +44,7 @@ module _ (arcs : List (ℕ × ℕ)) (order order' : List ℕ) (closed closed' : 
 
 -- one arc more of a node was looked at
 pub holds_looks : (arcs : List (ℕ × ℕ)) (order : List ℕ) (closed : ℕ → Type 0) (end : ℕ) (f : Frame) (place low next : ℕ) (h : IsOpenNode arcs order closed end f) → f.next ≡ place + 1
-    → low ≤ f.low → IsSettled order closed low (head arcs place) → ReachesPlace arcs order h.node low → IsLast arcs (tail arcs place) place next
+    → low ≤ f.low → IsClosedOrAbove order closed low (head arcs place) → ReachesPlace arcs order h.node low → IsLastArc arcs (tail arcs place) place next
     → IsOpenNode arcs order closed end (record { place = f.place; low = low; next = next })
 holds_looks arcs order closed end f place low next h is lower settled back last =
     let minus : f.next - 1 ≡ place = omega (arith, is) in
@@ -62,7 +62,7 @@ holds_looks arcs order closed end f place low next h is lower settled back last 
       seen = λ k above within from.
           ⊎_elim (λ (lt : k < place). absurd (last.no_other k above lt (from ∙ sym leaves)))
           (λ (le : place ≤ k).
-          ⊎_elim (λ (same : k ≡ place). subst (λ m. IsSettled order closed low (head arcs m)) (sym same) settled)
+          ⊎_elim (λ (same : k ≡ place). subst (λ m. IsClosedOrAbove order closed low (head arcs m)) (sym same) settled)
           (λ (other : k ≡ place → ⊥). settled_below order closed f.low low (head arcs k) lower (h.seen k (omega (arith, is)) within from))
           (cases_eq k place))
           (cases_lt k place);
@@ -78,7 +78,7 @@ reaches_lower arcs order node low other first second =
     (cases_lt low other)
 
 -- a node that was just entered
-pub holds_enters : (arcs : List (ℕ × ℕ)) (order : List ℕ) (closed : ℕ → Type 0) (w next : ℕ) → ((i x : ℕ) → At order i x → Reaches arcs x w) → IsLast arcs w (length arcs) next
+pub holds_enters : (arcs : List (ℕ × ℕ)) (order : List ℕ) (closed : ℕ → Type 0) (w next : ℕ) → ((i x : ℕ) → At order i x → Reaches arcs x w) → IsLastArc arcs w (length arcs) next
     → IsOpenNode arcs (order ++ w ∷ []) closed (length order + 1) (record { place = length order; low = length order; next = next })
 holds_enters arcs order closed w next to_it last = record {
   node = w;

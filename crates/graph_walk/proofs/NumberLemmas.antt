@@ -6,29 +6,29 @@ use Rattle.graph_walk.specs.Components.{AreComponents}
 use Rattle.graph_walk.specs.declared.pass.Mark.{Mark}
 use Rattle.graph_walk.specs.declared.pass.Mark.TheVariants.{Fresh, Open, Closed}
 use Rattle.graph_walk.specs.declared.pass.Pass.{Pass}
-use Rattle.graph_walk.specs.inner.Marks.{mark_of, number_of, IsNumbered, IsClosed}
+use Rattle.graph_walk.specs.inner.Marks.{node_mark, component_number, IsInComponent, IsClosed}
 use Rattle.graph_walk.specs.inner.Pass.{IsIdle}
 use Rattle.graph_walk.proofs.MarkLemmas.{mark_within}
 
-module _ (nodes : ℕ) (arcs : List (ℕ × ℕ)) (p : Pass) (numbers : List ℕ) (idle : IsIdle nodes arcs p) (entered : (x : ℕ) → x < nodes → mark_of p.marks.items x ≡ Fresh → ⊥)
-    (are : numbers ≡ map number_of p.marks.items) where
-  by_mark : (x : ℕ) (m : Mark) → x < nodes → mark_of p.marks.items x ≡ m → IsClosed p.marks.items x
+module _ (nodes : ℕ) (arcs : List (ℕ × ℕ)) (p : Pass) (numbers : List ℕ) (idle : IsIdle nodes arcs p) (entered : (x : ℕ) → x < nodes → node_mark p.marks.items x ≡ Fresh → ⊥)
+    (are : numbers ≡ map component_number p.marks.items) where
+  by_mark : (x : ℕ) (m : Mark) → x < nodes → node_mark p.marks.items x ≡ m → IsClosed p.marks.items x
   by_mark x Fresh within is = absurd (entered x within is)
   by_mark x (Open i) within is = let at = idle.keeps.stands x i is in absurd (omega (arith, at.0, ap length idle.no_order))
   by_mark x (Closed n) within is = (n, is)
 
   closed : (x : ℕ) → x < nodes → IsClosed p.marks.items x
-  closed x within = by_mark x (mark_of p.marks.items x) within refl
+  closed x within = by_mark x (node_mark p.marks.items x) within refl
 
-  number_is : (x n : ℕ) → IsNumbered p.marks.items x n → get_or numbers x 0 ≡ n
-  number_is x n is = ap (λ (l : List ℕ). get_or l x 0) are ∙ (get_or-map number_of p.marks.items x Fresh ∙ ap number_of is)
+  number_is : (x n : ℕ) → IsInComponent p.marks.items x n → get_or numbers x 0 ≡ n
+  number_is x n is = ap (λ (l : List ℕ). get_or l x 0) are ∙ (get_or-map component_number p.marks.items x Fresh ∙ ap component_number is)
 
-  inside : (x n : ℕ) → IsNumbered p.marks.items x n → x < nodes
+  inside : (x n : ℕ) → IsInComponent p.marks.items x n → x < nodes
   inside x n is = omega (arith, mark_within p.marks.items x (λ fresh. let e = is in cc), idle.size)
 
   pub are_components : AreComponents nodes arcs numbers
   are_components = record {
-    size = ap length are ∙ (length-map p.marks.items number_of ∙ idle.size);
+    size = ap length are ∙ (length-map p.marks.items component_number ∙ idle.size);
     same = λ x y below_x below_y.
         let m = closed x below_x in
         let n = closed y below_y in

@@ -10,10 +10,10 @@ use Rattle.graph_walk.specs.declared.pass.Frame.{Frame}
 use Rattle.graph_walk.specs.declared.pass.Mark.{Mark}
 use Rattle.graph_walk.specs.declared.pass.Mark.TheVariants.{Fresh, Open, Closed}
 use Rattle.graph_walk.specs.declared.pass.Pass.{Pass}
-use Rattle.graph_walk.specs.inner.Chains.{head, tail, IsLast, AreChained}
-use Rattle.graph_walk.specs.inner.Frames.{IsSettled, ReachesPlace, IsOpenNode, Hold}
-use Rattle.graph_walk.specs.inner.Marks.{mark_of, IsClosed, fresh_count, Keeps, ClosesFrom}
-use Rattle.graph_walk.specs.inner.Pass.{IsMidway, IsIdle, NoneFreshened, left_of, Steps, Enters, Closes, Finishes}
+use Rattle.graph_walk.specs.inner.Chains.{head, tail, IsLastArc, AreChained}
+use Rattle.graph_walk.specs.inner.Frames.{IsClosedOrAbove, ReachesPlace, IsOpenNode, Hold}
+use Rattle.graph_walk.specs.inner.Marks.{node_mark, IsClosed, fresh_count, AreConsistent, ClosesFrom}
+use Rattle.graph_walk.specs.inner.Pass.{IsVisiting, IsIdle, NoneFreshened, arcs_left, TakesStep, Enters, ClosesComponent, LeavesNode}
 use Rattle.graph_walk.specs.inner.Places.{At}
 use Rattle.graph_walk.proofs.FrameLemmas.{hold_moves, holds_looks, reaches_lower, holds_enters, holds_merge}
 use Rattle.graph_walk.proofs.MarkLemmas.{mark_set, mark_elsewhere, mark_within, fresh_less, fresh_no_more, numbered_kept, keeps_enters, at_taken, taken_at, settled_now, keeps_closes}
@@ -21,7 +21,7 @@ use Rattle.graph_walk.proofs.Marked.{at_kept, at_end, at_before, at_read}
 use Rattle.graph_walk.proofs.WalkLemmas.{reach_then, reach_place}
 
 -- what a read gives
-pub mark_read : (marks : List Mark) (x : ℕ) (m : Mark) → x < length marks → m ≡ get_or marks x m → mark_of marks x ≡ m
+pub mark_read : (marks : List Mark) (x : ℕ) (m : Mark) → x < length marks → m ≡ get_or marks x m → node_mark marks x ≡ m
 mark_read marks x m within read = sym (get_or_read marks x m within read Fresh)
 
 -- the frame below a list of frames, seen from the top
@@ -42,7 +42,7 @@ hold_same arcs marks marks' order order' n n' f fs fs' em eo en ef h =
     subst (λ (gs : List Frame). Hold arcs order' (IsClosed marks') n' (f ∷ gs)) (sym ef) d
 
 -- of an arc that is looked at
-module _ (nodes : ℕ) (arcs : List (ℕ × ℕ)) (p : Pass) (top : Frame) (place : ℕ) (m : IsMidway nodes arcs p top) (is : top.next ≡ place + 1) where
+module _ (nodes : ℕ) (arcs : List (ℕ × ℕ)) (p : Pass) (top : Frame) (place : ℕ) (m : IsVisiting nodes arcs p top) (is : top.next ≡ place + 1) where
   pub from_top : tail arcs place ≡ m.hold.0.node
   from_top =
       let minus : top.next - 1 ≡ place = omega (arith, is) in
@@ -54,8 +54,8 @@ module _ (nodes : ℕ) (arcs : List (ℕ × ℕ)) (p : Pass) (top : Frame) (plac
   low_within : top.low ≤ length p.order.items
   low_within = omega (arith, m.hold.0.under, m.hold.0.within)
 
-  looks : (low next : ℕ) → low ≤ top.low → IsSettled p.order.items (IsClosed p.marks.items) low (head arcs place) → ReachesPlace arcs p.order.items m.hold.0.node low
-      → IsLast arcs (tail arcs place) place next → Steps nodes arcs p top p (record { place = top.place; low = low; next = next })
+  looks : (low next : ℕ) → low ≤ top.low → IsClosedOrAbove p.order.items (IsClosed p.marks.items) low (head arcs place) → ReachesPlace arcs p.order.items m.hold.0.node low
+      → IsLastArc arcs (tail arcs place) place next → TakesStep nodes arcs p top p (record { place = top.place; low = low; next = next })
   looks low next lower settled back last = record {
     midway = record {
       size = m.size;
@@ -67,8 +67,8 @@ module _ (nodes : ℕ) (arcs : List (ℕ × ℕ)) (p : Pass) (top : Frame) (plac
   }
 
   -- to an open node
-  pub sees_open : (at low next : ℕ) → mark_of p.marks.items (head arcs place) ≡ Open at → low ≡ min top.low at → IsLast arcs (tail arcs place) place next
-      → Steps nodes arcs p top p (record { place = top.place; low = low; next = next })
+  pub sees_open : (at low next : ℕ) → node_mark p.marks.items (head arcs place) ≡ Open at → low ≡ min top.low at → IsLastArc arcs (tail arcs place) place next
+      → TakesStep nodes arcs p top p (record { place = top.place; low = low; next = next })
   sees_open at low next opened low_is last =
       let stands = m.keeps.stands (head arcs place) at opened in
       let lower : low ≤ at = omega (arith, low_is) in
@@ -77,8 +77,8 @@ module _ (nodes : ℕ) (arcs : List (ℕ × ℕ)) (p : Pass) (top : Frame) (plac
 
   -- to a fresh node, which is entered
   pub sees_fresh : (last before : List ℕ) (w next : ℕ) (q p' : Pass) (f : Frame) → AreChained nodes arcs (length arcs) last before → head arcs place ≡ w → w < nodes
-      → mark_of p.marks.items w ≡ Fresh → IsLast arcs (tail arcs place) place next → q.marks.items ≡ p.marks.items → q.order.items ≡ p.order.items → q.count ≡ p.count
-      → q.below.items ≡ p.below.items ++ (record { place = top.place; low = top.low; next = next }) ∷ [] → Enters last w q p' f → Steps nodes arcs p top p' f
+      → node_mark p.marks.items w ≡ Fresh → IsLastArc arcs (tail arcs place) place next → q.marks.items ≡ p.marks.items → q.order.items ≡ p.order.items → q.count ≡ p.count
+      → q.below.items ≡ p.below.items ++ (record { place = top.place; low = top.low; next = next }) ∷ [] → Enters last w q p' f → TakesStep nodes arcs p top p' f
   sees_fresh last before w next q p' f chains enters within fresh chain marks order count below e =
       let fits : w < length p.marks.items = omega (arith, m.size) in
       let top' : Frame = record { place = top.place; low = top.low; next = next } in
@@ -94,12 +94,12 @@ module _ (nodes : ℕ) (arcs : List (ℕ × ℕ)) (p : Pass) (top : Frame) (plac
       let low_is : f.low ≡ n = e.low ∙ long in
       let keeps = keeps_enters arcs p.marks.items p.order.items p.count w m.keeps fits fresh in
       let kept = numbered_kept arcs p.marks.items p.order.items p.count w m.keeps fits fresh in
-      let chain_w : IsLast arcs w (length arcs) f.next = subst (λ k. IsLast arcs w (length arcs) k) (sym e.next) (chains.lasts w within) in
+      let chain_w : IsLastArc arcs w (length arcs) f.next = subst (λ k. IsLastArc arcs w (length arcs) k) (sym e.next) (chains.lasts w within) in
       let entered : IsOpenNode arcs order' (IsClosed new) (n + 1) (record { place = n; low = n; next = f.next }) =
       holds_enters arcs p.order.items (IsClosed new) w f.next
       (λ i x at. reach_then arcs x m.hold.0.node w (m.hold.0.down i x at.0 at) (reach_place arcs place m.hold.0.node w place_within from_top enters))
       chain_w in
-      let settles : (low v : ℕ) → IsSettled p.order.items (IsClosed p.marks.items) low v → IsSettled order' (IsClosed new) low v =
+      let settles : (low v : ℕ) → IsClosedOrAbove p.order.items (IsClosed p.marks.items) low v → IsClosedOrAbove order' (IsClosed new) low v =
       λ low v settled.
       ⊎_elim (λ (is' : IsClosed p.marks.items v). inl (is'.0, kept v is'.0 is'.1))
       (λ (s : (k : ℕ) × (low ≤ k) × At p.order.items k v). inr (s.0, s.1, at_kept p.order.items w s.0 v s.2))
@@ -122,28 +122,28 @@ module _ (nodes : ℕ) (arcs : List (ℕ × ℕ)) (p : Pass) (top : Frame) (plac
           product,
           ap fresh_count marks_is,
           ap (λ (ms : List Mark). fresh_count ms * (length arcs + 2)) marks_is,
-          ap (sum_by left_of) below_is,
-          sum_by_push left_of p.below.items top',
+          ap (sum_by arcs_left) below_is,
+          sum_by_push arcs_left p.below.items top',
           is,
           chain.within,
           chain_w.within,
         );
         freshened = λ x was.
             ⊎_elim (λ (same : x ≡ w). rw same fresh)
-            (λ (other : x ≢ w). sym (mark_elsewhere p.marks.items w x (Open n) other) ∙ (ap (λ (ms : List Mark). mark_of ms x) (sym marks_is) ∙ was))
+            (λ (other : x ≢ w). sym (mark_elsewhere p.marks.items w x (Open n) other) ∙ (ap (λ (ms : List Mark). node_mark ms x) (sym marks_is) ∙ was))
             (cases_eq x w);
       }
 
 -- the pass begins at a fresh node
 pub enters_first : (nodes : ℕ) (arcs : List (ℕ × ℕ)) (last before : List ℕ) (w : ℕ) (p p' : Pass) (f : Frame) → AreChained nodes arcs (length arcs) last before → IsIdle nodes arcs p
-    → w < nodes → mark_of p.marks.items w ≡ Fresh → Enters last w p p' f → IsMidway nodes arcs p' f
+    → w < nodes → node_mark p.marks.items w ≡ Fresh → Enters last w p p' f → IsVisiting nodes arcs p' f
 enters_first nodes arcs last before w p p' f chains idle within fresh e =
     let fits : w < length p.marks.items = omega (arith, idle.size) in
     let n : ℕ = length p.order.items in
     let new : List Mark = set p.marks.items w (Open n) in
     let order' : List ℕ = p.order.items ++ w ∷ [] in
     let keeps = keeps_enters arcs p.marks.items p.order.items p.count w idle.keeps fits fresh in
-    let chain : IsLast arcs w (length arcs) f.next = subst (λ k. IsLast arcs w (length arcs) k) (sym e.next) (chains.lasts w within) in
+    let chain : IsLastArc arcs w (length arcs) f.next = subst (λ k. IsLastArc arcs w (length arcs) k) (sym e.next) (chains.lasts w within) in
     let none : n ≡ 0 = ap length idle.no_order in
     let entered : IsOpenNode arcs order' (IsClosed new) (n + 1) (record { place = n; low = n; next = f.next }) =
     holds_enters arcs p.order.items (IsClosed new) w f.next (λ i x at. absurd (omega (arith, at.0))) chain in
@@ -159,9 +159,9 @@ below_other : (a b : ℕ) → a ≤ b → (a ≡ b → ⊥) → a < b
 below_other a b le other = ⊎_elim (λ (lt : a < b). lt) (λ (ge : b ≤ a). absurd (other (omega arith))) (cases_lt a b)
 
 -- a node whose arcs are done is left for the one below it
-pub merges : (nodes : ℕ) (arcs : List (ℕ × ℕ)) (p p' : Pass) (top g : Frame) (low : ℕ) → IsMidway nodes arcs p top → top.next ≡ 0 → (top.low ≡ top.place → ⊥) → p'.marks.items ≡ p.marks.items
+pub merges : (nodes : ℕ) (arcs : List (ℕ × ℕ)) (p p' : Pass) (top g : Frame) (low : ℕ) → IsVisiting nodes arcs p top → top.next ≡ 0 → (top.low ≡ top.place → ⊥) → p'.marks.items ≡ p.marks.items
     → p'.order.items ≡ p.order.items → p'.count ≡ p.count → p.below.items ≡ p'.below.items ++ g ∷ [] → low ≡ min g.low top.low
-    → Steps nodes arcs p top p' (record { place = g.place; low = low; next = g.next })
+    → TakesStep nodes arcs p top p' (record { place = g.place; low = low; next = g.next })
 merges nodes arcs p p' top g low m ended other marks order count below low_is =
     let frames : reverse p.below.items ≡ g ∷ reverse p'.below.items = ap (λ (fs : List Frame). reverse fs) below ∙ reverse_push p'.below.items g in
     let n : ℕ = length p.order.items in
@@ -176,18 +176,18 @@ merges nodes arcs p p' top g low m ended other marks order count below low_is =
             (reverse p'.below.items) (reverse p'.below.items) marks order (ap length order) refl
             (subst (λ (k : ℕ). IsOpenNode arcs p.order.items (IsClosed p.marks.items) n (record { place = g.place; low = k; next = g.next })) (sym low_is) merged, hold.1);
       };
-      falls = omega (arith, ended, ap (λ (ms : List Mark). fresh_count ms * (length arcs + 2)) marks, ap (sum_by left_of) below, sum_by_push left_of p'.below.items g);
-      freshened = λ x was. ap (λ (ms : List Mark). mark_of ms x) (sym marks) ∙ was;
+      falls = omega (arith, ended, ap (λ (ms : List Mark). fresh_count ms * (length arcs + 2)) marks, ap (sum_by arcs_left) below, sum_by_push arcs_left p'.below.items g);
+      freshened = λ x was. ap (λ (ms : List Mark). node_mark ms x) (sym marks) ∙ was;
     }
 
 -- the last node that is looked at has its own place as its lowest
-pub none_below : (nodes : ℕ) (arcs : List (ℕ × ℕ)) (p : Pass) (top : Frame) → IsMidway nodes arcs p top → p.below.items ≡ [] → top.place ≡ 0
+pub none_below : (nodes : ℕ) (arcs : List (ℕ × ℕ)) (p : Pass) (top : Frame) → IsVisiting nodes arcs p top → p.below.items ≡ [] → top.place ≡ 0
 none_below nodes arcs p top m none =
     subst (λ (fs : List Frame). Hold arcs p.order.items (IsClosed p.marks.items) top.place (reverse fs)) none m.hold.1
 
 -- a component is closed, and its first node is left
-module _ (nodes : ℕ) (arcs : List (ℕ × ℕ)) (p q : Pass) (top : Frame) (m : IsMidway nodes arcs p top) (ended : top.next ≡ 0) (own : top.low ≡ top.place) (c : Closes top.place p q) where
-  closed_keeps : Keeps arcs q.marks.items q.order.items q.count
+module _ (nodes : ℕ) (arcs : List (ℕ × ℕ)) (p q : Pass) (top : Frame) (m : IsVisiting nodes arcs p top) (ended : top.next ≡ 0) (own : top.low ≡ top.place) (c : ClosesComponent top.place p q) where
+  closed_keeps : AreConsistent arcs q.marks.items q.order.items q.count
   closed_keeps = rw (c.order, c.count) (keeps_closes arcs p.marks.items q.marks.items p.order.items p.count top m.keeps m.hold.0 ended own c.marks)
 
   closed_size : length q.marks.items ≡ nodes
@@ -198,7 +198,7 @@ module _ (nodes : ℕ) (arcs : List (ℕ × ℕ)) (p q : Pass) (top : Frame) (m 
 
   -- the one from which it was entered goes on
   pub closes_some : (p' : Pass) (g : Frame) → p'.marks.items ≡ q.marks.items → p'.order.items ≡ q.order.items → p'.count ≡ q.count → q.below.items ≡ p'.below.items ++ g ∷ []
-      → Steps nodes arcs p top p' g
+      → TakesStep nodes arcs p top p' g
   closes_some p' g marks order count below =
       let below' : p.below.items ≡ p'.below.items ++ g ∷ [] = sym c.below ∙ below in
       let frames : reverse p.below.items ≡ g ∷ reverse p'.below.items = ap (λ (fs : List Frame). reverse fs) below' ∙ reverse_push p'.below.items g in
@@ -222,10 +222,10 @@ module _ (nodes : ℕ) (arcs : List (ℕ × ℕ)) (p q : Pass) (top : Frame) (m 
           ended,
           ap (λ (ms : List Mark). fresh_count ms * (length arcs + 2)) marks,
           mul-le-mul_right (length arcs + 2) c.marks.fewer,
-          ap (sum_by left_of) below',
-          sum_by_push left_of p'.below.items g,
+          ap (sum_by arcs_left) below',
+          sum_by_push arcs_left p'.below.items g,
         );
-        freshened = λ x was. closed_fresh x (ap (λ (ms : List Mark). mark_of ms x) (sym marks) ∙ was);
+        freshened = λ x was. closed_fresh x (ap (λ (ms : List Mark). node_mark ms x) (sym marks) ∙ was);
       }
 
   -- there is none
@@ -239,7 +239,7 @@ module _ (nodes : ℕ) (arcs : List (ℕ × ℕ)) (p q : Pass) (top : Frame) (m 
           no_order = order ∙ (c.order ∙ ap (λ n. take n p.order.items) first);
           no_below = none';
         },
-        λ x was. closed_fresh x (ap (λ (ms : List Mark). mark_of ms x) (sym marks) ∙ was),
+        λ x was. closed_fresh x (ap (λ (ms : List Mark). node_mark ms x) (sym marks) ∙ was),
       )
 
 -- one of them more
@@ -261,20 +261,20 @@ closes_more order from to number node old new c here within le = record {
 }
 
 -- an open node has a mark
-pub open_within : (arcs : List (ℕ × ℕ)) (marks : List Mark) (order : List ℕ) (count i x : ℕ) → Keeps arcs marks order count → At order i x → x < length marks
+pub open_within : (arcs : List (ℕ × ℕ)) (marks : List Mark) (order : List ℕ) (count i x : ℕ) → AreConsistent arcs marks order count → At order i x → x < length marks
 open_within arcs marks order count i x keeps at = mark_within marks x (λ fresh. let e = keeps.opened x i at in cc)
 
-pub all_open_within : (arcs : List (ℕ × ℕ)) (marks : List Mark) (order : List ℕ) (count : ℕ) → Keeps arcs marks order count → All (λ x. x < length marks) order
+pub all_open_within : (arcs : List (ℕ × ℕ)) (marks : List Mark) (order : List ℕ) (count : ℕ) → AreConsistent arcs marks order count → All (λ x. x < length marks) order
 all_open_within arcs marks order count keeps k d within =
     open_within arcs marks order count k (get_or order k d) keeps (within, get_or_default order k 0 d within)
 
 -- the next arc of the same tail
 pub chain_read : (nodes : ℕ) (arcs : List (ℕ × ℕ)) (last before : List ℕ) (place next : ℕ) → AreChained nodes arcs (length arcs) last before → place < length arcs
-    → next ≡ get_or before place next → IsLast arcs (tail arcs place) place next
+    → next ≡ get_or before place next → IsLastArc arcs (tail arcs place) place next
 chain_read nodes arcs last before place next chains within read =
     let inside : place < length before = omega (arith, chains.arcs_size) in
     let at : get_or before place 0 ≡ next = sym (get_or_read before place next inside read 0) in
-    subst (λ k. IsLast arcs (tail arcs place) place k) at (chains.befores place within)
+    subst (λ k. IsLastArc arcs (tail arcs place) place k) at (chains.befores place within)
 
 -- an open node that is read is closed
 pub closes_step : (order now : List ℕ) (from to number node : ℕ) (old new : List Mark) → All (λ x. x < length old) order → now ≡ order → to < length order → node ≡ get_or now to node
@@ -285,9 +285,9 @@ closes_step order now from to number node old new marked same within read le clo
     (fits', closes_more order from to number node old new closes here fits' le)
 
 -- a component was closed, and the frame below was taken
-pub finishes_closed : (nodes : ℕ) (arcs : List (ℕ × ℕ)) (p q p' : Pass) (top : Frame) (r : Option Frame) → IsMidway nodes arcs p top → top.next ≡ 0 → top.low ≡ top.place
-    → Closes top.place p q → p'.marks.items ≡ q.marks.items → p'.order.items ≡ q.order.items → p'.count ≡ q.count → q.below.items ≡ p'.below.items ++ option_to_list r
-    → MatchOption r ((vec_len q.below ≡ 0) × (vec_len p'.below ≡ 0)) (λ _. vec_len p'.below + 1 ≡ vec_len q.below) → Finishes nodes arcs p top p' r
+pub finishes_closed : (nodes : ℕ) (arcs : List (ℕ × ℕ)) (p q p' : Pass) (top : Frame) (r : Option Frame) → IsVisiting nodes arcs p top → top.next ≡ 0 → top.low ≡ top.place
+    → ClosesComponent top.place p q → p'.marks.items ≡ q.marks.items → p'.order.items ≡ q.order.items → p'.count ≡ q.count → q.below.items ≡ p'.below.items ++ option_to_list r
+    → MatchOption r ((vec_len q.below ≡ 0) × (vec_len p'.below ≡ 0)) (λ _. vec_len p'.below + 1 ≡ vec_len q.below) → LeavesNode nodes arcs p top p' r
 finishes_closed nodes arcs p q p' top (Some g) m ended own closes marks order count below cases =
     closes_some nodes arcs p q top m ended own closes p' g marks order count below
 finishes_closed nodes arcs p q p' top None m ended own closes marks order count below cases =
@@ -295,13 +295,13 @@ finishes_closed nodes arcs p q p' top None m ended own closes marks order count 
     (nil_from_length p'.below.items (omega (arith, cases.1, p'.below.ok.0)))
 
 -- a fresh node was entered, and no other
-pub enters_one : (last : List ℕ) (w : ℕ) (p p' : Pass) (f : Frame) → w < length p.marks.items → mark_of p.marks.items w ≡ Fresh → Enters last w p p' f
-    → NoneFreshened p p' × (mark_of p'.marks.items w ≡ Fresh → ⊥)
+pub enters_one : (last : List ℕ) (w : ℕ) (p p' : Pass) (f : Frame) → w < length p.marks.items → node_mark p.marks.items w ≡ Fresh → Enters last w p p' f
+    → NoneFreshened p p' × (node_mark p'.marks.items w ≡ Fresh → ⊥)
 enters_one last w p p' f within fresh e =
     let at : Mark = Open (length p.order.items) in (
       λ x was.
           ⊎_elim (λ (same : x ≡ w). rw same fresh)
-          (λ (other : x ≢ w). sym (mark_elsewhere p.marks.items w x at other) ∙ (ap (λ (ms : List Mark). mark_of ms x) (sym e.marks) ∙ was))
+          (λ (other : x ≢ w). sym (mark_elsewhere p.marks.items w x at other) ∙ (ap (λ (ms : List Mark). node_mark ms x) (sym e.marks) ∙ was))
           (cases_eq x w),
-      λ was. let now : mark_of p'.marks.items w ≡ at = ap (λ (ms : List Mark). mark_of ms w) e.marks ∙ mark_set p.marks.items w at within in cc,
+      λ was. let now : node_mark p'.marks.items w ≡ at = ap (λ (ms : List Mark). node_mark ms w) e.marks ∙ mark_set p.marks.items w at within in cc,
     )

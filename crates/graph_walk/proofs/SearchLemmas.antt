@@ -6,12 +6,12 @@ use Rattle.std.proofs.lemmas.List.Sums.{sum_by-set}
 use Rattle.std.specs.List.{Contains, sum_by}
 use Rattle.std.proofs.lemmas.Bool.{cases_lt, cases_eq}
 use Rattle.std.proofs.lemmas.List.Elements.{Contains-get_or}
-use Rattle.graph_walk.specs.Reach.{ReachedFrom, AreReached}
+use Rattle.graph_walk.specs.Reach.{ReachedFrom, AreReachFlags}
 use Rattle.graph_walk.specs.Walk.{IsWalk}
 use Rattle.graph_walk.specs.declared.search.Search.{Search}
-use Rattle.graph_walk.specs.inner.Chains.{head, tail, IsLast, AreChained}
+use Rattle.graph_walk.specs.inner.Chains.{head, tail, IsLastArc, AreChained}
 use Rattle.graph_walk.specs.inner.Places.{At, flag}
-use Rattle.graph_walk.specs.inner.Search.{IsAdded, Adds, IsSized, AreListed, HasStarts, IsNear, IsLedBy, IsLed, IsClosed, Searching, Spreading, IsSearched, one_if_unset}
+use Rattle.graph_walk.specs.inner.Search.{IsAdded, AddsIfUnseen, IsSized, AreMarkedListed, HasStarts, IsNear, IsLedBy, IsLed, IsClosed, Searching, Spreading, IsSearched, one_if_unset}
 use Rattle.graph_walk.proofs.Depths.{with_depth, with_depth_there, depth_kept}
 use Rattle.graph_walk.proofs.Marked.{at_kept, at_end, at_before, at_cases, at_same, at_read, flag_set, flag_kept, flag_cases}
 use Rattle.graph_walk.proofs.WalkLemmas.{reach_none, reach_then, reach_place, placed}
@@ -78,7 +78,7 @@ module _ (arcs : List (ℕ × ℕ)) (starts : List ℕ) (done place w x : ℕ) (
   near_kept : (y n : ℕ) → IsNear old.known.depth s.seen.items y n → IsNear depth' (set s.seen.items w true) y n
   near_kept y n near = record { marked = still y near.marked; close = omega (arith, kept y near.marked, near.close) }
 
-  lists' : (s' : Search) → s'.seen.items ≡ set s.seen.items w true → s'.order.items ≡ s.order.items ++ w ∷ [] → AreListed s'
+  lists' : (s' : Search) → s'.seen.items ≡ set s.seen.items w true → s'.order.items ≡ s.order.items ++ w ∷ [] → AreMarkedListed s'
   lists' s' seen order = record {
     flagged = λ i y at.
         rw seen (⊎_elim (λ (before : At s.order.items i y). still y (old.known.lists.flagged i y before))
@@ -166,7 +166,7 @@ module _ (arcs : List (ℕ × ℕ)) (starts : List ℕ) (done place w x : ℕ) (
 
 -- the head of an arc of the node at `done` is added, unless it was seen before
 pub search_adds : (arcs : List (ℕ × ℕ)) (starts : List ℕ) (done end place w x : ℕ) (s s' : Search) → IsSized s → w < length s.seen.items → Searching arcs starts done end s → end ≡ place + 1
-    → At s.order.items done x → tail arcs place ≡ x → head arcs place ≡ w → place < length arcs → Adds s w place s' → Searching arcs starts done place s'
+    → At s.order.items done x → tail arcs place ≡ x → head arcs place ≡ w → place < length arcs → AddsIfUnseen s w place s' → Searching arcs starts done place s'
 search_adds arcs starts done end place w x s s' sized fits old same here leaves enters within adds =
     let old' : Searching arcs starts done (place + 1) s = subst (λ n. Searching arcs starts done n s) same old in
     ⊎_elim (λ (h : (flag s.seen.items w ≡ true) × (s' ≡ s)). subst (λ (t : Search). Searching arcs starts done place t) (sym h.1) (add_same arcs starts done place s old' (rw enters h.0)))
@@ -175,7 +175,7 @@ search_adds arcs starts done end place w x s s' sized fits old same here leaves 
     adds
 
 -- no arc from c to before `end` leaves the node at `done`
-pub search_passes : (arcs : List (ℕ × ℕ)) (starts : List ℕ) (done end c x : ℕ) (s : Search) → Searching arcs starts done end s → At s.order.items done x → IsLast arcs x end c
+pub search_passes : (arcs : List (ℕ × ℕ)) (starts : List ℕ) (done end c x : ℕ) (s : Search) → Searching arcs starts done end s → At s.order.items done x → IsLastArc arcs x end c
     → Searching arcs starts done c s
 search_passes arcs starts done end c x s old here last = record {
   known = old.known;
@@ -256,7 +256,8 @@ size_added w place s s' sized within added =
     }
 
 -- one start more is added
-pub start_added : (k w : ℕ) (starts : List ℕ) (s s' : Search) → w < length s.seen.items → k < length starts → get_or starts k 0 ≡ w → HasStarts starts k s → Adds s w 0 s' → HasStarts starts (k + 1) s'
+pub start_added : (k w : ℕ) (starts : List ℕ) (s s' : Search) → w < length s.seen.items → k < length starts → get_or starts k 0 ≡ w → HasStarts starts k s → AddsIfUnseen s w 0 s'
+    → HasStarts starts (k + 1) s'
 start_added k w starts s s' fits inside is has adds =
     ⊎_elim (λ (h : (flag s.seen.items w ≡ true) × (s' ≡ s)).
     subst (λ (t : Search). HasStarts starts (k + 1) t) (sym h.1) (record {
@@ -295,7 +296,7 @@ spread_begins nodes arcs starts last before done end node s chains size sized se
     let below : node < nodes = omega (arith, sized.order_within done node here) in
     let inside : node < length last = omega (arith, chains.nodes_size) in
     let at : get_or last node 0 ≡ end = sym (get_or_read last node end inside end_is 0) in
-    let chain : IsLast arcs node (length arcs) end = subst (λ n. IsLast arcs node (length arcs) n) at (chains.lasts node below) in
+    let chain : IsLastArc arcs node (length arcs) end = subst (λ n. IsLastArc arcs node (length arcs) n) at (chains.lasts node below) in
     record {
       size = size;
       sized = sized;
@@ -305,14 +306,14 @@ spread_begins nodes arcs starts last before done end node s chains size sized se
       leaves = chain.leaves;
     }
 
-at_added : (s s' : Search) (w place done x : ℕ) → At s.order.items done x → Adds s w place s' → At s'.order.items done x
+at_added : (s s' : Search) (w place done x : ℕ) → At s.order.items done x → AddsIfUnseen s w place s' → At s'.order.items done x
 at_added s s' w place done x here adds =
     ⊎_elim (λ (h : (flag s.seen.items w ≡ true) × (s' ≡ s)). rw h.1 here)
     (λ (h : IsAdded s w place s'). rw h.listed (at_kept s.order.items w done x here))
     adds
 
 pub spread_goes_on : (nodes : ℕ) (arcs : List (ℕ × ℕ)) (starts last before : List ℕ) (done end next node place w : ℕ) (s s' : Search) → AreChained nodes arcs (length arcs) last before
-    → Spreading nodes arcs starts done end node s → end ≡ place + 1 → head arcs place ≡ w → w < nodes → Adds s w place s' → length s'.seen.items ≡ length s.seen.items → IsSized s'
+    → Spreading nodes arcs starts done end node s → end ≡ place + 1 → head arcs place ≡ w → w < nodes → AddsIfUnseen s w place s' → length s'.seen.items ≡ length s.seen.items → IsSized s'
     → next ≡ get_or before place next → Spreading nodes arcs starts done next node s'
 spread_goes_on nodes arcs starts last before done end next node place w s s' chains old end_is enters fits adds size sized next_is =
     let within : place < length arcs = omega (arith, old.within) in
@@ -321,7 +322,7 @@ spread_goes_on nodes arcs starts last before done end next node place w s s' cha
     let added = search_adds arcs starts done end place w node s s' old.sized (omega (arith, old.size)) old.searching end_is old.here leaves enters within adds in
     let inside : place < length before = omega (arith, chains.arcs_size) in
     let at : get_or before place 0 ≡ next = sym (get_or_read before place next inside next_is 0) in
-    let chain : IsLast arcs node place next = subst (λ n. IsLast arcs node place n) at (subst (λ p. IsLast arcs p place (get_or before place 0)) leaves (chains.befores place within)) in
+    let chain : IsLastArc arcs node place next = subst (λ n. IsLastArc arcs node place n) at (subst (λ p. IsLastArc arcs p place (get_or before place 0)) leaves (chains.befores place within)) in
     let here = at_added s s' w place done node old.here adds in
     record {
       size = size ∙ old.size;
@@ -333,7 +334,7 @@ spread_goes_on nodes arcs starts last before done end next node place w s s' cha
     }
 
 -- the flags at the end
-pub search_ends : (nodes : ℕ) (arcs : List (ℕ × ℕ)) (starts : List ℕ) (s : Search) → IsSearched nodes arcs starts s → AreReached nodes arcs starts s.seen.items
+pub search_ends : (nodes : ℕ) (arcs : List (ℕ × ℕ)) (starts : List ℕ) (s : Search) → IsSearched nodes arcs starts s → AreReachFlags nodes arcs starts s.seen.items
 search_ends nodes arcs starts s searched = record {
   size = searched.size;
   exact = λ q below. (

@@ -10,6 +10,6 @@ pub record ReachedFrom (arcs : List (ℕ × ℕ)) (starts : List ℕ) (q : ℕ) 
   pub reached : Reaches arcs start q
 
 -- one flag for each node, which is set exactly where some node of the list reaches it
-pub record AreReached (nodes : ℕ) (arcs : List (ℕ × ℕ)) (starts : List ℕ) (flags : List Bool) : Type 0 where
+pub record AreReachFlags (nodes : ℕ) (arcs : List (ℕ × ℕ)) (starts : List ℕ) (flags : List Bool) : Type 0 where
   pub size : length flags ≡ nodes
   pub exact : (q : ℕ) → q < nodes → IsTrue (slice_index_or flags q false) ↔ ReachedFrom arcs starts q

@@ -20,11 +20,11 @@ pub(crate) enum Mark {
 }
 
 impl Mark {
-    ghost use Rattle.graph_walk.specs.inner.Marks.{number_of};
+    ghost use Rattle.graph_walk.specs.inner.Marks.{component_number};
 
     /// The number of the component, and 0 of a node whose component is not whole.
     pub(crate) fn number(self) -> u32
-        ensures { result ≡ number_of self }
+        ensures { result ≡ component_number self }
     {
         match self {
             Mark::Closed(number) => number,
@@ -58,15 +58,15 @@ pub(crate) struct Pass {
 }
 
 impl Pass {
-    ghost use Rattle.graph_walk.specs.inner.Marks.{mark_of};
-    ghost use Rattle.graph_walk.specs.inner.Pass.{Closes, Enters, Finishes, IsIdle, IsMidway, NoneFreshened, Steps};
+    ghost use Rattle.graph_walk.specs.inner.Marks.{node_mark};
+    ghost use Rattle.graph_walk.specs.inner.Pass.{ClosesComponent, Enters, LeavesNode, IsIdle, IsVisiting, NoneFreshened, TakesStep};
     ghost use Rattle.graph_walk.specs.declared.pass.Mark.TheVariants.{Fresh};
 
     /// The pass over all nodes.
     pub(crate) fn new(alloc: Global, graph: &Graph) -> Result<Pass, AllocError>
         requires { HasNodes graph.now.nodes graph.now.arcs }
         ensures idle { IfOk result (λ pass. IsIdle graph.now.nodes graph.now.arcs pass) }
-        ensures entered { IfOk result (λ pass. (x : ℕ) → x < graph.now.nodes → mark_of pass.marks.items x ≡ Fresh → ⊥) }
+        ensures entered { IfOk result (λ pass. (x : ℕ) → x < graph.now.nodes → node_mark pass.marks.items x ≡ Fresh → ⊥) }
     {
         let chains = Chains::new(alloc, graph)?;
         let mut pass = Pass {
@@ -89,7 +89,7 @@ impl Pass {
         requires within { root < graph.now.nodes }
         ensures idle { OnOk result (IsIdle graph.now.nodes graph.now.arcs self.new) }
         ensures freshened { OnOk result (NoneFreshened self.old self.new) }
-        ensures entered { OnOk result (mark_of self.new.marks.items root ≡ Fresh → ⊥) }
+        ensures entered { OnOk result (node_mark self.new.marks.items root ≡ Fresh → ⊥) }
     {
         let Mark::Fresh = self.marks[root as usize] else {
             return Ok(());
@@ -128,9 +128,9 @@ impl Pass {
     fn see(&mut self, graph: &Graph, chains: &Chains, top: Frame) -> Result<Frame, AllocError>
         requires nodes { HasNodes graph.now.nodes graph.now.arcs }
         requires chains { AreChains graph.now.nodes graph.now.arcs chains.now }
-        requires midway { IsMidway graph.now.nodes graph.now.arcs self.old top }
+        requires midway { IsVisiting graph.now.nodes graph.now.arcs self.old top }
         requires next { 0 < top.next }
-        ensures { IfOk result (λ next. Steps graph.now.nodes graph.now.arcs self.old top self.new next) }
+        ensures { IfOk result (λ next. TakesStep graph.now.nodes graph.now.arcs self.old top self.new next) }
     {
         let arcs = graph.arcs.as_slice();
         let place = top.next - 1;
@@ -154,9 +154,9 @@ impl Pass {
     /// Leaves a node whose arcs are done, and answers the one from which it was entered, if there is one. The
     /// graph is there for the contract.
     fn finish(&mut self, graph: &Graph, top: Frame) -> Option<Frame>
-        requires midway { IsMidway graph.now.nodes graph.now.arcs self.old top }
+        requires midway { IsVisiting graph.now.nodes graph.now.arcs self.old top }
         requires done { top.next ≡ 0 }
-        ensures { Finishes graph.now.nodes graph.now.arcs self.old top self.new result }
+        ensures { LeavesNode graph.now.nodes graph.now.arcs self.old top self.new result }
     {
         if top.low == top.place {
             self.close(top.place);
@@ -173,7 +173,7 @@ impl Pass {
         requires marked { All (λ x. x < length self.old.marks.items) self.old.order.items }
         requires within { place < length self.old.order.items }
         requires room { self.old.count + 1 < 2 ^ 32 }
-        ensures { Closes place self.old self.new }
+        ensures { ClosesComponent place self.old self.new }
     {
         'nodes: for at in place as usize..self.order.len() {
             let node = self.order[at];

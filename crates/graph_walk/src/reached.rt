@@ -1,7 +1,7 @@
 //! Which nodes are reached.
 
 ghost use Rattle.std.specs.Prelude.{ℕ, ◌<◌, All, IfOk};
-ghost use Rattle.graph_walk.specs.Reach.{AreReached};
+ghost use Rattle.graph_walk.specs.Reach.{AreReachFlags};
 ghost use Rattle.graph_walk.specs.Walk.{HasNodes};
 
 use crate::Graph;
@@ -13,7 +13,7 @@ use std::alloc::Global;
 pub fn reach(alloc: Global, graph: &Graph, from: &Numbers) -> Result<Flags, Memory>
     requires nodes { HasNodes graph.now.nodes graph.now.arcs }
     requires from { All (λ p. p < graph.now.nodes) from.now }
-    ensures { IfOk result (λ flags. AreReached graph.now.nodes graph.now.arcs from.now flags) }
+    ensures { IfOk result (λ flags. AreReachFlags graph.now.nodes graph.now.arcs from.now flags) }
 {
     let search = Search::new(alloc, graph, from.as_slice())?;
     Ok(Flags::from_vec(search.seen))

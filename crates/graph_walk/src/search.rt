@@ -20,7 +20,7 @@ pub(crate) struct Search {
 }
 
 impl Search {
-    ghost use Rattle.graph_walk.specs.inner.Search.{Adds, HasStarts, IsSearched, IsSized, Searching};
+    ghost use Rattle.graph_walk.specs.inner.Search.{AddsIfUnseen, HasStarts, IsSearched, IsSized, Searching};
 
     /// The search of all that the nodes of a list reach.
     pub(crate) fn new(alloc: Global, graph: &Graph, starts: &[u32]) -> Result<Search, AllocError>
@@ -62,7 +62,7 @@ impl Search {
         requires within { node < length self.old.seen.items }
         ensures size { OnOk result (length self.new.seen.items ≡ length self.old.seen.items) }
         ensures sized { OnOk result (IsSized self.new) }
-        ensures adds { OnOk result (Adds self.old node place self.new) }
+        ensures adds { OnOk result (AddsIfUnseen self.old node place self.new) }
     {
         if self.seen[node as usize] {
             return Ok(());

@@ -4,24 +4,24 @@ use Rattle.hoa_lexer.specs.Bytes.{is_space}
 
 -- The bytes close this many open comments, and end where the last one does. Each `/*` opens one more, and its two
 -- bytes are used: in `/*/` nothing is closed.
-abbrev pub Closes : ℕ → List ℕ → Type 0
-Closes zero [] = Unit {0}
-Closes zero (b ∷ bs) = ⊥
-Closes (suc depth) [] = ⊥
-Closes (suc depth) (b ∷ []) = ⊥
-Closes (suc depth) (b ∷ c ∷ bs) =
-    MatchBool ((b == 42) && (c == 47)) (Closes depth bs)
-    (MatchBool ((b == 47) && (c == 42)) (Closes (suc (suc depth)) bs) (Closes (suc depth) (c ∷ bs)))
+abbrev pub ClosesComments : ℕ → List ℕ → Type 0
+ClosesComments zero [] = Unit {0}
+ClosesComments zero (b ∷ bs) = ⊥
+ClosesComments (suc depth) [] = ⊥
+ClosesComments (suc depth) (b ∷ []) = ⊥
+ClosesComments (suc depth) (b ∷ c ∷ bs) =
+    MatchBool ((b == 42) && (c == 47)) (ClosesComments depth bs)
+    (MatchBool ((b == 47) && (c == 42)) (ClosesComments (suc (suc depth)) bs) (ClosesComments (suc depth) (c ∷ bs)))
 
 -- spaces and whole comments
 pub data IsBlanks : List ℕ → Type 0 where
   nothing : IsBlanks []
   space : {b : ℕ} {bs : List ℕ} → is_space b ≡ true → IsBlanks bs → IsBlanks (b ∷ bs)
   -- `/*`, then what closes it
-  comment : {text : List ℕ} (body bs : List ℕ) → Closes 1 body → IsBlanks bs → text ≡ 47 ∷ 42 ∷ (body ++ bs) → IsBlanks text
+  comment : {text : List ℕ} (body bs : List ℕ) → ClosesComments 1 body → IsBlanks bs → text ≡ 47 ∷ 42 ∷ (body ++ bs) → IsBlanks text
 
 -- a comment opens here, and no front of what follows closes it
 pub record IsOpenComment (bytes : List ℕ) : Type 0 where
   pub rest : List ℕ
   pub opens : bytes ≡ 47 ∷ 42 ∷ rest
-  pub open_still : (body more : List ℕ) → rest ≡ body ++ more → Closes 1 body → ⊥
+  pub open_still : (body more : List ℕ) → rest ≡ body ++ more → ClosesComments 1 body → ⊥

@@ -24,20 +24,20 @@ CountsReads AtFault before after = Rose before after
 CountsReads _ before after = after ≡ before
 
 -- The limit is told exactly where one byte more is asked for: the end of a text is met by asking, too.
-abbrev pub IsWithin : Stop → ℕ → ℕ → Type 0
-IsWithin AtMost taken most = taken ≡ most
-IsWithin AtEnd taken most = taken < most
-IsWithin AtFault taken most = taken < most
-IsWithin Elsewhere taken most = Unit {0}
+abbrev pub IsWithinByteLimit : Stop → ℕ → ℕ → Type 0
+IsWithinByteLimit AtMost taken most = taken ≡ most
+IsWithinByteLimit AtEnd taken most = taken < most
+IsWithinByteLimit AtFault taken most = taken < most
+IsWithinByteLimit Elsewhere taken most = Unit {0}
 
-pub record Moves (stop : Stop) (old new : Lexer) (seen seen' : Seen) : Type 0 where
+pub record MovesLexer (stop : Stop) (old new : Lexer) (seen seen' : Seen) : Type 0 where
   pub most : new.most ≡ old.most
   -- bytes are only taken and used, and each that is taken is counted
   pub taken : Tells seen seen' (λ x y. new.taken + length y ≡ old.taken + length x)
   pub since : new.since + old.taken ≡ old.since + new.taken
   pub later : old.taken ≤ new.taken
   pub used : old.taken + held_count new.held ≤ new.taken + held_count old.held
-  pub within : IsWithin stop new.taken new.most
+  pub within : IsWithinByteLimit stop new.taken new.most
   -- the outside
   pub reads : CountsReads stop seen.read_faults seen'.read_faults
   pub reads_later : seen.read_faults ≤ seen'.read_faults
@@ -46,21 +46,21 @@ pub record Moves (stop : Stop) (old new : Lexer) (seen seen' : Seen) : Type 0 wh
   pub texts : seen'.texts ≡ seen.texts
 
 -- where a fault comes
-abbrev pub stop_of_fault : LexFault → Stop
-stop_of_fault (BadToken k) = Elsewhere
-stop_of_fault OpenComment = AtEnd
-stop_of_fault OpenString = AtEnd
-stop_of_fault OpenToken = AtEnd
-stop_of_fault Read = AtFault
-stop_of_fault Bytes = AtMost
-stop_of_fault Memory = Elsewhere
+abbrev pub stop_of_lex_fault : LexFault → Stop
+stop_of_lex_fault (BadToken k) = Elsewhere
+stop_of_lex_fault OpenComment = AtEnd
+stop_of_lex_fault OpenString = AtEnd
+stop_of_lex_fault OpenToken = AtEnd
+stop_of_lex_fault Read = AtFault
+stop_of_lex_fault Bytes = AtMost
+stop_of_lex_fault Memory = Elsewhere
 
 abbrev pub stop_of : {A : Type 0} → Result A LexFault → Stop
 stop_of (Ok value) = Elsewhere
-stop_of (Err fault) = stop_of_fault fault
+stop_of (Err fault) = stop_of_lex_fault fault
 
 -- the same where None is told at the end of the text
 abbrev pub stop_of_next : {A : Type 0} → Result (Option A) LexFault → Stop
 stop_of_next (Ok (Some value)) = Elsewhere
 stop_of_next (Ok None) = AtEnd
-stop_of_next (Err fault) = stop_of_fault fault
+stop_of_next (Err fault) = stop_of_lex_fault fault

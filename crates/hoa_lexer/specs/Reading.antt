@@ -30,18 +30,18 @@ Tells seen seen' P = Between seen.left seen'.left P
 
 -- What each answer says of the unread bytes before and after. `start` is how many bytes of the text were used
 -- before, and `offset` the one that the lexer tells afterwards.
-abbrev pub Answers : Result (Option Token) LexFault → ℕ → ℕ → List ℕ → List ℕ → Type 0
-Answers (Ok (Some token)) start offset old new = IsNext old start token offset new
-Answers (Ok None) start offset old new = IsBlanks old × (new ≡ [])
-Answers (Err (BadToken k)) start offset old new =
+abbrev pub AnswersToken : Result (Option Token) LexFault → ℕ → ℕ → List ℕ → List ℕ → Type 0
+AnswersToken (Ok (Some token)) start offset old new = IsNext old start token offset new
+AnswersToken (Ok None) start offset old new = IsBlanks old × (new ≡ [])
+AnswersToken (Err (BadToken k)) start offset old new =
     AfterBlanks old (λ bytes. (k + length bytes ≡ start + length old) × IsNoToken bytes) × AskedForOne old new
     × IsShownBy k start old new
-Answers (Err OpenComment) start offset old new = AfterBlanks old IsOpenComment × (new ≡ [])
-Answers (Err OpenString) start offset old new = AfterBlanks old IsOpenString × (new ≡ [])
-Answers (Err OpenToken) start offset old new = AfterBlanks old IsOpenToken × (new ≡ [])
-Answers (Err Bytes) start offset old new = AsksPast old new
-Answers (Err Read) start offset old new = AsksPast old new
-Answers (Err Memory) start offset old new = AsksPast old new
+AnswersToken (Err OpenComment) start offset old new = AfterBlanks old IsOpenComment × (new ≡ [])
+AnswersToken (Err OpenString) start offset old new = AfterBlanks old IsOpenString × (new ≡ [])
+AnswersToken (Err OpenToken) start offset old new = AfterBlanks old IsOpenToken × (new ≡ [])
+AnswersToken (Err Bytes) start offset old new = AsksPast old new
+AnswersToken (Err Read) start offset old new = AsksPast old new
+AnswersToken (Err Memory) start offset old new = AsksPast old new
 
 -- The answer of a call that puts a token in the place of one before, in the words of a call that gives it: true is that this
 -- token was put there, false that there is none.
@@ -68,18 +68,18 @@ BeginsNoToken (b ∷ bytes) = b ≡ 47
 
 -- Of these bytes, which begin `start` bytes after the start of the text, the offset is where the first token begins; or it
 -- stands where it stood, and no token begins in them.
-pub record IsPlaced (start offset offset' : ℕ) (used : List ℕ) : Type 0 where
+pub record IsOffsetPlaced (start offset offset' : ℕ) (used : List ℕ) : Type 0 where
   pub before : List ℕ
   pub bytes : List ℕ
   pub split : used ≡ before ++ bytes
   pub blanks : IsBlanks before
   pub place : BeginsToken bytes × (offset' ≡ start + length before) ⊎ BeginsNoToken bytes × (offset' ≡ offset)
 
--- Where the offset stands after an answer. Of a token `Answers` tells it.
-abbrev pub Places : Result (Option Token) LexFault → ℕ → ℕ → ℕ → List ℕ → List ℕ → Type 0
-Places (Ok (Some token)) start offset offset' old new = Unit {0}
-Places (Ok None) start offset offset' old new = offset' ≡ offset
-Places (Err fault) start offset offset' old new = (used : List ℕ) × (old ≡ used ++ new) × IsPlaced start offset offset' used
+-- Where the offset stands after an answer. Of a token `AnswersToken` tells it.
+abbrev pub PlacesOffset : Result (Option Token) LexFault → ℕ → ℕ → ℕ → List ℕ → List ℕ → Type 0
+PlacesOffset (Ok (Some token)) start offset offset' old new = Unit {0}
+PlacesOffset (Ok None) start offset offset' old new = offset' ≡ offset
+PlacesOffset (Err fault) start offset offset' old new = (used : List ℕ) × (old ≡ used ++ new) × IsOffsetPlaced start offset offset' used
 
 -- A byte past the token is held exactly where that byte was needed to close it. After a fault none is held.
 abbrev pub HoldsPast : Result (Option Token) LexFault → Option ℕ → Type 0

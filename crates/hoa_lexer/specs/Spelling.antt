@@ -60,12 +60,12 @@ StopsAt goes_on (b ∷ rest) = goes_on b ≡ false
 
 -- What has to follow a token that a further byte could extend: a byte that does not. A colon would make a header's
 -- name of an identifier. The other tokens, `0` among them, are closed by their own last byte.
-abbrev pub Ends : Token → List ℕ → Type 0
-Ends (Identifier name) rest = StopsAt is_word rest × StopsAt (λ b. b == 58) rest
-Ends (Int zero) rest = Unit {0}
-Ends (Int (suc n)) rest = StopsAt is_digit rest
-Ends (Alias name) rest = StopsAt is_word rest
-Ends _ rest = Unit {0}
+abbrev pub IsDelimited : Token → List ℕ → Type 0
+IsDelimited (Identifier name) rest = StopsAt is_word rest × StopsAt (λ b. b == 58) rest
+IsDelimited (Int zero) rest = Unit {0}
+IsDelimited (Int (suc n)) rest = StopsAt is_digit rest
+IsDelimited (Alias name) rest = StopsAt is_word rest
+IsDelimited _ rest = Unit {0}
 
 -- a token is closed by its own last byte
 abbrev pub closes_itself : Token → Bool

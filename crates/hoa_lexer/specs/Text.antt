@@ -2,7 +2,7 @@
 use Rattle.std.specs.Prelude.{◌≡◌, ◌≢◌, ℕ, ◌+◌, ◌-◌, ◌⊎◌, true, List, [], ◌∷◌, ◌++◌, length}
 use Rattle.hoa_lexer.specs.Blanks.{IsBlanks}
 use Rattle.hoa_lexer.specs.Bytes.{is_space}
-use Rattle.hoa_lexer.specs.Spelling.{Spells, Ends, Quotes}
+use Rattle.hoa_lexer.specs.Spelling.{Spells, IsDelimited, Quotes}
 use Rattle.hoa_lexer.specs.declared.token.Token.{Token}
 
 -- a closed token stands at the front of the bytes, and `rest` follows it
@@ -10,7 +10,7 @@ pub record IsFront (bytes : List ℕ) (token : Token) (rest : List ℕ) : Type 0
   pub word : List ℕ
   pub split : bytes ≡ word ++ rest
   pub spells : Spells token word
-  pub ends : Ends token rest
+  pub ends : IsDelimited token rest
 
 -- a closed token stands at the front
 pub record HasFront (bytes : List ℕ) : Type 0 where
@@ -19,7 +19,7 @@ pub record HasFront (bytes : List ℕ) : Type 0 where
   pub front : IsFront bytes token rest
 
 -- the bytes can go on so that a closed token stands at their front
-pub record Begins (bytes : List ℕ) : Type 0 where
+pub record BeginsToken (bytes : List ℕ) : Type 0 where
   pub more : List ℕ
   pub front : HasFront (bytes ++ more)
 
@@ -57,7 +57,7 @@ pub record IsOpenToken (bytes : List ℕ) : Type 0 where
   pub some : bytes ≢ []
   pub no_string : (rest : List ℕ) → bytes ≢ 34 ∷ rest
   pub unclosed : HasFront bytes → ⊥
-  pub begins : (bytes ≡ 47 ∷ []) ⊎ Begins bytes
+  pub begins : (bytes ≡ 47 ∷ []) ⊎ BeginsToken bytes
 
 -- no blank stands here, and no token and no comment begins so, however the text goes on
 pub record IsNoToken (bytes : List ℕ) : Type 0 where
@@ -65,7 +65,7 @@ pub record IsNoToken (bytes : List ℕ) : Type 0 where
   pub no_space : (b : ℕ) (rest : List ℕ) → bytes ≡ b ∷ rest → is_space b ≡ true → ⊥
   pub no_comment : (rest : List ℕ) → bytes ≢ 47 ∷ 42 ∷ rest
   pub no_slash : bytes ≢ 47 ∷ []
-  pub no_token : Begins bytes → ⊥
+  pub no_token : BeginsToken bytes → ⊥
 
 -- the bytes at hand close no token, and can go on so that they close one
 pub record AsksForMore (at_hand : List ℕ) : Type 0 where

@@ -2,7 +2,7 @@
 
 ghost use Rattle.std.specs.Prelude.{◌≡◌, ◌≢◌, ◌+◌, ◌-◌, ◌<◌, ◌≤◌, ◌∷◌, None, false, is_err, IsSome, IsTrue, IfOk, OnErr, OnOk};
 ghost use Rattle.hoa_lexer.specs.Bytes as kinds;
-ghost use Rattle.hoa_lexer.specs.Reading.{held_count, renewed, unread, Answers, HoldsPast, Places, Stays, Tells};
+ghost use Rattle.hoa_lexer.specs.Reading.{held_count, renewed, unread, AnswersToken, HoldsPast, PlacesOffset, Stays, Tells};
 
 mod blanks;
 mod bytes;
@@ -36,8 +36,8 @@ pub struct Lexer {
 }
 
 impl Lexer {
-    ghost use Rattle.hoa_lexer.specs.Moves.{Moves, stop_of, stop_of_next};
-    ghost use Rattle.hoa_lexer.specs.inner.Steps.{put, Advances, HoldsAfter, ReadsToken};
+    ghost use Rattle.hoa_lexer.specs.Moves.{MovesLexer, stop_of, stop_of_next};
+    ghost use Rattle.hoa_lexer.specs.inner.Steps.{put, AdvancesLexer, HoldsAfter, ReadsToken};
 
     /// A lexer that may take this many bytes in its life.
     pub fn new(most: u64) -> Lexer
@@ -103,16 +103,16 @@ impl Lexer {
 
         // The answer, by the bytes that were not read yet.
         ensures answers { Tells (I.seen inputs.old) (I.seen inputs.new) (λ old new.
-            Answers result (self.old.since - held_count self.old.held) self.new.offset (unread self.old.held old) (unread self.new.held new)) }
+            AnswersToken result (self.old.since - held_count self.old.held) self.new.offset (unread self.old.held old) (unread self.new.held new)) }
         ensures places { Tells (I.seen inputs.old) (I.seen inputs.new) (λ old new.
-            Places result (self.old.since - held_count self.old.held) self.old.offset self.new.offset (unread self.old.held old) (unread self.new.held new)) }
+            PlacesOffset result (self.old.since - held_count self.old.held) self.old.offset self.new.offset (unread self.old.held old) (unread self.new.held new)) }
         ensures holds { HoldsPast result self.new.held }
         ensures spent { self.new.spent ≡ is_err result }
 
         // A token uses at least one byte, also where the inputs don't tell what is left.
         ensures used { IfOk result (λ token. IsSome token
             → self.old.taken + held_count self.new.held < self.new.taken + held_count self.old.held) }
-        ensures moves { Moves (stop_of_next result) self.old self.new (I.seen inputs.old) (I.seen inputs.new) }
+        ensures moves { MovesLexer (stop_of_next result) self.old self.new (I.seen inputs.old) (I.seen inputs.new) }
     {
         let mut token = Token::End;
         if self.renew(alloc, inputs, &mut token)? {
@@ -134,14 +134,14 @@ impl Lexer {
 
         // The same as `next` answers.
         ensures answers { Tells (I.seen inputs.old) (I.seen inputs.new) (λ old new.
-            Answers (renewed result token.new) (self.old.since - held_count self.old.held) self.new.offset (unread self.old.held old) (unread self.new.held new)) }
+            AnswersToken (renewed result token.new) (self.old.since - held_count self.old.held) self.new.offset (unread self.old.held old) (unread self.new.held new)) }
         ensures places { Tells (I.seen inputs.old) (I.seen inputs.new) (λ old new.
-            Places (renewed result token.new) (self.old.since - held_count self.old.held) self.old.offset self.new.offset (unread self.old.held old) (unread self.new.held new)) }
+            PlacesOffset (renewed result token.new) (self.old.since - held_count self.old.held) self.old.offset self.new.offset (unread self.old.held old) (unread self.new.held new)) }
         ensures holds { HoldsPast (renewed result token.new) self.new.held }
         ensures spent { self.new.spent ≡ is_err result }
         ensures used { IfOk result (λ more. IsTrue more
             → self.old.taken + held_count self.new.held < self.new.taken + held_count self.old.held) }
-        ensures moves { Moves (stop_of_next (renewed result token.new)) self.old self.new (I.seen inputs.old) (I.seen inputs.new) }
+        ensures moves { MovesLexer (stop_of_next (renewed result token.new)) self.old self.new (I.seen inputs.old) (I.seen inputs.new) }
         ensures stays { Stays result token.old token.new }
     {
         let answer = self.scan(alloc, inputs, token);
@@ -157,13 +157,13 @@ impl Lexer {
         token: &mut Token,
     ) -> Result<bool, LexFault>
         ensures answers { Tells (I.seen inputs.old) (I.seen inputs.new) (λ old new.
-            Answers (renewed result token.new) (self.old.since - held_count self.old.held) self.new.offset (unread self.old.held old) (unread self.new.held new)) }
+            AnswersToken (renewed result token.new) (self.old.since - held_count self.old.held) self.new.offset (unread self.old.held old) (unread self.new.held new)) }
         ensures places { Tells (I.seen inputs.old) (I.seen inputs.new) (λ old new.
-            Places (renewed result token.new) (self.old.since - held_count self.old.held) self.old.offset self.new.offset (unread self.old.held old) (unread self.new.held new)) }
+            PlacesOffset (renewed result token.new) (self.old.since - held_count self.old.held) self.old.offset self.new.offset (unread self.old.held old) (unread self.new.held new)) }
         ensures holds { HoldsPast (renewed result token.new) self.new.held }
         ensures used { IfOk result (λ more. IsTrue more
             → self.old.taken + held_count self.new.held < self.new.taken + held_count self.old.held) }
-        ensures moves { Moves (stop_of_next (renewed result token.new)) self.old self.new (I.seen inputs.old) (I.seen inputs.new) }
+        ensures moves { MovesLexer (stop_of_next (renewed result token.new)) self.old self.new (I.seen inputs.old) (I.seen inputs.new) }
         ensures stays { Stays result token.old token.new }
     {
         match self.skip_blanks(inputs)? {
@@ -193,7 +193,7 @@ impl Lexer {
         ensures holds { HoldsAfter (put result token.new) self.new.held }
         ensures stays { OnErr result (token.new ≡ token.old) }
         ensures progress { OnOk result (self.old.taken + held_count self.new.held < self.new.taken + held_count self.old.held) }
-        ensures advances { Advances (stop_of result) self.old self.new (I.seen inputs.old) (I.seen inputs.new) }
+        ensures advances { AdvancesLexer (stop_of result) self.old self.new (I.seen inputs.old) (I.seen inputs.new) }
     {
         if is_letter(first) {
             return self.word(alloc, inputs, first, token);

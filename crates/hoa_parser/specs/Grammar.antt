@@ -75,9 +75,9 @@ abbrev mutual
   lnot_tokens (group l) = token.LeftParen ∷ (label_tokens l ++ token.RightParen ∷ [])
 
 -- The parts of a chain, joined. A single part stands for itself.
-abbrev pub conjunction : RawTree → List RawTree → RawTree
-conjunction t [] = t
-conjunction t (u ∷ us) = raw.And t u (raw_trees us)
+abbrev pub raw_conjunction : RawTree → List RawTree → RawTree
+raw_conjunction t [] = t
+raw_conjunction t (u ∷ us) = raw.And t u (raw_trees us)
 
 abbrev pub disjunction : RawTree → List RawTree → RawTree
 disjunction t [] = t
@@ -86,11 +86,11 @@ disjunction t (u ∷ us) = raw.Or t u (raw_trees us)
 -- what a label means; parentheses make no node of their own
 abbrev mutual
   pub label_meaning : Label → RawTree
-  label_meaning (label f fs ls) = disjunction (conjunction (lnot_meaning f) (lnots_meaning fs)) (lands_meaning ls)
+  label_meaning (label f fs ls) = disjunction (raw_conjunction (lnot_meaning f) (lnots_meaning fs)) (lands_meaning ls)
 
   pub lands_meaning : Lands → List RawTree
   lands_meaning no_land = []
-  lands_meaning (or_land f fs ls) = conjunction (lnot_meaning f) (lnots_meaning fs) ∷ lands_meaning ls
+  lands_meaning (or_land f fs ls) = raw_conjunction (lnot_meaning f) (lnots_meaning fs) ∷ lands_meaning ls
 
   pub lnots_meaning : Lnots → List RawTree
   lnots_meaning no_lnot = []
@@ -175,21 +175,21 @@ abbrev mutual
   fatom_tokens (finitely set neg) = token.Identifier (codes "Fin") ∷ set_tokens set neg
   fatom_tokens (condition_group l) = token.LeftParen ∷ (condition_tokens l ++ token.RightParen ∷ [])
 
-abbrev pub all_of : FormulaTree → List FormulaTree → FormulaTree
-all_of t [] = t
-all_of t (u ∷ us) = formula.And t u (trees us)
+abbrev pub formula_conjunction : FormulaTree → List FormulaTree → FormulaTree
+formula_conjunction t [] = t
+formula_conjunction t (u ∷ us) = formula.And t u (trees us)
 
-abbrev pub one_of : FormulaTree → List FormulaTree → FormulaTree
-one_of t [] = t
-one_of t (u ∷ us) = formula.Or t u (trees us)
+abbrev pub formula_disjunction : FormulaTree → List FormulaTree → FormulaTree
+formula_disjunction t [] = t
+formula_disjunction t (u ∷ us) = formula.Or t u (trees us)
 
 abbrev mutual
   pub condition_meaning : Condition → FormulaTree
-  condition_meaning (condition f fs ls) = one_of (all_of (fatom_meaning f) (fatoms_meaning fs)) (fands_meaning ls)
+  condition_meaning (condition f fs ls) = formula_disjunction (formula_conjunction (fatom_meaning f) (fatoms_meaning fs)) (fands_meaning ls)
 
   pub fands_meaning : Fands → List FormulaTree
   fands_meaning no_fand = []
-  fands_meaning (or_fand f fs ls) = all_of (fatom_meaning f) (fatoms_meaning fs) ∷ fands_meaning ls
+  fands_meaning (or_fand f fs ls) = formula_conjunction (fatom_meaning f) (fatoms_meaning fs) ∷ fands_meaning ls
 
   pub fatoms_meaning : Fatoms → List FormulaTree
   fatoms_meaning no_fatom = []
@@ -371,7 +371,7 @@ abbrev pub AutomatonWithin : ℕ → AutomatonPhrase → Type 0
 AutomatonWithin most a = AllByRecursion (ItemWithin most) a.items × AllByRecursion (StateWithin most) a.states
 
 -- The tokens spell what is written, and never more than `most` of the `(` and `!` of a label or formula are open.
-pub record Spells (most : ℕ) (tokens : List Token) (w : Written) : Type 0 where
+pub record SpellsAutomaton (most : ℕ) (tokens : List Token) (w : Written) : Type 0 where
   pub phrase : AutomatonPhrase
   pub within : AutomatonWithin most phrase
   pub spelled : tokens ≡ automaton_tokens phrase
@@ -381,4 +381,4 @@ pub record Spells (most : ℕ) (tokens : List Token) (w : Written) : Type 0 wher
 pub record IsViable (most : ℕ) (tokens : List Token) : Type 0 where
   pub more : List Token
   pub whole : Written
-  pub spelled : Spells most (tokens ++ more) whole
+  pub spelled : SpellsAutomaton most (tokens ++ more) whole

@@ -4,7 +4,7 @@ use Rattle.aut_base.specs.Formula as formula
 use Rattle.hoa_lexer.specs.declared.token.Token.{Token}
 use Rattle.hoa_lexer.specs.declared.token.Token.TheVariants.{HeaderName, Identifier, Str, Int, Alias, Bang, Amp, Bar, LeftParen, RightParen}
 use Rattle.hoa_lexer.specs.declared.token.Token.TheVariants.{LeftBrace, RightBrace, LeftBracket, RightBracket, Body, End, Abort}
-use Rattle.hoa_parser.specs.Grammar.{Spells}
+use Rattle.hoa_parser.specs.Grammar.{SpellsAutomaton}
 use Rattle.hoa_parser.specs.Raw as raw
 use Rattle.hoa_parser.specs.Raw.{Written, WrittenItem, WrittenState}
 use Rattle.hoa_parser.specs.Standing.{IsDead}
@@ -48,21 +48,21 @@ state_three =
 
 -- each with the least number of `(` and `!` that may be open
 pub record GrammarExamples : Type 0 where
-  pub factors_first : Spells 1 (with_item alias_a)
+  pub factors_first : SpellsAutomaton 1 (with_item alias_a)
       (has_item (raw.AliasOf (codes "a") (raw.Or (raw.And (raw.Prop 0) (raw.Prop 1) raw.none) (raw.Not (raw.Prop 2)) raw.none)))
-  pub not_products_first : (most : ℕ) → Spells most (with_item alias_a)
+  pub not_products_first : (most : ℕ) → SpellsAutomaton most (with_item alias_a)
       (has_item (raw.AliasOf (codes "a") (raw.And (raw.Prop 0) (raw.Or (raw.Prop 1) (raw.Not (raw.Prop 2)) raw.none) raw.none))) → ⊥
-  pub in_parentheses : Spells 1 (with_item alias_b)
+  pub in_parentheses : SpellsAutomaton 1 (with_item alias_b)
       (has_item (raw.AliasOf (codes "b") (raw.And (raw.Or (raw.Prop 0) (raw.Alias (codes "a")) raw.none) raw.True raw.none)))
-  pub condition : Spells 1 (with_item two_sets)
+  pub condition : SpellsAutomaton 1 (with_item two_sets)
       (has_item (raw.Acceptance 2 (formula.And (formula.Inf 0 false) (formula.Or (formula.Fin 1 true) formula.False formula.none) formula.none)))
   -- Start: 0 & 1
-  pub start : Spells 0 (with_item (HeaderName (codes "Start") ∷ Int 0 ∷ Amp ∷ Int 1 ∷ [])) (has_item (raw.Start (0 ∷ 1 ∷ [])))
+  pub start : SpellsAutomaton 0 (with_item (HeaderName (codes "Start") ∷ Int 0 ∷ Amp ∷ Int 1 ∷ [])) (has_item (raw.Start (0 ∷ 1 ∷ [])))
   -- tool: "ltl" "2", of which nothing is kept
-  pub dropped : Spells 0 (with_item (HeaderName (codes "tool") ∷ Str (codes "ltl") ∷ Str (codes "2") ∷ [])) (has_item raw.Tool)
+  pub dropped : SpellsAutomaton 0 (with_item (HeaderName (codes "tool") ∷ Str (codes "ltl") ∷ Str (codes "2") ∷ [])) (has_item raw.Tool)
   -- controllable-AP: 0
-  pub other : Spells 0 (with_item (HeaderName (codes "controllable-AP") ∷ Int 0 ∷ [])) (has_item (raw.Other (codes "controllable-AP")))
-  pub state : Spells 1 (with_state state_three)
+  pub other : SpellsAutomaton 0 (with_item (HeaderName (codes "controllable-AP") ∷ Int 0 ∷ [])) (has_item (raw.Other (codes "controllable-AP")))
+  pub state : SpellsAutomaton 1 (with_state state_three)
       (has_state
       (record {
         label = Some (raw.Not (raw.Prop 0));

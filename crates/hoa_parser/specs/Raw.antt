@@ -38,23 +38,23 @@ pub record RawParts : Type 0 where
   pub others : List RawTree
 
 -- one level of a label, with trees in the place of what it holds
-abbrev pub tree_step : RawLabel-F RawTree RawParts → RawTree
-tree_step RawLabel-F.True = True
-tree_step RawLabel-F.False = False
-tree_step (RawLabel-F.Prop i) = Prop i
-tree_step (RawLabel-F.Negated i) = Not (Prop i)
-tree_step (RawLabel-F.Alias name) = Alias name.value
-tree_step (RawLabel-F.Not t) = Not t.value
-tree_step (RawLabel-F.And p) = And p.value.first p.value.second (raw_trees p.value.others)
-tree_step (RawLabel-F.Or p) = Or p.value.first p.value.second (raw_trees p.value.others)
+abbrev pub raw_step : RawLabel-F RawTree RawParts → RawTree
+raw_step RawLabel-F.True = True
+raw_step RawLabel-F.False = False
+raw_step (RawLabel-F.Prop i) = Prop i
+raw_step (RawLabel-F.Negated i) = Not (Prop i)
+raw_step (RawLabel-F.Alias name) = Alias name.value
+raw_step (RawLabel-F.Not t) = Not t.value
+raw_step (RawLabel-F.And p) = And p.value.first p.value.second (raw_trees p.value.others)
+raw_step (RawLabel-F.Or p) = Or p.value.first p.value.second (raw_trees p.value.others)
 
 -- the tree of a label
 abbrev pub raw_tree : RawLabel → RawTree
-raw_tree = fold-RawLabel RawTree RawParts tree_step (λ ls. record { first = ls.first; second = ls.second; others = ls.others.items })
+raw_tree = fold-RawLabel RawTree RawParts raw_step (λ ls. record { first = ls.first; second = ls.second; others = ls.others.items })
 
 -- the parts of a conjunction or disjunction
 abbrev pub raw_parts : RawLabels → RawParts
-raw_parts = fold-RawLabels RawTree RawParts tree_step (λ ls. record { first = ls.first; second = ls.second; others = ls.others.items })
+raw_parts = fold-RawLabels RawTree RawParts raw_step (λ ls. record { first = ls.first; second = ls.second; others = ls.others.items })
 
 -- the same as one list, of two parts or more
 abbrev pub raw_list : RawLabels → List RawTree

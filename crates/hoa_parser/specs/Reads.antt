@@ -41,16 +41,16 @@ pub record MayHaveBegun (start : ℕ) (text new : List ℕ) : Type 0 where
   pub behind : AsksPast rest new ⊎ HasToken used rest new
 
 -- What each answer says of the unread bytes before and after. `start` is how many bytes of the text were used before.
-abbrev pub Answers : Result Front ReadFault → ℕ → List ℕ → List ℕ → Type 0
-Answers (Ok front.Blank) start old new = Stands Blank start old × (new ≡ [])
-Answers (Ok (front.Whole raw)) start old new = Stands (Whole (written raw) new) start old
-Answers (Ok front.Aborted) start old new = Stands (Aborted new) start old
-Answers (Err (fault.Syntax k)) start old new = Stands (Bad k) start old
-Answers (Err fault.Truncated) start old new = Stands Cut start old
-Answers (Err fault.Depth) start old new = Stands Deep start old
-Answers (Err fault.Bytes) start old new = AsksOn start old new
-Answers (Err fault.Read) start old new = AsksOn start old new
-Answers (Err fault.Memory) start old new = MayHaveBegun start old new
+abbrev pub AnswersFront : Result Front ReadFault → ℕ → List ℕ → List ℕ → Type 0
+AnswersFront (Ok front.Blank) start old new = Stands Blank start old × (new ≡ [])
+AnswersFront (Ok (front.Whole raw)) start old new = Stands (Whole (written raw) new) start old
+AnswersFront (Ok front.Aborted) start old new = Stands (Aborted new) start old
+AnswersFront (Err (fault.Syntax k)) start old new = Stands (Bad k) start old
+AnswersFront (Err fault.Truncated) start old new = Stands Cut start old
+AnswersFront (Err fault.Depth) start old new = Stands Deep start old
+AnswersFront (Err fault.Bytes) start old new = AsksOn start old new
+AnswersFront (Err fault.Read) start old new = AsksOn start old new
+AnswersFront (Err fault.Memory) start old new = MayHaveBegun start old new
 
 -- The bytes that were taken show that the text cannot go on at offset k as it does: no text that begins with them begins
 -- with an automaton.
@@ -83,17 +83,17 @@ HoldsBehind (Err fault.Memory) held = Unit {0}
 HoldsBehind _ held = held ≡ None
 
 -- where a reader came to its answer
-abbrev pub stop_of_fault : ReadFault → Stop
-stop_of_fault (fault.Syntax k) = Elsewhere
-stop_of_fault fault.Truncated = AtEnd
-stop_of_fault fault.Depth = Elsewhere
-stop_of_fault fault.Bytes = AtMost
-stop_of_fault fault.Read = AtFault
-stop_of_fault fault.Memory = Elsewhere
+abbrev pub stop_of_read_fault : ReadFault → Stop
+stop_of_read_fault (fault.Syntax k) = Elsewhere
+stop_of_read_fault fault.Truncated = AtEnd
+stop_of_read_fault fault.Depth = Elsewhere
+stop_of_read_fault fault.Bytes = AtMost
+stop_of_read_fault fault.Read = AtFault
+stop_of_read_fault fault.Memory = Elsewhere
 
 abbrev pub stop_of_reading : {A : Type 0} → Result A ReadFault → Stop
 stop_of_reading (Ok value) = Elsewhere
-stop_of_reading (Err fault) = stop_of_fault fault
+stop_of_reading (Err fault) = stop_of_read_fault fault
 
 -- the same where only blanks are told at the end of the text
 abbrev pub stop_of_front : Result Front ReadFault → Stop

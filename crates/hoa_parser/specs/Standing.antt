@@ -5,7 +5,7 @@ use Rattle.hoa_lexer.specs.Blanks.{IsBlanks, IsOpenComment}
 use Rattle.hoa_lexer.specs.Text.{AfterBlanks, IsNext, IsNoToken, IsOpenString, IsOpenToken, Lexes}
 use Rattle.hoa_lexer.specs.declared.token.Token.{Token}
 use Rattle.hoa_lexer.specs.declared.token.Token.TheVariants as token
-use Rattle.hoa_parser.specs.Grammar.{IsViable, Spells}
+use Rattle.hoa_parser.specs.Grammar.{IsViable, SpellsAutomaton}
 use Rattle.hoa_parser.specs.Raw.{Written}
 
 -- the most `(` and `!` that may be open at once
@@ -14,7 +14,7 @@ most_depth = MOST_DEPTH
 
 -- the tokens spell no automaton, whatever is open in it
 abbrev pub SpellsNothing : List Token → Type 0
-SpellsNothing tokens = (most : ℕ) (w : Written) → Spells most tokens w → ⊥
+SpellsNothing tokens = (most : ℕ) (w : Written) → SpellsAutomaton most tokens w → ⊥
 
 -- No automaton begins with these tokens.
 abbrev pub IsDead : List Token → Type 0
@@ -34,7 +34,7 @@ pub record IsBegun (start : ℕ) (text : List ℕ) (tokens : List Token) (used :
 pub record IsWhole (start : ℕ) (text : List ℕ) (w : Written) (rest : List ℕ) : Type 0 where
   pub placed : List (Token × ℕ)
   pub lexes : Lexes text start placed rest
-  pub spells : Spells most_depth (map (λ p. p.0) placed) w
+  pub spells : SpellsAutomaton most_depth (map (λ p. p.0) placed) w
 
 -- A token cannot stand at offset k. After one or more tokens `--ABORT--` is not such a token: it abandons the automaton.
 pub record IsMisplaced (k : ℕ) (tokens : List Token) (used : ℕ) (rest : List ℕ) : Type 0 where

@@ -25,22 +25,22 @@ disjunction_at Alone tokens = tokens
 disjunction_at _ tokens = token.LeftParen ∷ (tokens ++ token.RightParen ∷ [])
 
 abbrev mutual
-  pub written_label : Cursor → RawTree → List Token
-  written_label place raw.True = token.Identifier (codes "t") ∷ []
-  written_label place raw.False = token.Identifier (codes "f") ∷ []
-  written_label place (raw.Prop i) = token.Int i ∷ []
-  written_label place (raw.Alias name) = token.Alias name ∷ []
-  written_label place (raw.Not t) = token.Bang ∷ written_label InAnd t
-  written_label place (raw.And t u ts) = conjunction_at place (written_label InAnd t ++ token.Amp ∷ (written_label InAnd u ++ written_factors ts))
-  written_label place (raw.Or t u ts) = disjunction_at place (written_label InOr t ++ token.Bar ∷ (written_label InOr u ++ written_products ts))
+  pub label_tokens_at : Cursor → RawTree → List Token
+  label_tokens_at place raw.True = token.Identifier (codes "t") ∷ []
+  label_tokens_at place raw.False = token.Identifier (codes "f") ∷ []
+  label_tokens_at place (raw.Prop i) = token.Int i ∷ []
+  label_tokens_at place (raw.Alias name) = token.Alias name ∷ []
+  label_tokens_at place (raw.Not t) = token.Bang ∷ label_tokens_at InAnd t
+  label_tokens_at place (raw.And t u ts) = conjunction_at place (label_tokens_at InAnd t ++ token.Amp ∷ (label_tokens_at InAnd u ++ written_factors ts))
+  label_tokens_at place (raw.Or t u ts) = disjunction_at place (label_tokens_at InOr t ++ token.Bar ∷ (label_tokens_at InOr u ++ written_products ts))
 
   pub written_factors : RawTrees → List Token
   written_factors raw.none = []
-  written_factors (raw.more t ts) = token.Amp ∷ (written_label InAnd t ++ written_factors ts)
+  written_factors (raw.more t ts) = token.Amp ∷ (label_tokens_at InAnd t ++ written_factors ts)
 
   pub written_products : RawTrees → List Token
   written_products raw.none = []
-  written_products (raw.more t ts) = token.Bar ∷ (written_label InOr t ++ written_products ts)
+  written_products (raw.more t ts) = token.Bar ∷ (label_tokens_at InOr t ++ written_products ts)
 
 abbrev mutual
   pub written_formula : Cursor → FormulaTree → List Token
@@ -68,7 +68,7 @@ abbrev pub item_tokens : WrittenItem → List Token
 item_tokens (raw.States n) = token.HeaderName (codes "States") ∷ token.Int n ∷ []
 item_tokens (raw.Start states) = token.HeaderName (codes "Start") ∷ written_conj states
 item_tokens (raw.Ap count names) = token.HeaderName (codes "AP") ∷ token.Int count ∷ map token.Str names
-item_tokens (raw.AliasOf name label) = token.HeaderName (codes "Alias") ∷ token.Alias name ∷ written_label Alone label
+item_tokens (raw.AliasOf name label) = token.HeaderName (codes "Alias") ∷ token.Alias name ∷ label_tokens_at Alone label
 item_tokens (raw.Acceptance sets condition) = token.HeaderName (codes "Acceptance") ∷ token.Int sets ∷ written_formula Alone condition
 item_tokens raw.AccName = token.HeaderName (codes "acc-name") ∷ token.Identifier (codes "x") ∷ []
 item_tokens raw.Tool = token.HeaderName (codes "tool") ∷ token.Str [] ∷ []
@@ -78,7 +78,7 @@ item_tokens (raw.Other name) = token.HeaderName name ∷ []
 
 abbrev pub bracketed : Option RawTree → List Token
 bracketed None = []
-bracketed (Some label) = token.LeftBracket ∷ (written_label Alone label ++ token.RightBracket ∷ [])
+bracketed (Some label) = token.LeftBracket ∷ (label_tokens_at Alone label ++ token.RightBracket ∷ [])
 
 abbrev pub marks_tokens : List ℕ → List Token
 marks_tokens [] = []

@@ -6,7 +6,7 @@ ghost use Rattle.std.specs.Prelude.{◌≡◌, ◌∷◌, [], codes, false, true
 ghost use Rattle.hoa_lexer.specs.declared.token.Token.{Token};
 ghost use Rattle.hoa_parser.specs.inner.Expecting as part;
 ghost use Rattle.hoa_parser.specs.inner.Expecting.{move};
-ghost use Rattle.hoa_parser.specs.inner.Parsing.{Abandons, Reads, Uses, state};
+ghost use Rattle.hoa_parser.specs.inner.Parsing.{Abandons, ReadsParts, Uses, reader_state};
 ghost use Rattle.hoa_parser.specs.inner.RuleReads.{IsAutomaton};
 
 mod body;
@@ -60,8 +60,8 @@ pub(crate) fn automaton<I: Inputs>(
 ) -> Result<Raw, ReadFault>
     requires unspent { lexer.old.spent ≡ false }
     requires opens { ahead.old ≡ Token.HeaderName (codes "HOA") }
-    ensures reads { Reads (part.Whole ∷ []) (part.States ∷ []) IsAutomaton result
-        (state lexer.old ahead.old (I.seen inputs.old)) (state lexer.new ahead.new (I.seen inputs.new)) }
+    ensures reads { ReadsParts (part.Whole ∷ []) (part.States ∷ []) IsAutomaton result
+        (reader_state lexer.old ahead.old (I.seen inputs.old)) (reader_state lexer.new ahead.new (I.seen inputs.new)) }
     ensures ends { OnOk result (ahead.new ≡ Token.End) }
     ensures uses { OnOk result (Uses lexer.old lexer.new) }
 {

@@ -1,9 +1,9 @@
 //! From bytes to one automaton.
 
 ghost use Rattle.std.specs.Prelude.{◌≡◌, ◌≢◌, ◌+◌, ◌-◌, ◌<◌, false, IfOk, OnOk};
-ghost use Rattle.hoa_lexer.specs.Moves.{Moves};
+ghost use Rattle.hoa_lexer.specs.Moves.{MovesLexer};
 ghost use Rattle.hoa_lexer.specs.Reading.{Tells, held_count, unread};
-ghost use Rattle.hoa_parser.specs.Reads.{Answers, HoldsBehind, Shows, stop_of_front};
+ghost use Rattle.hoa_parser.specs.Reads.{AnswersFront, HoldsBehind, Shows, stop_of_front};
 
 use crate::parse::{abandons, automaton, opens};
 use crate::{Raw, ReadFault};
@@ -33,7 +33,7 @@ pub fn read_raw<I: Inputs>(
 
     // The answer, by the bytes that were not read yet.
     ensures answers { Tells (I.seen inputs.old) (I.seen inputs.new) (λ old new.
-        Answers result (lexer.old.since - held_count lexer.old.held) (unread lexer.old.held old) (unread lexer.new.held new)) }
+        AnswersFront result (lexer.old.since - held_count lexer.old.held) (unread lexer.old.held old) (unread lexer.new.held new)) }
     // The bytes that were taken show it, and the last of them was asked for.
     ensures shown { Tells (I.seen inputs.old) (I.seen inputs.new) (λ old new.
         Shows result (lexer.old.since - held_count lexer.old.held) (unread lexer.old.held old) new) }
@@ -43,7 +43,7 @@ pub fn read_raw<I: Inputs>(
     // An automaton uses at least one byte, also where the inputs don't tell what is left.
     ensures used { IfOk result (λ front. front ≢ Front.Blank
         → lexer.old.taken + held_count lexer.new.held < lexer.new.taken + held_count lexer.old.held) }
-    ensures moves { Moves (stop_of_front result) lexer.old lexer.new (I.seen inputs.old) (I.seen inputs.new) }
+    ensures moves { MovesLexer (stop_of_front result) lexer.old lexer.new (I.seen inputs.old) (I.seen inputs.new) }
 {
     let Some(mut ahead) = lexer.next(alloc, inputs)? else {
         return Ok(Front::Blank);

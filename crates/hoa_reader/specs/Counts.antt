@@ -6,7 +6,7 @@ use Rattle.aut_base.specs.Label.{LabelTree, LabelTrees, label_size}
 use Rattle.aut_base.specs.declared.limit.TheConstants.{MOST_NAMES, MOST_SETS, MOST_STATES, MOST_EDGES, MOST_ALIASES}
 use Rattle.hoa_reader.specs.Described.{edges_of, expanded, meanings_of, state_count}
 use Rattle.hoa_parser.specs.Raw.{RawTree, Written, WrittenEdge, WrittenState}
-use Rattle.hoa_reader.specs.Validity.{acceptance_of, aliases_among, body_labels, names_of}
+use Rattle.hoa_reader.specs.Validity.{acceptance_of, aliases_among, body_labels, written_names}
 
 -- how many signs of a label stand one inside the other at most, and of each of more labels
 abbrev mutual
@@ -55,12 +55,12 @@ pub data Count : Type 0 where
   -- how far labels grow when their aliases are replaced
   Aliases : Count
 
-abbrev pub count_of : Count → Written → ℕ
-count_of Names w = length (names_of w)
-count_of Sets w = (acceptance_of w).sets
-count_of States w = state_count w
-count_of Edges w = length (edges_of w)
-count_of Aliases w = max (greatest (map (height_in w) (body_labels w))) (weight w / 8192)
+abbrev pub value_of_count : Count → Written → ℕ
+value_of_count Names w = length (written_names w)
+value_of_count Sets w = (acceptance_of w).sets
+value_of_count States w = state_count w
+value_of_count Edges w = length (edges_of w)
+value_of_count Aliases w = max (greatest (map (height_in w) (body_labels w))) (weight w / 8192)
 
 -- the greatest number that is read
 abbrev pub most_of : Count → ℕ
@@ -70,34 +70,34 @@ most_of States = MOST_STATES
 most_of Edges = MOST_EDGES
 most_of Aliases = MOST_ALIASES
 
-abbrev pub Passes : Count → Written → Type 0
-Passes count w = nat_lt (most_of count) (count_of count w) ≡ true
+abbrev pub PassesCount : Count → Written → Type 0
+PassesCount count w = nat_lt (most_of count) (value_of_count count w) ≡ true
 
-abbrev pub IsWithin : Count → Written → Type 0
-IsWithin count w = nat_lt (most_of count) (count_of count w) ≡ false
+abbrev pub IsCountWithin : Count → Written → Type 0
+IsCountWithin count w = nat_lt (most_of count) (value_of_count count w) ≡ false
 
 -- all of them, in order
-abbrev pub counts : List Count
-counts = Names ∷ Sets ∷ States ∷ Edges ∷ Aliases ∷ []
+abbrev pub limit_counts : List Count
+limit_counts = Names ∷ Sets ∷ States ∷ Edges ∷ Aliases ∷ []
 
 -- how many are examined before this one
-abbrev pub place_of : Count → ℕ
-place_of Names = 0
-place_of Sets = 1
-place_of States = 2
-place_of Edges = 3
-place_of Aliases = 4
+abbrev pub count_order : Count → ℕ
+count_order Names = 0
+count_order Sets = 1
+count_order States = 2
+count_order Edges = 3
+count_order Aliases = 4
 
 -- each count of the list is within its number
-abbrev pub AreWithin : List Count → Written → Type 0
-AreWithin [] w = Unit {0}
-AreWithin (count ∷ others) w = IsWithin count w × AreWithin others w
+abbrev pub AreCountsWithin : List Count → Written → Type 0
+AreCountsWithin [] w = Unit {0}
+AreCountsWithin (count ∷ others) w = IsCountWithin count w × AreCountsWithin others w
 
 -- it passes its number, and no earlier one does
 pub record PassesFirst (count : Count) (w : Written) : Type 0 where
-  pub passes : Passes count w
-  pub earlier : AreWithin (take (place_of count) counts) w
+  pub passes : PassesCount count w
+  pub earlier : AreCountsWithin (take (count_order count) limit_counts) w
 
 -- none passes its number
 abbrev pub PassesNone : Written → Type 0
-PassesNone = AreWithin counts
+PassesNone = AreCountsWithin limit_counts

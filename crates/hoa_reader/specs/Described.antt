@@ -2,13 +2,13 @@
 use Rattle.std.specs.Prelude.{◌/◌, ◌%◌, ◌^◌, ◌+◌, max, ℕ, zero, suc, not, ◌==◌, if◌then◌else◌, List, [], ◌∷◌, ◌++◌, length, map, filter, filter_map, find, flat_map, get_or}
 use Rattle.std.specs.List.{enumerate_from}
 use Rattle.std.specs.Option.{option_map_or}
-use Rattle.aut_base.specs.Automaton.{TreeEdge, Automaton}
+use Rattle.aut_base.specs.Automaton.{LabelledEdge, Automaton}
 use Rattle.aut_base.specs.Label.{LabelTree, LabelTrees, trees}
 use Rattle.aut_base.specs.Marks.{is_in}
 use Rattle.hoa_parser.specs.Raw as raw
 use Rattle.hoa_parser.specs.Raw.{RawTree, RawTrees, Written, WrittenEdge, WrittenState}
 use Rattle.aut_base.specs.Text.{same_text}
-use Rattle.hoa_reader.specs.Validity.{AliasLine, acceptance_of, alias_lines, names_of, starts_written, states_item, used_states}
+use Rattle.hoa_reader.specs.Validity.{AliasLine, acceptance_of, alias_lines, written_names, starts_written, states_item, used_states}
 
 -- the numbers below n, in order
 abbrev pub below : ℕ → List ℕ
@@ -82,37 +82,37 @@ abbrev pub letter_label : ℕ → ℕ → LabelTree
 letter_label n i = conjunction (map (literal i) (below n))
 
 -- The label of the i-th edge of a state: the state's if it has one, else the edge's own, else the letter's.
-abbrev pub label_of : Written → WrittenState → ℕ → WrittenEdge → LabelTree
-label_of w s i e =
+abbrev pub edge_label : Written → WrittenState → ℕ → WrittenEdge → LabelTree
+edge_label w s i e =
     option_map_or (expanded (meanings_of w)) s.label
-    (option_map_or (expanded (meanings_of w)) e.label (letter_label (length (names_of w)) i))
+    (option_map_or (expanded (meanings_of w)) e.label (letter_label (length (written_names w)) i))
 
 -- the sets that are among these marks, in order
 abbrev pub marks_in_order : ℕ → List ℕ → List ℕ
 marks_in_order sets marks = filter (λ set. is_in set marks) (below sets)
 
 -- The i-th edge of a state. It is in the state's sets and in its own.
-abbrev pub tree_edge_of : Written → WrittenState → ℕ → WrittenEdge → TreeEdge
+abbrev pub tree_edge_of : Written → WrittenState → ℕ → WrittenEdge → LabelledEdge
 tree_edge_of w s i e = record {
   from = s.number;
-  label = label_of w s i e;
+  label = edge_label w s i e;
   to = only_state e.to;
   marks = marks_in_order (acceptance_of w).sets (s.marks ++ e.marks);
 }
 
-abbrev pub tree_edges_of : Written → WrittenState → List TreeEdge
+abbrev pub tree_edges_of : Written → WrittenState → List LabelledEdge
 tree_edges_of w s = map (λ p. tree_edge_of w s p.0 p.1) (enumerate_from 0 s.edges)
 
 -- the edges of a state; it has none where the body doesn't define it
-abbrev pub tree_edges_from : Written → ℕ → List TreeEdge
+abbrev pub tree_edges_from : Written → ℕ → List LabelledEdge
 tree_edges_from w q = flat_map (tree_edges_of w) (filter (λ s. s.number == q) w.states)
 
-abbrev pub edges_of : Written → List TreeEdge
+abbrev pub edges_of : Written → List LabelledEdge
 edges_of w = flat_map (tree_edges_from w) (below (state_count w))
 
 abbrev pub described : Written → Automaton
 described w = record {
-  names = names_of w;
+  names = written_names w;
   starts = starts_of w;
   states = state_count w;
   edges = edges_of w;

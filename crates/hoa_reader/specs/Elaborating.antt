@@ -4,7 +4,7 @@ use Rattle.aut_base.specs.Automaton.{IsWellFormed, automaton}
 use Rattle.aut_base.specs.CanonicalLabel.{canonical}
 use Rattle.aut_base.specs.declared.description.Description.{Description}
 use Rattle.aut_base.specs.declared.limit.Limit.{Limit}
-use Rattle.aut_core.specs.Core.{automaton_of}
+use Rattle.aut_core.specs.SymbolicAutomata.{automaton_of}
 use Rattle.hoa_reader.specs.Counts.{Count, PassesFirst, PassesNone}
 use Rattle.hoa_reader.specs.Described.{described}
 use Rattle.hoa_reader.specs.inner.Gathered.{limit_of}
@@ -23,10 +23,10 @@ pub record PassesLimit (which : Limit) (w : Written) : Type 0 where
   pub passes : PassesFirst count w
 
 -- why there is no answer
-abbrev pub Refuses : ElabFault → Written → Type 0
-Refuses (fault.Invalid rule) w = IsFirstBroken rule w
-Refuses (fault.Limit which) w = PassesLimit which w
-Refuses fault.Memory w = Unit {0}
+abbrev pub IsRefusedFor : ElabFault → Written → Type 0
+IsRefusedFor (fault.Invalid rule) w = IsFirstBroken rule w
+IsRefusedFor (fault.Limit which) w = PassesLimit which w
+IsRefusedFor fault.Memory w = Unit {0}
 
 -- It is valid and within the limits, and this is what it describes.
 pub record IsDescribed (w : Written) (d : Description) : Type 0 where
@@ -37,7 +37,7 @@ pub record IsDescribed (w : Written) (d : Description) : Type 0 where
 
 abbrev pub Elaborates : Result Description ElabFault → Written → Type 0
 Elaborates (Ok d) w = IsDescribed w d
-Elaborates (Err why) w = Refuses why w
+Elaborates (Err why) w = IsRefusedFor why w
 
 -- It is valid and within the limits, and this is what it describes, with each label in its canonical form, and the name that is written.
 pub record IsBuilt (w : Written) (n : Named) : Type 0 where
@@ -49,4 +49,4 @@ pub record IsBuilt (w : Written) (n : Named) : Type 0 where
 
 abbrev pub Builds : Result Named ElabFault → Written → Type 0
 Builds (Ok named) w = IsBuilt w named
-Builds (Err why) w = Refuses why w
+Builds (Err why) w = IsRefusedFor why w

@@ -64,8 +64,8 @@ is_name (Name text) = true
 is_name _ = false
 
 -- What the whole says. Where a line that may stand once stands twice, the first counts.
-abbrev pub names_of : Written → List (List ℕ)
-names_of w = get_or (filter_map names_item w.items) 0 []
+abbrev pub written_names : Written → List (List ℕ)
+written_names w = get_or (filter_map names_item w.items) 0 []
 
 abbrev pub alias_lines : Written → List AliasLine
 alias_lines w = filter_map alias_item w.items
@@ -199,8 +199,8 @@ defines_its_aliases w =
 -- V8: every proposition of a label, be it an alias's or one of the body, has a name.
 abbrev pub propositions_have_names : Written → Bool
 propositions_have_names w =
-    list_all (λ line. props_below (length (names_of w)) line.label) (alias_lines w)
-    && list_all (props_below (length (names_of w))) (body_labels w)
+    list_all (λ line. props_below (length (written_names w)) line.label) (alias_lines w)
+    && list_all (props_below (length (written_names w))) (body_labels w)
 
 -- V9: every set of the condition, of a state and of an edge is below their number.
 abbrev pub marks_below : ℕ → WrittenState → Bool
@@ -235,60 +235,60 @@ abbrev pub has_edge_per_letter : ℕ → WrittenState → Bool
 has_edge_per_letter n s = (length s.edges == 0) || ((length s.edges == 2 ^ n) || not (has_no_label s))
 
 abbrev pub has_edges_for_all_letters : Written → Bool
-has_edges_for_all_letters w = list_all (has_edge_per_letter (length (names_of w))) w.states
+has_edges_for_all_letters w = list_all (has_edge_per_letter (length (written_names w))) w.states
 
-abbrev pub keeps : Rule → Written → Bool
-keeps V1 = has_version_one
-keeps V2 = lines_stand_once
-keeps V3 = unknown_may_be_passed_over
-keeps V4 = has_counted_names
-keeps V5 = names_single_states
-keeps V6 = states_are_below
-keeps V7 = defines_its_aliases
-keeps V8 = propositions_have_names
-keeps V9 = sets_are_below
-keeps V10 = defines_states_once
-keeps V11 = labels_each_state_one_way
-keeps V12 = has_edges_for_all_letters
+abbrev pub keeps_rule : Rule → Written → Bool
+keeps_rule V1 = has_version_one
+keeps_rule V2 = lines_stand_once
+keeps_rule V3 = unknown_may_be_passed_over
+keeps_rule V4 = has_counted_names
+keeps_rule V5 = names_single_states
+keeps_rule V6 = states_are_below
+keeps_rule V7 = defines_its_aliases
+keeps_rule V8 = propositions_have_names
+keeps_rule V9 = sets_are_below
+keeps_rule V10 = defines_states_once
+keeps_rule V11 = labels_each_state_one_way
+keeps_rule V12 = has_edges_for_all_letters
 
 -- all of them, in order
 abbrev pub rules : List Rule
 rules = V1 ∷ V2 ∷ V3 ∷ V4 ∷ V5 ∷ V6 ∷ V7 ∷ V8 ∷ V9 ∷ V10 ∷ V11 ∷ V12 ∷ []
 
 -- how many are examined before this one
-abbrev pub place_of : Rule → ℕ
-place_of V1 = 0
-place_of V2 = 1
-place_of V3 = 2
-place_of V4 = 3
-place_of V5 = 4
-place_of V6 = 5
-place_of V7 = 6
-place_of V8 = 7
-place_of V9 = 8
-place_of V10 = 9
-place_of V11 = 10
-place_of V12 = 11
+abbrev pub rule_order : Rule → ℕ
+rule_order V1 = 0
+rule_order V2 = 1
+rule_order V3 = 2
+rule_order V4 = 3
+rule_order V5 = 4
+rule_order V6 = 5
+rule_order V7 = 6
+rule_order V8 = 7
+rule_order V9 = 8
+rule_order V10 = 9
+rule_order V11 = 10
+rule_order V12 = 11
 
 abbrev pub rules_before : Rule → List Rule
-rules_before rule = take (place_of rule) rules
+rules_before rule = take (rule_order rule) rules
 
-abbrev pub IsKept : Rule → Written → Type 0
-IsKept rule w = keeps rule w ≡ true
+abbrev pub IsRuleKept : Rule → Written → Type 0
+IsRuleKept rule w = keeps_rule rule w ≡ true
 
 abbrev pub IsBroken : Rule → Written → Type 0
-IsBroken rule w = keeps rule w ≡ false
+IsBroken rule w = keeps_rule rule w ≡ false
 
 -- each rule of the list is kept
-abbrev pub AreKept : List Rule → Written → Type 0
-AreKept [] w = Unit {0}
-AreKept (rule ∷ others) w = IsKept rule w × AreKept others w
+abbrev pub AreRulesKept : List Rule → Written → Type 0
+AreRulesKept [] w = Unit {0}
+AreRulesKept (rule ∷ others) w = IsRuleKept rule w × AreRulesKept others w
 
 -- it is broken, and no earlier one is
 pub record IsFirstBroken (rule : Rule) (w : Written) : Type 0 where
   pub broken : IsBroken rule w
-  pub earlier : AreKept (rules_before rule) w
+  pub earlier : AreRulesKept (rules_before rule) w
 
 -- none is broken
 abbrev pub IsValid : Written → Type 0
-IsValid = AreKept rules
+IsValid = AreRulesKept rules

@@ -2,7 +2,7 @@
 use Rattle.std.specs.Prelude.{ℕ, Bool, true, false, ◌==◌, ◌||◌, if◌then◌else◌, List, [], ◌∷◌, ◌++◌, length, map, filter, flat_map, codes, Option, Some, None}
 use Rattle.std.specs.Fmt.{decimal}
 use Rattle.std.specs.List.{range_with_len}
-use Rattle.aut_base.specs.Automaton.{TreeEdge, Automaton}
+use Rattle.aut_base.specs.Automaton.{LabelledEdge, Automaton}
 use Rattle.aut_base.specs.Formula.{FormulaTree, FormulaTrees, True, False, Inf, Fin, And, Or, none, more}
 use Rattle.aut_base.specs.LabelText.{joined, label_text}
 
@@ -50,7 +50,7 @@ marks_text [] = []
 marks_text (m ∷ ms) = codes " {" ++ (joined (codes " ") (map decimal (m ∷ ms)) ++ codes "}")
 
 -- an edge, in an automaton of this many names
-abbrev pub edge_line : ℕ → TreeEdge → List ℕ
+abbrev pub edge_line : ℕ → LabelledEdge → List ℕ
 edge_line n e = line (codes "[" ++ (label_text n e.label ++ (codes "] " ++ (decimal e.to ++ marks_text e.marks))))
 
 abbrev pub state_lines : Automaton → ℕ → List ℕ

@@ -2,7 +2,7 @@
 use Rattle.std.specs.Prelude.{◌≡◌, ◌↔◌, ◌<◌, ◌^◌, ℕ, ◌==◌, List, [], ◌∷◌, ◌++◌, length, map, filter, codes, Option, Some, None}
 use Rattle.std.specs.List.{range_with_len}
 use Rattle.aut_base.specs.Acceptance.{Accepts}
-use Rattle.aut_base.specs.Automaton.{TreeEdge, Automaton, IsWellFormed}
+use Rattle.aut_base.specs.Automaton.{LabelledEdge, Automaton, IsWellFormed}
 use Rattle.aut_base.specs.CanonicalLabel.{canonical, canonical_label}
 use Rattle.aut_base.specs.Label as label
 use Rattle.aut_base.specs.Label.{LabelTree}
@@ -10,7 +10,7 @@ use Rattle.aut_base.specs.Word.{NameSet}
 use Rattle.hoa_lexer.specs.Laws.{HasTokens}
 use Rattle.hoa_lexer.specs.declared.token.Token.{Token}
 use Rattle.hoa_reader.specs.Described.{described}
-use Rattle.hoa_parser.specs.Grammar.{Spells}
+use Rattle.hoa_parser.specs.Grammar.{SpellsAutomaton}
 use Rattle.hoa_parser.specs.Naming.{name_of}
 use Rattle.hoa_parser.specs.Raw as raw
 use Rattle.hoa_parser.specs.Raw.{RawTree, Written, WrittenEdge, WrittenItem, WrittenState, raw_trees}
@@ -31,7 +31,7 @@ abbrev mutual
   written_labels label.none = raw.none
   written_labels (label.more t ts) = raw.more (written_label t) (written_labels ts)
 
-abbrev pub canonical_edge : ℕ → TreeEdge → WrittenEdge
+abbrev pub canonical_edge : ℕ → LabelledEdge → WrittenEdge
 canonical_edge n e = record { label = Some (written_label (canonical_label n e.label)); to = e.to ∷ []; marks = e.marks }
 
 abbrev pub canonical_state : Automaton → ℕ → WrittenState
@@ -66,8 +66,8 @@ pub record ReadsBack (text : List ℕ) (a : Automaton) (name : Option (List ℕ)
   pub tokens : List Token
   pub lexes : HasTokens text 0 tokens
   pub most : ℕ
-  pub spells : Spells most tokens (canonical_written a name)
-  pub alone : (n : ℕ) (w : Written) → Spells n tokens w → w ≡ canonical_written a name
+  pub spells : SpellsAutomaton most tokens (canonical_written a name)
+  pub alone : (n : ℕ) (w : Written) → SpellsAutomaton n tokens w → w ≡ canonical_written a name
   pub valid : IsValid (canonical_written a name)
   pub describes : described (canonical_written a name) ≡ canonical a
   pub accepts : (u v : List NameSet) → Accepts (described (canonical_written a name)) u v ↔ Accepts a u v

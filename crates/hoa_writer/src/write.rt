@@ -9,7 +9,7 @@ ghost use Rattle.aut_base.specs.Formula.{formula_tree};
 ghost use Rattle.hoa_writer.specs.CanonicalText.{formula_text, line, edge_line, state_lines, name_line, header_lines, canonical_text};
 ghost use Rattle.hoa_writer.specs.CanonicalWritten.{ReadsBack};
 ghost use Rattle.hoa_writer.specs.inner.Lines.{start_lines, names_line, link_line};
-ghost use Rattle.aut_core.specs.Core.{automaton_of};
+ghost use Rattle.aut_core.specs.SymbolicAutomata.{automaton_of};
 ghost use Rattle.label_guards.specs.Store.{Has};
 
 use crate::formula::push_formula;
@@ -39,7 +39,7 @@ pub fn write_text(alloc: Global, a: &Automaton, name: Option<&Text>) -> Result<T
 fn reads_back(a: &Automaton, _name: Option<&Text>)
     ensures { ReadsBack (canonical_text (automaton_of a.now) (option_copied _name.entry)) (automaton_of a.now) (option_copied _name.entry) }
 {
-    a.whole();
+    a.well_formed();
     fits(a.states());
     fits(a.sets());
 }
@@ -53,7 +53,7 @@ fn fits(_number: u32)
 fn push_header(out: &mut Text, a: &Automaton, name: Option<&Text>) -> Result<(), Memory>
     ensures { OnOk result (out.new ≡ out.old ++ header_lines (automaton_of a.now) (option_copied name.entry)) }
 {
-    a.whole();
+    a.well_formed();
     out.extend(b"HOA: v1\n")?;
     push_name(out, name)?;
     push_numbered(out, b"States: ", a.states())?;
@@ -137,7 +137,7 @@ fn push_links(alloc: Global, out: &mut Text, a: &Automaton, state: u32) -> Resul
     requires { state < a.now.states }
     ensures { OnOk result (out.new ≡ out.old ++ flat_map (edge_line (length a.now.names)) (filter (λ e. e.from == state) (automaton_of a.now).edges)) }
 {
-    a.whole();
+    a.well_formed();
     let links = a.links_of(state);
     'links: for link in links {
         push_link(alloc, out, a.guards(), link)?;

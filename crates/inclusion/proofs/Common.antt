@@ -10,7 +10,7 @@ use Rattle.aut_ops.specs.Products.{IsProductOf}
 use Rattle.inclusion.specs.Common.{AcceptNoneTogether, IsWordOfBoth}
 use Rattle.inclusion.specs.Laws.{IncludedWhereNone, NotIncludedWhereWord, SameWhereNoneTwice}
 use Rattle.lasso_emptiness.specs.Emptiness.{AcceptsNothing, AcceptsSome, IsAcceptedWord}
-use Rattle.parity_laws.specs.Complement.{AreComplements}
+use Rattle.parity_laws.specs.Complement.{AreComplementLanguages}
 use Rattle.word_syntax.specs.Matching.{AcceptTogether}
 use Rattle.word_syntax.specs.Printing.{HoldsOnly}
 
@@ -37,10 +37,10 @@ some_of_both a b made some accepts said = (
   λ word. said.1 (record { stem = word.stem; cycle = word.cycle; accepts = (accepts word.stem word.cycle).1 (word.first, word.second) }),
 )
 
-included : (a b co : Automaton) → AreComplements b co → AcceptNoneTogether a co → (u v : List NameSet) → Accepts a u v → Accepts b u v
+included : (a b co : Automaton) → AreComplementLanguages b co → AcceptNoneTogether a co → (u v : List NameSet) → Accepts a u v → Accepts b u v
 included a b co h none u v accepts = elim (h.one u v accepts.endless) [ inl other ↦ other | inr never ↦ absurd (none (record { stem = u; cycle = v; first = accepts; second = never })) ]
 
-none : (a b co : Automaton) → AreComplements b co → ((u v : List NameSet) → Accepts a u v → Accepts b u v) → AcceptNoneTogether a co
+none : (a b co : Automaton) → AreComplementLanguages b co → ((u v : List NameSet) → Accepts a u v → Accepts b u v) → AcceptNoneTogether a co
 none a b co h all word = h.never_both word.stem word.cycle (all word.stem word.cycle word.first) word.second
 
 pub included_where_none : IncludedWhereNone

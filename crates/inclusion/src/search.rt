@@ -2,7 +2,7 @@
 
 ghost use Rattle.std.specs.Prelude.{◌+◌, ◌<◌, ◌≤◌, ◌^◌, ◌↔◌, IfOk, IsTrue, IsErrOf, MatchOption, OnOk, length};
 ghost use Rattle.aut_base.specs.declared.limit.TheConstants.{MOST_NAMES, MOST_PAIRS};
-ghost use Rattle.aut_core.specs.Core.{automaton_of};
+ghost use Rattle.aut_core.specs.SymbolicAutomata.{automaton_of};
 ghost use Rattle.aut_core.specs.OtherNames.{joined_names};
 ghost use Rattle.aut_ops.specs.Products.{HasMorePairs, over_both};
 ghost use Rattle.aut_ops.specs.declared.fault.PairFault.{PairFault};

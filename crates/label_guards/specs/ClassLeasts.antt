@@ -5,7 +5,7 @@ use Rattle.std.specs.List.{list_all, list_any}
 use Rattle.aut_base.specs.Label.{LabelTree, truth}
 use Rattle.aut_base.specs.Valuation.{IsLeast, holds_in, number_of, truth_on, valuations}
 use Rattle.label_guards.specs.declared.guard.Guard.{Guard}
-use Rattle.label_guards.specs.Classes.{AreClasses, HasMoreClasses}
+use Rattle.label_guards.specs.Classes.{AreClasses, HasMoreLetterClasses}
 use Rattle.label_guards.specs.Guards.{truth_in}
 use Rattle.label_guards.specs.Store.{Store, label_in}
 
@@ -25,7 +25,7 @@ abbrev pub labels_in : Store → List Guard → List LabelTree
 labels_in s list = map (label_in s) list
 
 -- The classes are those of these valuations, each in its place: a guard is true where all is alike to its valuation.
-pub record AreClassesOf (s : Store) (list : List Guard) (classes : List Guard) : Type 0 where
+pub record AreClassesAtLeasts (s : Store) (list : List Guard) (classes : List Guard) : Type 0 where
   pub count : length classes ≡ length (class_leasts s.names (labels_in s list))
   pub least : (k : ℕ) (g : Guard) (v : List Bool) → slice_get classes k ≡ Some g → slice_get (class_leasts s.names (labels_in s list)) k ≡ Some v → IsLeast s.names (truth_on (label_in s g)) v
   pub truth : (k : ℕ) (g : Guard) (v : List Bool) → slice_get classes k ≡ Some g → slice_get (class_leasts s.names (labels_in s list)) k ≡ Some v →
@@ -33,8 +33,8 @@ pub record AreClassesOf (s : Store) (list : List Guard) (classes : List Guard) :
 
 -- What are classes of a list are those of its least valuations.
 abbrev pub ClassesByLeasts : Type 0
-ClassesByLeasts = (s : Store) (list : List Guard) (most : ℕ) (classes : List Guard) → AreClasses s list most classes → AreClassesOf s list classes
+ClassesByLeasts = (s : Store) (list : List Guard) (most : ℕ) (classes : List Guard) → AreClasses s list most classes → AreClassesAtLeasts s list classes
 
 -- Where there are more than `most` classes, there are as many least valuations.
 abbrev pub MoreClassesByLeasts : Type 0
-MoreClassesByLeasts = (s : Store) (list : List Guard) (most : ℕ) → HasMoreClasses s list most → most < length (class_leasts s.names (labels_in s list))
+MoreClassesByLeasts = (s : Store) (list : List Guard) (most : ℕ) → HasMoreLetterClasses s list most → most < length (class_leasts s.names (labels_in s list))

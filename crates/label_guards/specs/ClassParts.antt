@@ -29,20 +29,20 @@ pub record IsFirst (n : ℕ) (alike : Test) (v : List Bool) : Type 0 where
   pub least : (w : List Bool) → length w ≡ n → alike (holds_in v) (holds_in w) ≡ true → number_of v ≤ number_of w
 
 -- The number is that of the least valuation of a class, and the place is true of that class.
-pub record IsPart (s : Store) (alike : Test) (part : Part) : Type 0 where
+pub record IsClassPart (s : Store) (alike : Test) (part : Part) : Type 0 where
   pub number : number_of (bits_of s.names part.number) ≡ part.number
   pub first : IsFirst s.names alike (bits_of s.names part.number)
   pub is : IsPlaceOf s (alike (holds_in (bits_of s.names part.number))) part.place
 
 -- Each is a part, and of whatever may hold exactly one is true.
-pub record AreParts (s : Store) (alike : Test) (parts : List Part) : Type 0 where
-  pub each : All (IsPart s alike) parts
+pub record AreClassParts (s : Store) (alike : Test) (parts : List Part) : Type 0 where
+  pub each : All (IsClassPart s alike) parts
   pub one : (on : ℕ → Bool) → count_by (λ (part : Part). outcome s.nodes on part.place) parts ≡ 1
 
 -- The parts are those of the first guards of the list, and of all of it where there are no more than `most`.
 pub record AreSplit (old s : Store) (list : List Guard) (most : ℕ) (parts : List Part) : Type 0 where
   pub count : ℕ
-  pub are : AreParts s (agree old (take count list)) parts
+  pub are : AreClassParts s (agree old (take count list)) parts
   pub all : length parts ≤ most → take count list ≡ list
 
 -- the guard has this truth wherever the place is true
@@ -64,7 +64,7 @@ pub record AreHalves (old s : Store) (part : Part) (by kept rest : ℕ) : Type 0
   pub is_rest : IsPlaceOf s (λ on. outcome old.nodes on part.place && beq (not (side_of old part by)) (outcome old.nodes on by)) rest
 
 -- The part at the index isn't split.
-pub record IsWhole (old : Store) (before after : List Part) (index by : ℕ) : Type 0 where
+pub record IsUnsplit (old : Store) (before after : List Part) (index by : ℕ) : Type 0 where
   pub part : Part
   pub was : slice_get before index ≡ Some part
   pub one_sided : IsOneSided old part.place by
@@ -80,15 +80,15 @@ pub record IsHalved (old s : Store) (before after : List Part) (index by : ℕ) 
   pub least : IsLeastNumber s rest.place rest.number
   pub made : after ≡ slice_set (before ++ rest ∷ []) index (record { number = part.number; place = kept })
 
-abbrev pub IsSplit : Store → Store → List Part → List Part → ℕ → ℕ → Type 0
-IsSplit old s before after index by = IsWhole old before after index by ⊎ IsHalved old s before after index by
+abbrev pub IsPartSplit : Store → Store → List Part → List Part → ℕ → ℕ → Type 0
+IsPartSplit old s before after index by = IsUnsplit old before after index by ⊎ IsHalved old s before after index by
 
 -- the guard of a part
 abbrev pub guard_of : Part → Guard
 guard_of part = record { place = part.place }
 
 -- the guards of these parts, in the order of their numbers
-pub record AreInOrder (parts : List Part) (classes : List Guard) : Type 0 where
+pub record ArePartsInOrder (parts : List Part) (classes : List Guard) : Type 0 where
   pub sorted : List Part
   pub same : IsPermutation parts sorted
   pub order : IsNonDecreasingBy (λ (part : Part). part.number) sorted

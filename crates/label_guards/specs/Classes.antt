@@ -16,7 +16,7 @@ abbrev pub MeetsAt : Store → List Guard → (ℕ → Bool) → ℕ → Type 0
 MeetsAt s guards on place = slice_get (map (λ g. truth_in s g on) guards) place ≡ Some true
 
 -- some valuation of the store's propositions meets the guard
-pub record IsMet (s : Store) (g : Guard) : Type 0 where
+pub record IsSatisfiable (s : Store) (g : Guard) : Type 0 where
   pub valuation : List Bool
   pub size : length valuation ≡ s.names
   pub truth : truth_on (label_in s g) valuation ≡ true
@@ -33,13 +33,13 @@ pub record IsBefore (s : Store) (g h : Guard) : Type 0 where
 pub record AreClasses (s : Store) (list : List Guard) (most : ℕ) (classes : List Guard) : Type 0 where
   pub has : All (Has s) classes
   pub few : length classes ≤ most
-  pub met : All (IsMet s) classes
+  pub met : All (IsSatisfiable s) classes
   pub every : (on : ℕ → Bool) → (place : ℕ) × MeetsAt s classes on place
   pub alike : (on also : ℕ → Bool) (i j : ℕ) → MeetsAt s classes on i → MeetsAt s classes also j → (i ≡ j) ↔ AreAlike s list on also
   pub ordered : AllPairs (IsBefore s) classes
 
 -- one valuation more than `most`, no two of them alike under the list
-pub record HasMoreClasses (s : Store) (list : List Guard) (most : ℕ) : Type 0 where
+pub record HasMoreLetterClasses (s : Store) (list : List Guard) (most : ℕ) : Type 0 where
   pub valuations : List (List Bool)
   pub count : length valuations ≡ most + 1
   pub sizes : All (λ v. length v ≡ s.names) valuations
@@ -47,7 +47,8 @@ pub record HasMoreClasses (s : Store) (list : List Guard) (most : ℕ) : Type 0 
 
 -- There are at most `most` classes, or there are more, and not both.
 abbrev pub ClassesExcludeMore : Type 0
-ClassesExcludeMore = (old new : Store) (list : List Guard) (most : ℕ) (classes : List Guard) → Keeps old new → All (Has old) list → AreClasses new list most classes → HasMoreClasses old list most → ⊥
+ClassesExcludeMore = (old new : Store) (list : List Guard) (most : ℕ) (classes : List Guard) → Keeps old new → All (Has old) list → AreClasses new list most classes
+    → HasMoreLetterClasses old list most → ⊥
 
 -- The classes are determined, as a list of labels.
 abbrev pub ClassesAreDetermined : Type 0

@@ -57,7 +57,7 @@ lesser_of weight (Some a) None = Some a
 lesser_of weight (Some a) (Some b) = Some (min a (b + weight))
 
 -- the names before this place make the letter so far, and what is left of the number gives the others
-pub record IsMidway (names : List (List ℕ)) (number place rest : ℕ) (letter : NameSet) : Type 0 where
+pub record IsLetterSoFar (names : List (List ℕ)) (number place rest : ℕ) (letter : NameSet) : Type 0 where
   pub done : List (List ℕ)
   pub so_far : letter ≡ set.from_list done
   pub left : names_on names (bits_of (length names) number) ≡ done ++ names_on (drop place names) (bits_of (length (drop place names)) rest)

@@ -11,11 +11,11 @@ pub record LastLetter : Type 0 where
   pub places : List ℕ
 
 -- the place is true just where so many of the last propositions are as in the number
-pub record IsLast (s : Store) (number count place : ℕ) : Type 0 where
+pub record IsLastPlace (s : Store) (number count place : ℕ) : Type 0 where
   pub has : Has s (record { place = place })
   pub truth : (on : ℕ → Bool) → truth_in s (record { place = place }) on ≡ last_at number s.names count on
 
 -- each place is that of its last propositions
-pub record AreLetters (s : Store) (l : LastLetter) : Type 0 where
+pub record AreLastPlaces (s : Store) (l : LastLetter) : Type 0 where
   pub few : length l.places ≤ s.names
-  pub last : (k place : ℕ) → slice_get l.places k ≡ Some place → IsLast s l.number (k + 1) place
+  pub last : (k place : ℕ) → slice_get l.places k ≡ Some place → IsLastPlace s l.number (k + 1) place

@@ -21,14 +21,14 @@ pub record IsNode (names : ℕ) (ns : List Node) (place : ℕ) (n : Node) : Type
   pub low_later : n.prop < level_among names ns n.low
   pub high_later : n.prop < level_among names ns n.high
 
-pub record IsReduced (names : ℕ) (ns : List Node) : Type 0 where
+pub record IsReducedDiagram (names : ℕ) (ns : List Node) : Type 0 where
   pub few : names ≤ MOST_NAMES
   pub node : (i : ℕ) (n : Node) → slice_get ns i ≡ Some n → IsNode names ns (2 + i) n
   pub once : (i j : ℕ) (n : Node) → slice_get ns i ≡ Some n → slice_get ns j ≡ Some n → i ≡ j
 
 -- a node is added at the end, or was there
-abbrev pub Adds : List Node → List Node → Node → Type 0
-Adds old new n = (new ≡ old) ⊎ ((new ≡ old ++ n ∷ []) × (Contains old n → ⊥))
+abbrev pub AddsNode : List Node → List Node → Node → Type 0
+AddsNode old new n = (new ≡ old) ⊎ ((new ≡ old ++ n ∷ []) × (Contains old n → ⊥))
 
 -- earlier places keep their nodes
 pub record Grows (old new : Store) : Type 0 where
@@ -37,7 +37,7 @@ pub record Grows (old new : Store) : Type 0 where
   pub nodes : new.nodes ≡ old.nodes ++ more
 
 -- the node of a place
-pub record StandsAt (s : Store) (place : ℕ) (n : Node) : Type 0 where
+pub record IsNodeAt (s : Store) (place : ℕ) (n : Node) : Type 0 where
   pub node : IsNode s.names s.nodes place n
   pub level : level s place ≡ n.prop
   pub truth : (on : ℕ → Bool) → outcome s.nodes on place ≡ (if on n.prop then outcome s.nodes on n.high else outcome s.nodes on n.low)

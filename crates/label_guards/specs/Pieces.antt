@@ -9,8 +9,8 @@ use Rattle.label_guards.specs.Nodes.{level}
 use Rattle.label_guards.specs.Store.{Store, outcome}
 
 -- the text that was there, and what came behind it
-abbrev pub Gains : List ℕ → List ℕ → Type 0
-Gains old new = (more : List ℕ) × (new ≡ old ++ more)
+abbrev pub IsLonger : List ℕ → List ℕ → Type 0
+IsLonger old new = (more : List ℕ) × (new ≡ old ++ more)
 
 -- the pieces, each after the separator
 abbrev pub each_after : List ℕ → List (List ℕ) → List ℕ

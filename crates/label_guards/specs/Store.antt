@@ -2,7 +2,7 @@
 -- (Bryant 1986), each under the place where it begins: place 0 is `f`, place 1 is `t`, and the others are nodes.
 use Rattle.std.specs.Prelude.{◌≡◌, ℕ, ◌+◌, ◌<◌, Bool, true, false, if◌then◌else◌, List, [], ◌∷◌, ◌++◌, length}
 use Rattle.std.specs.List.{slice_index_or}
-use Rattle.aut_base.specs.CanonicalLabel.{label_of}
+use Rattle.aut_base.specs.CanonicalLabel.{label_of_truth}
 use Rattle.aut_base.specs.Label.{LabelTree}
 use Rattle.aut_base.specs.Valuation.{holds_in}
 use Rattle.label_guards.specs.declared.guard.Guard.{Guard}
@@ -39,7 +39,7 @@ outcome ns on place = slice_index_or (outcomes on (false ∷ true ∷ []) ns) pl
 
 -- the label of a place, in its canonical form
 unfoldable pub label_at : Store → ℕ → LabelTree
-label_at s place = label_of s.names (λ v. outcome s.nodes (holds_in v) place)
+label_at s place = label_of_truth s.names (λ v. outcome s.nodes (holds_in v) place)
 
 -- the label of a guard, in its canonical form
 abbrev pub label_in : Store → Guard → LabelTree

@@ -7,8 +7,8 @@ use Rattle.label_guards.specs.Nodes.{level}
 use Rattle.label_guards.specs.Store.{Store, HasPlace, outcome}
 
 -- the table with one result more
-abbrev pub IsPut : {V : Type 0} → List (ℕ × V) → List (ℕ × V) → ℕ → V → Type 0
-IsPut old new place found = (q : ℕ) → lookup (nat_eq q) new ≡ cond (nat_eq place q) (Some found) (lookup (nat_eq q) old)
+abbrev pub IsResultInserted : {V : Type 0} → List (ℕ × V) → List (ℕ × V) → ℕ → V → Type 0
+IsResultInserted old new place found = (q : ℕ) → lookup (nat_eq q) new ≡ cond (nat_eq place q) (Some found) (lookup (nat_eq q) old)
 
 -- each result of the table is right
 abbrev pub AreDone : {V : Type 0} → (ℕ → V → Type 0) → List (ℕ × V) → Type 0

@@ -3,7 +3,7 @@
 ghost use Rattle.std.specs.Prelude.{◌≡◌, ◌<◌, ◌≤◌, ℕ, Bool, IfOk, List, if◌then◌else◌, length};
 ghost use Rattle.std.specs.List.{slice_index_or};
 ghost use Rattle.label_guards.specs.Guards.{GoesBelow, IsGuardOf, truth_in};
-ghost use Rattle.label_guards.specs.Nodes.{Grows, IsReduced};
+ghost use Rattle.label_guards.specs.Nodes.{Grows, IsReducedDiagram};
 ghost use Rattle.label_guards.specs.Operations.{IsPlaceOf};
 ghost use Rattle.label_guards.specs.Store.{Has, HasPlace, Keeps, Store, outcome, places};
 ghost use Rattle.label_guards.specs.Tables.{AreBrought, AreDone, IsBrought, PlaceGoesBelow};

@@ -2,7 +2,7 @@
 
 ghost use Rattle.std.specs.Prelude.{◌≡◌, ◌++◌, [], ◌∷◌, ◌<◌, Bool, true, map, IfOk, IfSome, OnErr, OnOk};
 ghost use Rattle.aut_base.specs.LabelText.{label_text, literal_text};
-ghost use Rattle.label_guards.specs.Pieces.{Gains, WritesCubes, cube_piece, literal_of, place_cubes};
+ghost use Rattle.label_guards.specs.Pieces.{IsLonger, WritesCubes, cube_piece, literal_of, place_cubes};
 ghost use Rattle.label_guards.specs.Store.{Has, HasPlace, label_in};
 
 use crate::guard::Guard;
@@ -33,7 +33,7 @@ impl Guards {
     pub fn push_cubes(&self, alloc: Global, out: &mut Text, g: Guard) -> Result<(), Memory>
         requires { Has self.now g }
         ensures ok { OnOk result (out.new ≡ out.old ++ label_text self.now.names (label_in self.now g)) }
-        ensures err { OnErr result (Gains out.old out.new) }
+        ensures err { OnErr result (IsLonger out.old out.new) }
     {
         self.reduced();
         if let Some(literal) = self.literal_at(g.place) {
@@ -82,7 +82,7 @@ impl Guards {
     ) -> Result<bool, Memory>
         requires { HasPlace self.now place }
         ensures kept { OnOk result (cube.new.items ≡ cube.old.items) }
-        ensures gains { Gains out.old out.new }
+        ensures gains { IsLonger out.old out.new }
         ensures cubes { IfOk result (λ now. WritesCubes (map literal_of cube.old.items) (place_cubes self.now place) is_written now out.old out.new) }
     {
         self.reduced();
@@ -118,7 +118,7 @@ impl Guards {
     ) -> Result<bool, Memory>
         requires { HasPlace self.now place }
         ensures kept { OnOk result (cube.new.items ≡ cube.old.items) }
-        ensures gains { Gains out.old out.new }
+        ensures gains { IsLonger out.old out.new }
         ensures cubes { IfOk result (λ now. WritesCubes (map literal_of cube.old.items ++ literal_of literal ∷ []) (place_cubes self.now place) is_written now out.old out.new) }
     {
         cube.push(literal)?;
@@ -131,7 +131,7 @@ impl Guards {
 /// Adds one cube more.
 #[inline]
 fn push_next(out: &mut Text, cube: &[Literal], is_written: bool) -> Result<(), Memory>
-    ensures gains { Gains out.old out.new }
+    ensures gains { IsLonger out.old out.new }
     ensures cubes { OnOk result (WritesCubes (map literal_of cube.now) ([] ∷ []) is_written true out.old out.new) }
 {
     if !is_written {
@@ -144,7 +144,7 @@ fn push_next(out: &mut Text, cube: &[Literal], is_written: bool) -> Result<(), M
 /// Adds a cube, or `t` if it has no literal.
 fn push_cube(out: &mut Text, cube: &[Literal]) -> Result<(), Memory>
     ensures ok { OnOk result (out.new ≡ out.old ++ cube_piece (map literal_of cube.now)) }
-    ensures err { OnErr result (Gains out.old out.new) }
+    ensures err { OnErr result (IsLonger out.old out.new) }
 {
     if cube.is_empty() {
         return out.push(b't');
@@ -162,7 +162,7 @@ fn push_cube(out: &mut Text, cube: &[Literal]) -> Result<(), Memory>
 #[inline]
 fn push_literal(out: &mut Text, literal: Literal) -> Result<(), Memory>
     ensures ok { OnOk result (out.new ≡ out.old ++ literal_text (literal_of literal)) }
-    ensures err { OnErr result (Gains out.old out.new) }
+    ensures err { OnErr result (IsLonger out.old out.new) }
 {
     if literal.holds {
         return out.push_decimal(u64::from(literal.prop));

@@ -5,7 +5,7 @@ ghost use Rattle.std.specs.Map.{lookup};
 ghost use Rattle.aut_base.specs.declared.limit.TheConstants.{MOST_NAMES};
 ghost use Rattle.label_guards.specs.declared.guard.Guard.{Guard};
 ghost use Rattle.label_guards.specs.Guards.{IsGuardOf};
-ghost use Rattle.label_guards.specs.Nodes.{AreSides, Grows, IsChoice, IsReduced, StandsAt, level};
+ghost use Rattle.label_guards.specs.Nodes.{AreSides, Grows, IsChoice, IsReducedDiagram, IsNodeAt, level};
 ghost use Rattle.label_guards.specs.Operations.{AreJoins, IsJoin, IsShort, key_eq};
 ghost use Rattle.label_guards.specs.Store.{Has, HasPlace, places};
 
@@ -124,7 +124,7 @@ impl Guards {
 
     /// Tells a proof that the diagrams are reduced.
     pub(crate) fn reduced(&self)
-        ensures { IsReduced self.now.names self.now.nodes }
+        ensures { IsReducedDiagram self.now.names self.now.nodes }
     {
         self.fields.nodes.reduced();
     }
@@ -145,7 +145,7 @@ impl Guards {
     pub(crate) fn node_at(&self, place: usize) -> Node
         requires inner { 2 ≤ place }
         requires has { HasPlace self.now place }
-        ensures { StandsAt self.now place result }
+        ensures { IsNodeAt self.now place result }
     {
         self.fields.nodes.node_at(place)
     }

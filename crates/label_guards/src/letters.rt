@@ -6,8 +6,8 @@ ghost use Rattle.aut_base.specs.CanonicalLabel.{canonical_label};
 ghost use Rattle.aut_base.specs.Label.{LabelTree, truth};
 ghost use Rattle.aut_base.specs.declared.limit.TheConstants.{MOST_NAMES};
 ghost use Rattle.label_guards.specs.Guards.{IsGuardOf};
-ghost use Rattle.label_guards.specs.Letters.{AreLetters, IsLast};
-ghost use Rattle.label_guards.specs.Nodes.{Grows, IsReduced, level};
+ghost use Rattle.label_guards.specs.Letters.{AreLastPlaces, IsLastPlace};
+ghost use Rattle.label_guards.specs.Nodes.{Grows, IsReducedDiagram, level};
 ghost use Rattle.label_guards.specs.Numbers.{is_at, is_set};
 ghost use Rattle.label_guards.specs.Store.{HasPlace, Keeps, Store, label_in, outcome};
 
@@ -38,7 +38,7 @@ impl Model for Letters {
 impl Letters {
     /// No letter yet, of any store.
     pub fn new(alloc: Global) -> Letters
-        ensures { (s : Store) → AreLetters s result }
+        ensures { (s : Store) → AreLastPlaces s result }
     {
         Letters {
             number: 0,
@@ -51,9 +51,9 @@ impl Letters {
     /// numbers follow one another these are two on an average. No label is made.
     #[tactic(auto, using(crate::proofs::labelled::LabelTruth::keeps))]
     pub fn guard(&mut self, guards: &mut Guards, number: u64) -> Result<Guard, Memory>
-        requires { AreLetters guards.old self.old }
+        requires { AreLastPlaces guards.old self.old }
         ensures keeps { Keeps guards.old guards.new }
-        ensures letters { AreLetters guards.new self.new }
+        ensures letters { AreLastPlaces guards.new self.new }
         ensures guard { IfOk result (IsGuardOf guards.new (is_at number guards.old.names)) }
 
         // Its label is the canonical form of each label that is true there alone.
@@ -71,7 +71,7 @@ impl Letters {
     fn turn_to(&mut self, names: u32, number: u64)
         requires { names ≤ MOST_NAMES }
         ensures number { self.new.number ≡ number }
-        ensures letters { (s : Store) → s.names ≡ names → AreLetters s self.old → AreLetters s self.new }
+        ensures letters { (s : Store) → s.names ≡ names → AreLastPlaces s self.old → AreLastPlaces s self.new }
     {
         let differ = differing(self.number, number, names);
         self.places.truncate((names - differ) as usize);
@@ -81,10 +81,10 @@ impl Letters {
     /// The place for all propositions. It goes from the last that lacks one to the first, since a node stands above those that
     /// ask for later ones.
     fn whole(&mut self, guards: &mut Guards) -> Result<usize, Memory>
-        requires { AreLetters guards.old self.old }
+        requires { AreLastPlaces guards.old self.old }
         ensures grows { Grows guards.old guards.new }
-        ensures letters { AreLetters guards.new self.new }
-        ensures place { IfOk result (IsLast guards.new self.old.number guards.old.names) }
+        ensures letters { AreLastPlaces guards.new self.new }
+        ensures place { IfOk result (IsLastPlace guards.new self.old.number guards.old.names) }
     {
         guards.reduced();
         let mut place = self.last();
@@ -98,7 +98,7 @@ impl Letters {
 
     /// The last place, which is that for the most propositions.
     fn last(&self) -> usize
-        ensures { (s : Store) → IsReduced s.names s.nodes → AreLetters s self.now → IsLast s self.now.number (length self.now.places) result }
+        ensures { (s : Store) → IsReducedDiagram s.names s.nodes → AreLastPlaces s self.now → IsLastPlace s self.now.number (length self.now.places) result }
     {
         let count = self.places.len();
         if count == 0 {
@@ -109,14 +109,14 @@ impl Letters {
 
     /// Adds the place for one proposition more, above the last one.
     fn add(&mut self, guards: &mut Guards, prop: u32, place: usize) -> Result<usize, Memory>
-        requires letters { AreLetters guards.old self.old }
+        requires letters { AreLastPlaces guards.old self.old }
         requires next { prop + (length self.old.places + 1) ≡ guards.old.names }
-        requires place { IsLast guards.old self.old.number (length self.old.places) place }
+        requires place { IsLastPlace guards.old self.old.number (length self.old.places) place }
         ensures grows { Grows guards.old guards.new }
         ensures number { self.new.number ≡ self.old.number }
-        ensures letters { AreLetters guards.new self.new }
+        ensures letters { AreLastPlaces guards.new self.new }
         ensures next { OnOk result (prop + length self.new.places ≡ guards.old.names) }
-        ensures place { IfOk result (IsLast guards.new self.old.number (length self.new.places)) }
+        ensures place { IfOk result (IsLastPlace guards.new self.old.number (length self.new.places)) }
     {
         guards.reduced();
         let place = guards.decided(prop, is_set(self.number, prop), place)?;

@@ -2,7 +2,7 @@
 
 ghost use Rattle.std.specs.Prelude.{◌≡◌, ◌<◌, ◌≤◌, ℕ, [], slice_get, take, IfOk, Some};
 ghost use Rattle.aut_base.specs.declared.limit.TheConstants.{MOST_NAMES};
-ghost use Rattle.label_guards.specs.Nodes.{Adds, AreSides, Grows, IsChoice, IsReduced, StandsAt, level};
+ghost use Rattle.label_guards.specs.Nodes.{AddsNode, AreSides, Grows, IsChoice, IsReducedDiagram, IsNodeAt, level};
 ghost use Rattle.label_guards.specs.Store.{HasPlace, places};
 
 use aut_base::Memory;
@@ -27,13 +27,13 @@ pub(crate) struct Nodes {
 
 impl Model for Nodes {
     ghost use Rattle.label_guards.specs.Store.{Store};
-    ghost use Rattle.label_guards.specs.Nodes.{IsReduced};
+    ghost use Rattle.label_guards.specs.Nodes.{IsReducedDiagram};
 
     ghost Value = { Store };
 
     ghost view = { λ s. record { names = s.names; nodes = s.set.keys } };
 
-    ghost invariant = { λ s. IsReduced s.names s.set.keys };
+    ghost invariant = { λ s. IsReducedDiagram s.names s.set.keys };
 }
 
 impl Nodes {
@@ -61,7 +61,7 @@ impl Nodes {
 
     /// Tells a proof that the diagrams are reduced.
     pub(crate) fn reduced(&self)
-        ensures { IsReduced self.now.names self.now.nodes }
+        ensures { IsReducedDiagram self.now.names self.now.nodes }
     {
         let _ = &self.set;
     }
@@ -85,7 +85,7 @@ impl Nodes {
     pub(crate) fn node_at(&self, place: usize) -> Node
         requires inner { 2 ≤ place }
         requires has { HasPlace self.now place }
-        ensures { StandsAt self.now place result }
+        ensures { IsNodeAt self.now place result }
     {
         self.set.as_slice()[place - 2]
     }
@@ -152,7 +152,7 @@ impl Nodes {
 
 /// The index of the node, which is added if it isn't there.
 fn put(set: &mut IndexSet<Node>, node: Node) -> Result<usize, Memory>
-    ensures adds { Adds set.old.keys set.new.keys node }
+    ensures adds { AddsNode set.old.keys set.new.keys node }
     ensures stored { IfOk result (λ index. slice_get set.new.keys index ≡ Some node) }
 {
     let (index, _) = set.insert_full(node)?;

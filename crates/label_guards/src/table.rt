@@ -2,7 +2,7 @@
 
 ghost use Rattle.std.specs.Prelude.{◌≡◌, IfSome, OnErr, OnOk, Some, nat_eq};
 ghost use Rattle.std.specs.Map.{lookup};
-ghost use Rattle.label_guards.specs.Tables.{IsPut};
+ghost use Rattle.label_guards.specs.Tables.{IsResultInserted};
 
 use aut_base::Memory;
 use indexmap::IndexMap;
@@ -25,7 +25,7 @@ pub(crate) fn done_at<V: Copy>(done: &Results<V>, place: usize) -> Option<V>
 
 /// Puts a result into the table.
 pub(crate) fn put_done<V: Drop>(done: &mut Results<V>, place: usize, found: V) -> Result<(), Memory>
-    ensures ok { OnOk result (IsPut done.old.entries done.new.entries place found) }
+    ensures ok { OnOk result (IsResultInserted done.old.entries done.new.entries place found) }
     ensures err { OnErr result (done.new.entries ≡ done.old.entries) }
 {
     match done.insert(place, found) {

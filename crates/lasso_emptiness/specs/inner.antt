@@ -1,5 +1,5 @@
 -- What the inner functions speak of.
-pub mod Carriers
+pub mod AcceptingComponents
 pub mod Edges
 pub mod Groups
 pub mod Judged

@@ -1,12 +1,12 @@
 //! The calls.
 
 ghost use Rattle.std.specs.Prelude.{◌↔◌, IsTrue, IfOk, MatchOption};
-ghost use Rattle.aut_core.specs.Core.{automaton_of};
+ghost use Rattle.aut_core.specs.SymbolicAutomata.{automaton_of};
 ghost use Rattle.lasso_emptiness.specs.Emptiness.{AcceptsNothing, AcceptsSome, IsAcceptedWord};
-ghost use Rattle.lasso_emptiness.specs.inner.Carriers.{IsCarrier};
+ghost use Rattle.lasso_emptiness.specs.inner.AcceptingComponents.{IsAcceptingComponent};
 ghost use Rattle.lasso_emptiness.specs.inner.Live.{ArePassable, IsReachedEdge};
 
-use crate::live::{LiveEdge, LiveEdges, passable_edges, reached_edges};
+use crate::live::{EdgeRef, LiveEdges, reached_edges, satisfiable_edges};
 use crate::search::search;
 use crate::word::{accepting_cycle, word_around};
 use aut_base::{Lasso, Memory};
@@ -18,8 +18,8 @@ use word_syntax::reduce;
 pub fn accepts_some(alloc: Global, a: &Automaton) -> Result<bool, Memory>
     ensures { IfOk result (λ some. IsTrue some ↔ AcceptsSome (automaton_of a.now)) }
 {
-    a.whole();
-    let passable = passable_edges(alloc, a)?;
+    a.well_formed();
+    let passable = satisfiable_edges(alloc, a)?;
     let found = accepting_component(alloc, a, passable.as_slice())?;
     Ok(found.is_some())
 }
@@ -28,8 +28,8 @@ pub fn accepts_some(alloc: Global, a: &Automaton) -> Result<bool, Memory>
 pub fn accepted_word(alloc: Global, a: &Automaton) -> Result<Option<Lasso>, Memory>
     ensures { IfOk result (λ found. MatchOption found (AcceptsNothing (automaton_of a.now)) (IsAcceptedWord (automaton_of a.now))) }
 {
-    a.whole();
-    let passable = passable_edges(alloc, a)?;
+    a.well_formed();
+    let passable = satisfiable_edges(alloc, a)?;
     match accepting_component(alloc, a, passable.as_slice())? {
         Some(component) => {
             let cycle = accepting_cycle(
@@ -50,12 +50,12 @@ pub fn accepted_word(alloc: Global, a: &Automaton) -> Result<Option<Lasso>, Memo
 fn accepting_component(
     alloc: Global,
     a: &Automaton,
-    passable: &[LiveEdge],
+    passable: &[EdgeRef],
 ) -> Result<Option<LiveEdges>, Memory>
     requires { ArePassable a.now passable.now }
-    ensures { IfOk result (λ found. MatchOption found (AcceptsNothing (automaton_of a.now)) (IsCarrier a.now.links (IsReachedEdge a.now passable.now) a.now.formula)) }
+    ensures { IfOk result (λ found. MatchOption found (AcceptsNothing (automaton_of a.now)) (IsAcceptingComponent a.now.links (IsReachedEdge a.now passable.now) a.now.formula)) }
 {
-    a.whole();
+    a.well_formed();
     let reached = reached_edges(alloc, a, passable)?;
     search(
         alloc,

@@ -2,10 +2,10 @@
 
 ghost use Rattle.std.specs.Prelude.{◌≡◌, ◌<◌, ◌≤◌, ◌++◌, ◌∷◌, [], ℕ, List, All, IfOk, OnOk, length, nat_eq, if◌then◌else◌};
 ghost use Rattle.std.specs.List.{filter, slice_index_or};
-ghost use Rattle.lasso_emptiness.specs.declared.live.LiveEdge.{LiveEdge};
+ghost use Rattle.lasso_emptiness.specs.declared.live.EdgeRef.{EdgeRef};
 ghost use Rattle.lasso_emptiness.specs.inner.Groups.{AreGroups, is_inside};
 
-use crate::live::{LiveEdge, LiveEdges, graph_of};
+use crate::live::{EdgeRef, LiveEdges, graph_of};
 use aut_base::Memory;
 use graph_walk::components;
 use std::alloc::Global;
@@ -17,7 +17,7 @@ pub(crate) type Groups = Vec<LiveEdges>;
 pub(crate) fn component_groups(
     alloc: Global,
     states: u32,
-    edges: &[LiveEdge],
+    edges: &[EdgeRef],
 ) -> Result<Groups, Memory>
     requires { All (λ e. (e.from < states) × (e.to < states)) edges.now }
     ensures { IfOk result (λ groups. AreGroups edges.now groups.items) }
@@ -28,7 +28,7 @@ pub(crate) fn component_groups(
 }
 
 /// For each number the edges whose both ends have it.
-fn groups_by_number(alloc: Global, edges: &[LiveEdge], numbers: &[u32]) -> Result<Groups, Memory>
+fn groups_by_number(alloc: Global, edges: &[EdgeRef], numbers: &[u32]) -> Result<Groups, Memory>
     requires { All (λ e. (e.from < length numbers.now) × (e.to < length numbers.now)) edges.now }
     ensures { IfOk result (λ groups. (k : ℕ) → slice_index_or groups.items k [] ≡ filter (is_inside numbers.now k) edges.now) }
 {
@@ -48,7 +48,7 @@ fn add_to_group(
     alloc: Global,
     groups: &mut Groups,
     number: usize,
-    edge: LiveEdge,
+    edge: EdgeRef,
 ) -> Result<(), Memory>
     requires { number < 4294967296 }
     ensures { OnOk result ((k : ℕ) → slice_index_or groups.new.items k [] ≡ (if nat_eq k number then slice_index_or groups.old.items k [] ++ edge ∷ [] else slice_index_or groups.old.items k [])) }

@@ -4,12 +4,12 @@ ghost use Rattle.std.specs.Prelude.{◌≡◌, ◌<◌, ℕ, true, false, List, 
 ghost use Rattle.std.specs.List.{list_all, list_any};
 ghost use Rattle.aut_base.specs.Formula.{FormulaTree, formula_tree, formula_list, met};
 ghost use Rattle.lasso_emptiness.specs.declared.verdict.Verdict.{Verdict};
-ghost use Rattle.lasso_emptiness.specs.declared.live.LiveEdge.{LiveEdge};
+ghost use Rattle.lasso_emptiness.specs.declared.live.EdgeRef.{EdgeRef};
 ghost use Rattle.lasso_emptiness.specs.inner.Edges.{marks_of};
 ghost use Rattle.lasso_emptiness.specs.inner.Judged.{IsJudged, AreAllJudged, IsOneJudged};
 
-use crate::live::LiveEdge;
-use crate::side::Side;
+use crate::live::EdgeRef;
+use crate::side::SetLiteral;
 use crate::verdict::Verdict;
 use aut_base::{Formula, Formulas};
 use aut_core::Link;
@@ -18,7 +18,7 @@ use aut_core::Link;
 /// Whether the edges together meet the condition, or no cycle of some of them does, or on which side of a set that
 /// depends. A `Fin` that they meet together is met by each cycle of them.
 #[cycle(judge)]
-pub(crate) fn judge(links: &[Link], edges: &[LiveEdge], condition: &Formula) -> Verdict
+pub(crate) fn judge(links: &[Link], edges: &[EdgeRef], condition: &Formula) -> Verdict
     requires { All (λ e. e.link < length links.now) edges.now }
     ensures { IsJudged (map (marks_of links.now) edges.now) (formula_tree condition.now) result }
 {
@@ -28,7 +28,7 @@ pub(crate) fn judge(links: &[Link], edges: &[LiveEdge], condition: &Formula) -> 
         Formula::Inf { set, neg } => judge_inf(
             links,
             edges,
-            Side {
+            SetLiteral {
                 set: *set,
                 neg: *neg,
             },
@@ -36,7 +36,7 @@ pub(crate) fn judge(links: &[Link], edges: &[LiveEdge], condition: &Formula) -> 
         Formula::Fin { set, neg } => judge_fin(
             links,
             edges,
-            Side {
+            SetLiteral {
                 set: *set,
                 neg: *neg,
             },
@@ -47,7 +47,7 @@ pub(crate) fn judge(links: &[Link], edges: &[LiveEdge], condition: &Formula) -> 
 }
 
 /// `Inf` of this side.
-fn judge_inf(links: &[Link], edges: &[LiveEdge], side: Side) -> Verdict
+fn judge_inf(links: &[Link], edges: &[EdgeRef], side: SetLiteral) -> Verdict
     requires { All (λ e. e.link < length links.now) edges.now }
     ensures { IsJudged (map (marks_of links.now) edges.now) (FormulaTree.Inf side.set side.neg) result }
 {
@@ -58,7 +58,7 @@ fn judge_inf(links: &[Link], edges: &[LiveEdge], side: Side) -> Verdict
 }
 
 /// `Fin` of this side.
-fn judge_fin(links: &[Link], edges: &[LiveEdge], side: Side) -> Verdict
+fn judge_fin(links: &[Link], edges: &[EdgeRef], side: SetLiteral) -> Verdict
     requires { All (λ e. e.link < length links.now) edges.now }
     ensures { IsJudged (map (marks_of links.now) edges.now) (FormulaTree.Fin side.set side.neg) result }
 {
@@ -71,7 +71,7 @@ fn judge_fin(links: &[Link], edges: &[LiveEdge], side: Side) -> Verdict
 /// All of these parts.
 #[cycle(judge)]
 #[tactic(auto, using(acc_forms::proofs::Parts::part_sizes))]
-fn judge_all(links: &[Link], edges: &[LiveEdge], parts: &Formulas) -> Verdict
+fn judge_all(links: &[Link], edges: &[EdgeRef], parts: &Formulas) -> Verdict
     requires { All (λ e. e.link < length links.now) edges.now }
     ensures { AreAllJudged (map (marks_of links.now) edges.now) (formula_list parts.now) result }
 {
@@ -92,7 +92,7 @@ fn judge_all(links: &[Link], edges: &[LiveEdge], parts: &Formulas) -> Verdict
 /// One of these parts.
 #[cycle(judge)]
 #[tactic(auto, using(acc_forms::proofs::Parts::part_sizes))]
-fn judge_some(links: &[Link], edges: &[LiveEdge], parts: &Formulas) -> Verdict
+fn judge_some(links: &[Link], edges: &[EdgeRef], parts: &Formulas) -> Verdict
     requires { All (λ e. e.link < length links.now) edges.now }
     ensures { IsOneJudged (map (marks_of links.now) edges.now) (formula_list parts.now) result }
 {

@@ -2,8 +2,8 @@
 
 ghost use Rattle.std.specs.Prelude.{◌≡◌, ◌<◌, ℕ, [], true, false, All, IfOk, length, map};
 ghost use Rattle.std.specs.List.{slice_index_or};
-ghost use Rattle.lasso_emptiness.specs.declared.live.LiveEdge.{LiveEdge};
-ghost use Rattle.lasso_emptiness.specs.inner.Edges.{arc_of, back_arc_of, turned_arc};
+ghost use Rattle.lasso_emptiness.specs.declared.live.EdgeRef.{EdgeRef};
+ghost use Rattle.lasso_emptiness.specs.inner.Edges.{arc_of, back_arc_of, arc_in_direction};
 ghost use Rattle.lasso_emptiness.specs.inner.Live.{ArePassable, AreReachedEdges};
 ghost use Rattle.lasso_emptiness.specs.inner.Picked.{Picks};
 
@@ -14,26 +14,26 @@ use std::alloc::Global;
 
 /// An edge: its ends, and the place of its link in the automaton.
 #[derive(Clone, Copy, Debug)]
-pub(crate) struct LiveEdge {
+pub(crate) struct EdgeRef {
     pub(crate) from: u32,
     pub(crate) to: u32,
     pub(crate) link: usize,
 }
 
 /// Edges, in order.
-pub(crate) type LiveEdges = Seq<LiveEdge>;
+pub(crate) type LiveEdges = Seq<EdgeRef>;
 
 /// The edges whose label isn't false.
-pub(crate) fn passable_edges(alloc: Global, a: &Automaton) -> Result<LiveEdges, Memory>
+pub(crate) fn satisfiable_edges(alloc: Global, a: &Automaton) -> Result<LiveEdges, Memory>
     ensures { IfOk result (ArePassable a.now) }
 {
-    a.whole();
+    a.well_formed();
     let mut edges = LiveEdges::from_vec(Vec::with_capacity(alloc, a.links().len())?);
     'links: for (place, link) in a.links().iter().enumerate() {
         if a.guards().is_false(link.guard) {
             continue;
         }
-        edges.push(LiveEdge {
+        edges.push(EdgeRef {
             from: link.from,
             to: link.to,
             link: place,
@@ -46,19 +46,19 @@ pub(crate) fn passable_edges(alloc: Global, a: &Automaton) -> Result<LiveEdges, 
 pub(crate) fn reached_edges(
     alloc: Global,
     a: &Automaton,
-    edges: &[LiveEdge],
+    edges: &[EdgeRef],
 ) -> Result<LiveEdges, Memory>
     requires { All (λ e. (e.from < a.now.states) × (e.to < a.now.states)) edges.now }
     ensures { IfOk result (AreReachedEdges a.now.starts edges.now) }
 {
-    a.whole();
+    a.well_formed();
     let graph = graph_of(alloc, a.states(), edges)?;
     let flags = reach(alloc, &graph, a.starts())?;
     flagged_edges(alloc, edges, flags.as_slice())
 }
 
 /// Those of the edges that leave a flagged state.
-fn flagged_edges(alloc: Global, edges: &[LiveEdge], flags: &[bool]) -> Result<LiveEdges, Memory>
+fn flagged_edges(alloc: Global, edges: &[EdgeRef], flags: &[bool]) -> Result<LiveEdges, Memory>
     requires { All (λ e. e.from < length flags.now) edges.now }
     ensures { IfOk result (Picks (λ e. slice_index_or flags.now e.from false ≡ true) edges.now []) }
 {
@@ -73,7 +73,7 @@ fn flagged_edges(alloc: Global, edges: &[LiveEdge], flags: &[bool]) -> Result<Li
 }
 
 /// The graph of these edges.
-pub(crate) fn graph_of(alloc: Global, states: u32, edges: &[LiveEdge]) -> Result<Graph, Memory>
+pub(crate) fn graph_of(alloc: Global, states: u32, edges: &[EdgeRef]) -> Result<Graph, Memory>
     ensures nodes { IfOk result (λ graph. graph.nodes ≡ states) }
     ensures arcs { IfOk result (λ graph. graph.arcs ≡ map arc_of edges.now) }
 {
@@ -84,7 +84,7 @@ pub(crate) fn graph_of(alloc: Global, states: u32, edges: &[LiveEdge]) -> Result
 pub(crate) fn backward_graph_of(
     alloc: Global,
     states: u32,
-    edges: &[LiveEdge],
+    edges: &[EdgeRef],
 ) -> Result<Graph, Memory>
     ensures nodes { IfOk result (λ graph. graph.nodes ≡ states) }
     ensures arcs { IfOk result (λ graph. graph.arcs ≡ map back_arc_of edges.now) }
@@ -96,11 +96,11 @@ pub(crate) fn backward_graph_of(
 fn graph_turned(
     alloc: Global,
     states: u32,
-    edges: &[LiveEdge],
+    edges: &[EdgeRef],
     turned: bool,
 ) -> Result<Graph, Memory>
     ensures nodes { IfOk result (λ graph. graph.nodes ≡ states) }
-    ensures arcs { IfOk result (λ graph. graph.arcs ≡ map (turned_arc turned) edges.now) }
+    ensures arcs { IfOk result (λ graph. graph.arcs ≡ map (arc_in_direction turned) edges.now) }
 {
     let mut arcs = Arcs::from_vec(Vec::with_capacity(alloc, edges.len())?);
     'edges: for edge in edges {
@@ -113,8 +113,8 @@ fn graph_turned(
 }
 
 /// The two ends of an edge, as they are or turned around.
-fn turned_arc(edge: &LiveEdge, turned: bool) -> (u32, u32)
-    ensures { result ≡ turned_arc turned edge.now }
+fn turned_arc(edge: &EdgeRef, turned: bool) -> (u32, u32)
+    ensures { result ≡ arc_in_direction turned edge.now }
 {
     if turned {
         (edge.to, edge.from)

@@ -3,13 +3,13 @@
 ghost use Rattle.std.specs.Prelude.{◌≡◌, ◌<◌, ℕ, true, List, All, Contains, IfOk, OnOk, length, map};
 ghost use Rattle.std.specs.List.{list_all, list_any};
 ghost use Rattle.aut_base.specs.Formula.{FormulaTree, formula_tree, formula_list, met};
-ghost use Rattle.lasso_emptiness.specs.declared.live.LiveEdge.{LiveEdge};
+ghost use Rattle.lasso_emptiness.specs.declared.live.EdgeRef.{EdgeRef};
 ghost use Rattle.lasso_emptiness.specs.inner.Edges.{marks_of, met_along};
-ghost use Rattle.lasso_emptiness.specs.inner.Needed.{AddsOnce, AreNeeded, IsPart, Serves, ServesAll};
+ghost use Rattle.lasso_emptiness.specs.inner.Needed.{AddsOnce, AreNeeded, IsPartOf, Serves, ServesAll};
 
 use crate::judge::judge;
-use crate::live::{LiveEdge, LiveEdges};
-use crate::side::Side;
+use crate::live::{EdgeRef, LiveEdges};
+use crate::side::SetLiteral;
 use crate::verdict::Verdict;
 use aut_base::{Formula, Formulas, Memory};
 use aut_core::Link;
@@ -20,7 +20,7 @@ use std::alloc::Global;
 pub(crate) fn needed_edges(
     alloc: Global,
     links: &[Link],
-    edges: &[LiveEdge],
+    edges: &[EdgeRef],
     condition: &Formula,
 ) -> Result<LiveEdges, Memory>
     requires within { All (λ e. e.link < length links.now) edges.now }
@@ -42,7 +42,7 @@ pub(crate) fn needed_edges(
 #[cycle(needed)]
 fn add_needed(
     links: &[Link],
-    edges: &[LiveEdge],
+    edges: &[EdgeRef],
     condition: &Formula,
     needed: &mut LiveEdges,
 ) -> Result<(), Memory>
@@ -58,7 +58,7 @@ fn add_needed(
         Formula::Inf { set, neg } => add_on_side(
             links,
             edges,
-            Side {
+            SetLiteral {
                 set: *set,
                 neg: *neg,
             },
@@ -72,8 +72,8 @@ fn add_needed(
 /// Adds an edge on this side, where none is there yet.
 fn add_on_side(
     links: &[Link],
-    edges: &[LiveEdge],
-    side: Side,
+    edges: &[EdgeRef],
+    side: SetLiteral,
     needed: &mut LiveEdges,
 ) -> Result<(), Memory>
     requires within { All (λ e. e.link < length links.now) edges.now }
@@ -95,7 +95,7 @@ fn add_on_side(
 #[cycle(needed)]
 fn add_for_all(
     links: &[Link],
-    edges: &[LiveEdge],
+    edges: &[EdgeRef],
     parts: &Formulas,
     needed: &mut LiveEdges,
 ) -> Result<(), Memory>
@@ -111,11 +111,11 @@ fn add_for_all(
 }
 
 /// The first part that all edges meet.
-fn met_part<'a>(links: &[Link], edges: &[LiveEdge], parts: &'a Formulas) -> &'a Formula
+fn met_part<'a>(links: &[Link], edges: &[EdgeRef], parts: &'a Formulas) -> &'a Formula
     requires within { All (λ e. e.link < length links.now) edges.now }
     requires met { list_any (met (map (marks_of links.now) edges.now)) (formula_list parts.now) ≡ true }
     ensures met { met_along links.now edges.now (formula_tree result.now) ≡ true }
-    ensures part { IsPart (formula_list parts.now) (formula_tree result.now) }
+    ensures part { IsPartOf (formula_list parts.now) (formula_tree result.now) }
 {
     'parts: for place in 0..parts.len() {
         let part = parts.at(place);

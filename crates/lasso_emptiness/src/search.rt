@@ -2,16 +2,16 @@
 
 ghost use Rattle.std.specs.Prelude.{◌<◌, ℕ, List, All, Contains, IfOk, length};
 ghost use Rattle.aut_base.specs.Formula.{FormulaTree, formula_tree};
-ghost use Rattle.lasso_emptiness.specs.declared.live.LiveEdge.{LiveEdge};
-ghost use Rattle.lasso_emptiness.specs.inner.Carriers.{Finds, FindsInAny};
-ghost use Rattle.lasso_emptiness.specs.inner.Edges.{IsWithin};
-ghost use Rattle.lasso_emptiness.specs.inner.Groups.{IsJoined};
+ghost use Rattle.lasso_emptiness.specs.declared.live.EdgeRef.{EdgeRef};
+ghost use Rattle.lasso_emptiness.specs.inner.AcceptingComponents.{Finds, FindsInAny};
+ghost use Rattle.lasso_emptiness.specs.inner.Edges.{IsEdgeInRange};
+ghost use Rattle.lasso_emptiness.specs.inner.Groups.{IsStronglyConnected};
 ghost use Rattle.lasso_emptiness.specs.inner.Splits.{IsSurveyed};
 
 use crate::groups::{Groups, component_groups};
 use crate::judge::judge;
-use crate::live::{LiveEdge, LiveEdges};
-use crate::side::Side;
+use crate::live::{EdgeRef, LiveEdges};
+use crate::side::SetLiteral;
 use crate::split::divide;
 use crate::taken::take;
 use crate::verdict::Verdict;
@@ -21,13 +21,13 @@ use std::alloc::Global;
 
 /// What the edges of several components say of a condition.
 #[derive(Drop)]
-pub(crate) enum Survey {
+pub(crate) enum ComponentsVerdict {
     /// Those of this component together meet it.
     Met(LiveEdges),
     /// No cycle within one of the components meets it.
     Never,
     /// Of these components it depends on a `Fin`, of one of them on the `Fin` of this side.
-    Open(Side, Groups),
+    Open(SetLiteral, Groups),
 }
 
 /// Edges of one component that together meet the condition, or None where no closed path along the edges meets it.
@@ -36,10 +36,10 @@ pub(crate) fn search(
     alloc: Global,
     links: &[Link],
     states: u32,
-    edges: &[LiveEdge],
+    edges: &[EdgeRef],
     condition: &Formula,
 ) -> Result<Option<LiveEdges>, Memory>
-    requires { All (IsWithin (length links.now) states) edges.now }
+    requires { All (IsEdgeInRange (length links.now) states) edges.now }
     ensures { IfOk result (Finds links.now (Contains edges.now) (formula_tree condition.now)) }
 {
     let groups = component_groups(alloc, states, edges)?;
@@ -57,14 +57,14 @@ fn search_in(
     groups: Groups,
     condition: &Formula,
 ) -> Result<Option<LiveEdges>, Memory>
-    requires within { All (All (IsWithin (length links.now) states)) groups.items }
-    requires joined { All IsJoined groups.items }
+    requires within { All (All (IsEdgeInRange (length links.now) states)) groups.items }
+    requires joined { All IsStronglyConnected groups.items }
     ensures { IfOk result (FindsInAny links.now groups.items (formula_tree condition.now)) }
 {
     match judge_groups(alloc, links, groups, condition)? {
-        Survey::Met(group) => Ok(Some(group)),
-        Survey::Never => Ok(None),
-        Survey::Open(side, left) => {
+        ComponentsVerdict::Met(group) => Ok(Some(group)),
+        ComponentsVerdict::Never => Ok(None),
+        ComponentsVerdict::Open(side, left) => {
             let parts = divide(alloc, links, left, side)?;
             let holds = take(alloc, condition, side, true)?;
             if let Some(group) = search(alloc, links, states, parts.off.as_slice(), &holds)? {
@@ -82,7 +82,7 @@ fn judge_groups(
     links: &[Link],
     mut groups: Groups,
     condition: &Formula,
-) -> Result<Survey, Memory>
+) -> Result<ComponentsVerdict, Memory>
     requires { All (All (λ e. e.link < length links.now)) groups.items }
     ensures { IfOk result (IsSurveyed links.now groups.items (formula_tree condition.now)) }
 {
@@ -93,7 +93,7 @@ fn judge_groups(
             continue;
         }
         match judge(links, group.as_slice(), condition) {
-            Verdict::Met => return Ok(Survey::Met(group)),
+            Verdict::Met => return Ok(ComponentsVerdict::Met(group)),
             Verdict::Never => continue,
             Verdict::Open(side) => {
                 undecided = Some(side);
@@ -102,7 +102,7 @@ fn judge_groups(
         }
     }
     match undecided {
-        Some(side) => Ok(Survey::Open(side, left)),
-        None => Ok(Survey::Never),
+        Some(side) => Ok(ComponentsVerdict::Open(side, left)),
+        None => Ok(ComponentsVerdict::Never),
     }
 }

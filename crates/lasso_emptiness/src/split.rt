@@ -1,12 +1,12 @@
 //! Groups of edges, divided by the side of a `Fin`.
 
 ghost use Rattle.std.specs.Prelude.{◌≡◌, ◌<◌, ℕ, List, All, IfOk, OnOk, length};
-ghost use Rattle.lasso_emptiness.specs.declared.live.LiveEdge.{LiveEdge};
-ghost use Rattle.lasso_emptiness.specs.inner.Splits.{AddsOff, IsSplit};
+ghost use Rattle.lasso_emptiness.specs.declared.live.EdgeRef.{EdgeRef};
+ghost use Rattle.lasso_emptiness.specs.inner.Splits.{AddsOff, AreGroupsSplit};
 
 use crate::groups::Groups;
-use crate::live::{LiveEdge, LiveEdges};
-use crate::side::Side;
+use crate::live::{EdgeRef, LiveEdges};
+use crate::side::SetLiteral;
 use aut_base::Memory;
 use aut_core::Link;
 use std::alloc::Global;
@@ -25,10 +25,10 @@ pub(crate) fn divide(
     alloc: Global,
     links: &[Link],
     mut groups: Groups,
-    side: Side,
+    side: SetLiteral,
 ) -> Result<Split, Memory>
     requires { All (All (λ e. e.link < length links.now)) groups.items }
-    ensures { IfOk result (λ parts. IsSplit links.now side.set side.neg groups.items parts.off parts.crossed.items) }
+    ensures { IfOk result (λ parts. AreGroupsSplit links.now side.set side.neg groups.items parts.off parts.crossed.items) }
 {
     let mut off = LiveEdges::new(alloc);
     let mut crossed = Groups::new(alloc);
@@ -45,8 +45,8 @@ pub(crate) fn divide(
 /// Adds the edges that are not on this side.
 fn add_off_side(
     links: &[Link],
-    edges: &[LiveEdge],
-    side: Side,
+    edges: &[EdgeRef],
+    side: SetLiteral,
     off: &mut LiveEdges,
 ) -> Result<(), Memory>
     requires { All (λ e. e.link < length links.now) edges.now }

@@ -3,22 +3,22 @@
 ghost use Rattle.std.specs.Prelude.{◌≡◌, ℕ, map, IfOk};
 ghost use Rattle.aut_base.specs.Formula.{FormulaTree, formula_tree, formula_list};
 ghost use Rattle.lasso_emptiness.specs.inner.Judged.{is_same_side};
-ghost use Rattle.lasso_emptiness.specs.inner.Taken.{taken};
+ghost use Rattle.lasso_emptiness.specs.inner.Taken.{substituted};
 
-use crate::side::Side;
+use crate::side::SetLiteral;
 use aut_base::{Formula, Formulas, Memory};
 use std::alloc::Global;
 
-/// The condition with each `Fin` of this side taken as true, or as false.
+/// The condition with each `Fin` of this side substituted as true, or as false.
 #[cycle(take)]
 #[tactic(auto, using(aut_base::proofs::trees::FormulaTrees::formula_trees))]
 pub(crate) fn take(
     alloc: Global,
     condition: &Formula,
-    side: Side,
+    side: SetLiteral,
     value: bool,
 ) -> Result<Formula, Memory>
-    ensures { IfOk result (λ new. formula_tree new ≡ taken side.set side.neg value (formula_tree condition.now)) }
+    ensures { IfOk result (λ new. formula_tree new ≡ substituted side.set side.neg value (formula_tree condition.now)) }
 {
     match condition {
         Formula::True => Ok(Formula::True),
@@ -35,8 +35,8 @@ pub(crate) fn take(
 
 /// `Fin` of this set.
 #[tactic(auto, using(aut_base::proofs::trees::FormulaTrees::formula_trees))]
-fn take_fin(set: u32, neg: bool, side: Side, value: bool) -> Formula
-    ensures { formula_tree result ≡ taken side.set side.neg value (FormulaTree.Fin set neg) }
+fn take_fin(set: u32, neg: bool, side: SetLiteral, value: bool) -> Formula
+    ensures { formula_tree result ≡ substituted side.set side.neg value (FormulaTree.Fin set neg) }
 {
     if side.set != set || side.neg != neg {
         return Formula::Fin { set, neg };
@@ -47,8 +47,13 @@ fn take_fin(set: u32, neg: bool, side: Side, value: bool) -> Formula
 /// The parts, each in the same way.
 #[cycle(take)]
 #[tactic(auto, using(acc_forms::proofs::Parts::part_sizes))]
-fn take_parts(alloc: Global, parts: &Formulas, side: Side, value: bool) -> Result<Formulas, Memory>
-    ensures { IfOk result (λ new. formula_list new ≡ map (taken side.set side.neg value) (formula_list parts.now)) }
+fn take_parts(
+    alloc: Global,
+    parts: &Formulas,
+    side: SetLiteral,
+    value: bool,
+) -> Result<Formulas, Memory>
+    ensures { IfOk result (λ new. formula_list new ≡ map (substituted side.set side.neg value) (formula_list parts.now)) }
 {
     let first = take(alloc, parts.at(0), side, value)?;
     let second = take(alloc, parts.at(1), side, value)?;

@@ -2,12 +2,12 @@
 
 ghost use Rattle.std.specs.Prelude.{◌≡◌, ◌<◌, ◌++◌, ℕ, List, All, Contains, IfOk, OnOk, length, map};
 ghost use Rattle.graph_walk.specs.Walk.{Reaches};
-ghost use Rattle.lasso_emptiness.specs.declared.live.LiveEdge.{LiveEdge};
-ghost use Rattle.lasso_emptiness.specs.inner.Edges.{IsWithin, arc_of};
-ghost use Rattle.lasso_emptiness.specs.inner.Groups.{IsJoined};
-ghost use Rattle.lasso_emptiness.specs.inner.Tours.{GoesOn, IsTour, edge_at};
+ghost use Rattle.lasso_emptiness.specs.declared.live.EdgeRef.{EdgeRef};
+ghost use Rattle.lasso_emptiness.specs.inner.Edges.{IsEdgeInRange, arc_of};
+ghost use Rattle.lasso_emptiness.specs.inner.Groups.{IsStronglyConnected};
+ghost use Rattle.lasso_emptiness.specs.inner.Tours.{ExtendsPath, IsTour, listed_edge};
 
-use crate::live::{LiveEdge, LiveEdges, graph_of};
+use crate::live::{EdgeRef, LiveEdges, graph_of};
 use aut_base::Memory;
 use graph_walk::{Graph, path};
 use std::alloc::Global;
@@ -16,11 +16,11 @@ use std::alloc::Global;
 pub(crate) fn tour(
     alloc: Global,
     states: u32,
-    edges: &[LiveEdge],
-    needed: &[LiveEdge],
+    edges: &[EdgeRef],
+    needed: &[EdgeRef],
 ) -> Result<LiveEdges, Memory>
     requires ends { All (λ e. (e.from < states) × (e.to < states)) edges.now }
-    requires joined { IsJoined edges.now }
+    requires joined { IsStronglyConnected edges.now }
     requires inside { All (Contains edges.now) needed.now }
     requires some { 0 < length needed.now }
     ensures { IfOk result (IsTour edges.now needed.now) }
@@ -42,7 +42,7 @@ pub(crate) fn tour(
 pub(crate) fn add_way(
     alloc: Global,
     graph: &Graph,
-    edges: &[LiveEdge],
+    edges: &[EdgeRef],
     from: u32,
     to: u32,
     way: &mut LiveEdges,
@@ -52,7 +52,7 @@ pub(crate) fn add_way(
     requires from { from < graph.now.nodes }
     requires to { to < graph.now.nodes }
     requires reaches { Reaches (map arc_of edges.now) from to }
-    ensures { OnOk result (GoesOn (Contains edges.now) from to way.old way.new) }
+    ensures { OnOk result (ExtendsPath (Contains edges.now) from to way.old way.new) }
 {
     if from == to {
         return Ok(());
@@ -64,9 +64,9 @@ pub(crate) fn add_way(
 }
 
 /// Adds the edges at these places.
-fn add_places(edges: &[LiveEdge], places: &[usize], way: &mut LiveEdges) -> Result<(), Memory>
+fn add_places(edges: &[EdgeRef], places: &[usize], way: &mut LiveEdges) -> Result<(), Memory>
     requires { All (λ place. place < length edges.now) places.now }
-    ensures { OnOk result (way.new ≡ way.old ++ map (edge_at edges.now) places.now) }
+    ensures { OnOk result (way.new ≡ way.old ++ map (listed_edge edges.now) places.now) }
 {
     'places: for place in places {
         way.push(edges[*place])?;

@@ -1,6 +1,6 @@
 //! What the edges of a component say of a condition.
 
-use crate::side::Side;
+use crate::side::SetLiteral;
 
 /// What all edges of a component together say of a condition.
 #[derive(Clone, Copy, Debug)]
@@ -10,5 +10,5 @@ pub(crate) enum Verdict {
     /// No cycle of some of them meets it.
     Never,
     /// It depends on whether a cycle passes an edge on this side, of which a `Fin` speaks.
-    Open(Side),
+    Open(SetLiteral),
 }

@@ -1,21 +1,21 @@
 //! The closed path of a component, and the word of a closed path.
 
 ghost use Rattle.std.specs.Prelude.{◌≡◌, ◌<◌, ◌↔◌, ℕ, true, false, IsTrue, List, All, Contains, IfOk, MatchOption, length, map};
-ghost use Rattle.aut_core.specs.Core.{automaton_of};
+ghost use Rattle.aut_core.specs.SymbolicAutomata.{automaton_of};
 ghost use Rattle.aut_core.specs.declared.link.Link.{Link};
 ghost use Rattle.graph_walk.specs.Reach.{ReachedFrom};
 ghost use Rattle.aut_base.specs.Formula.{FormulaTree, formula_tree};
 ghost use Rattle.graph_walk.specs.Walk.{Reaches};
 ghost use Rattle.std.specs.List.{slice_index_or};
-ghost use Rattle.lasso_emptiness.specs.declared.live.LiveEdge.{LiveEdge};
-ghost use Rattle.lasso_emptiness.specs.inner.Edges.{IsWithin, arc_of, met_along};
-ghost use Rattle.lasso_emptiness.specs.inner.Groups.{IsJoined};
+ghost use Rattle.lasso_emptiness.specs.declared.live.EdgeRef.{EdgeRef};
+ghost use Rattle.lasso_emptiness.specs.inner.Edges.{IsEdgeInRange, arc_of, met_along};
+ghost use Rattle.lasso_emptiness.specs.inner.Groups.{IsStronglyConnected};
 ghost use Rattle.lasso_emptiness.specs.inner.Letters.{AreLettersOf, IsLetterOf, IsOwnWord};
 ghost use Rattle.lasso_emptiness.specs.inner.Live.{ArePassable, IsPassable};
 ghost use Rattle.lasso_emptiness.specs.inner.Trails.{IsAccepting};
 ghost use Rattle.lasso_emptiness.specs.inner.Tours.{IsStem};
 
-use crate::live::{LiveEdge, LiveEdges, backward_graph_of, graph_of};
+use crate::live::{EdgeRef, LiveEdges, backward_graph_of, graph_of};
 use crate::needed::needed_edges;
 use crate::tour::{add_way, tour};
 use aut_base::{Flags, Formula, Lasso, Letter, Letters, Memory, Numbers};
@@ -28,11 +28,11 @@ pub(crate) fn accepting_cycle(
     alloc: Global,
     links: &[Link],
     states: u32,
-    edges: &[LiveEdge],
+    edges: &[EdgeRef],
     condition: &Formula,
 ) -> Result<LiveEdges, Memory>
-    requires within { All (IsWithin (length links.now) states) edges.now }
-    requires joined { IsJoined edges.now }
+    requires within { All (IsEdgeInRange (length links.now) states) edges.now }
+    requires joined { IsStronglyConnected edges.now }
     requires some { 0 < length edges.now }
     requires met { met_along links.now edges.now (formula_tree condition.now) ≡ true }
     ensures { IfOk result (IsAccepting links.now (Contains edges.now) (formula_tree condition.now)) }
@@ -45,15 +45,15 @@ pub(crate) fn accepting_cycle(
 pub(crate) fn word_around(
     alloc: Global,
     a: &Automaton,
-    passable: &[LiveEdge],
-    cycle: &[LiveEdge],
+    passable: &[EdgeRef],
+    cycle: &[EdgeRef],
 ) -> Result<Lasso, Memory>
     requires passable { ArePassable a.now passable.now }
-    requires reached { (e : LiveEdge) → Contains cycle.now e → ReachedFrom (map arc_of passable.now) a.now.starts e.from }
+    requires reached { (e : EdgeRef) → Contains cycle.now e → ReachedFrom (map arc_of passable.now) a.now.starts e.from }
     requires accepting { IsAccepting a.now.links (IsPassable a.now) a.now.formula cycle.now }
     ensures { IfOk result (IsOwnWord (automaton_of a.now)) }
 {
-    a.whole();
+    a.well_formed();
     let stem = stem_to(alloc, a, passable, cycle[0].from)?;
     Ok(Lasso {
         stem: letters_along(alloc, a, stem.as_slice())?,
@@ -62,18 +62,13 @@ pub(crate) fn word_around(
 }
 
 /// A path from a start that reaches the state to it.
-fn stem_to(
-    alloc: Global,
-    a: &Automaton,
-    edges: &[LiveEdge],
-    state: u32,
-) -> Result<LiveEdges, Memory>
+fn stem_to(alloc: Global, a: &Automaton, edges: &[EdgeRef], state: u32) -> Result<LiveEdges, Memory>
     requires ends { All (λ e. (e.from < a.now.states) × (e.to < a.now.states)) edges.now }
     requires state { state < a.now.states }
     requires reached { ReachedFrom (map arc_of edges.now) a.now.starts state }
     ensures { IfOk result (IsStem a.now.starts edges.now state) }
 {
-    a.whole();
+    a.well_formed();
     let flags = reaching(alloc, a.states(), edges, state)?;
     let mut stem = LiveEdges::new(alloc);
     match one_flagged(a.starts().as_slice(), flags.as_slice()) {
@@ -100,7 +95,7 @@ fn one_flagged(states: &[u32], flags: &[bool]) -> Option<u32>
 }
 
 /// For each state whether it reaches this one.
-fn reaching(alloc: Global, states: u32, edges: &[LiveEdge], state: u32) -> Result<Flags, Memory>
+fn reaching(alloc: Global, states: u32, edges: &[EdgeRef], state: u32) -> Result<Flags, Memory>
     requires ends { All (λ e. (e.from < states) × (e.to < states)) edges.now }
     requires state { state < states }
     ensures size { IfOk result (λ flags. length flags ≡ states) }
@@ -112,7 +107,7 @@ fn reaching(alloc: Global, states: u32, edges: &[LiveEdge], state: u32) -> Resul
 }
 
 /// A letter for each of the edges.
-fn letters_along(alloc: Global, a: &Automaton, edges: &[LiveEdge]) -> Result<Letters, Memory>
+fn letters_along(alloc: Global, a: &Automaton, edges: &[EdgeRef]) -> Result<Letters, Memory>
     requires { All (IsPassable a.now) edges.now }
     ensures { IfOk result (AreLettersOf a.now edges.now) }
 {
@@ -124,11 +119,11 @@ fn letters_along(alloc: Global, a: &Automaton, edges: &[LiveEdge]) -> Result<Let
 }
 
 /// A letter that meets the label of an edge.
-fn letter_on(alloc: Global, a: &Automaton, edge: LiveEdge) -> Result<Letter, Memory>
+fn letter_on(alloc: Global, a: &Automaton, edge: EdgeRef) -> Result<Letter, Memory>
     requires { IsPassable a.now edge }
     ensures { IfOk result (IsLetterOf a.now edge) }
 {
-    a.whole();
+    a.well_formed();
     let guard = a.links()[edge.link].guard;
     match a.guards().pick(alloc, a.names(), guard)? {
         Some(letter) => Ok(letter),

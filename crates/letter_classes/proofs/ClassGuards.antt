@@ -9,14 +9,14 @@ use Rattle.std.specs.Bool.{beq}
 use Rattle.std.specs.List.{list_all, list_any}
 use Rattle.aut_base.proofs.canonical.CanonicalTruth.{truth_on-label_of}
 use Rattle.aut_base.proofs.canonical.ValuationLists.{same_test}
-use Rattle.aut_base.specs.Automaton.{TreeEdge}
-use Rattle.aut_base.specs.CanonicalLabel.{label_of}
+use Rattle.aut_base.specs.Automaton.{LabelledEdge}
+use Rattle.aut_base.specs.CanonicalLabel.{label_of_truth}
 use Rattle.aut_base.specs.Label.{LabelTree, truth}
 use Rattle.aut_base.specs.Valuation.{IsLeast, holds_in, number_of, truth_on, valuations}
 use Rattle.aut_base.proofs.lists.Members.{map_alike}
 use Rattle.aut_core.proofs.Growth.{keeps_on}
-use Rattle.aut_core.specs.Core.{Core, IsCore, automaton_of}
-use Rattle.exploration.specs.Moves.{AreClasses}
+use Rattle.aut_core.specs.SymbolicAutomata.{SymbolicAutomaton, IsWellFormedSymbolic, automaton_of}
+use Rattle.exploration.specs.TransitionFunctions.{AreClassHandles}
 use Rattle.label_guards.proofs.valuations.Valuations.{length-bits_of}
 use Rattle.label_guards.specs.ClassLeasts.{are_alike, class_leasts, labels_in}
 use Rattle.label_guards.specs.Guards.{IsNeverMet}
@@ -38,9 +38,9 @@ leasts_of n alike = filter (λ v. not (list_any (λ w. nat_lt (number_of w) (num
 -- the guard, in words of the number of propositions and of what is alike
 abbrev IsHandle : Store → ℕ → Alike → ℕ → Guard → Type 0
 IsHandle s n alike k g = (v : List Bool) × (slice_get (leasts_of n alike) k ≡ Some v) × Has s g × IsLeast s.names (truth_on (label_in s g)) v ×
-    (label_in s g ≡ label_of n (λ w. alike (holds_in v) (holds_in w)))
+    (label_in s g ≡ label_of_truth n (λ w. alike (holds_in v) (holds_in w)))
 
-module _ (c : Core) (core : IsCore c) (set : List ℕ) (list : List Guard) (told : TellTheSame list (guards_from c set)) where
+module _ (c : SymbolicAutomaton) (core : IsWellFormedSymbolic c) (set : List ℕ) (list : List Guard) (told : TellTheSame list (guards_from c set)) where
   -- in a later store the labels are the same
   labels_kept : (s : Store) → Keeps c.store s → labels_in s (guards_from c set) ≡ set_labels (automaton_of c) set
   labels_kept s keeps =
@@ -65,7 +65,7 @@ module _ (c : Core) (core : IsCore c) (set : List ℕ) (list : List Guard) (told
   leasts_kept s keeps = λ i. leasts_of (names_kept s keeps i) (alike_kept s keeps i)
 
   pub class_guards : (s : Store) → Keeps c.store s → (classes : List Guard) → IsKnown s list classes
-      → AreClasses (IsClassGuard c s set) (length (set_classes (automaton_of c) set)) classes
+      → AreClassHandles (IsClassGuard c s set) (length (set_classes (automaton_of c) set)) classes
   class_guards s keeps classes known = record {
     all = known.are.all ∙ ap length (leasts_kept s keeps);
     each = λ k g at. (
@@ -87,7 +87,7 @@ module _ (c : Core) (core : IsCore c) (set : List ℕ) (list : List Guard) (told
   module _ (s t : Store) (old : Keeps c.store s) (new : Keeps c.store t) (most : ℕ) where
     pub set_answer : {V E : Type 0} (r : Result (Option V) E) (items : V → List Guard)
         → IfOk r (λ found. MatchOption found (most < length (class_leasts s.names (labels_in s list))) (λ v. IsKnown t list (items v)))
-        → IfOk r (λ found. MatchOption found (most < length (set_classes (automaton_of c) set)) (λ v. AreClasses (IsClassGuard c t set) (length (set_classes (automaton_of c) set)) (items v)))
+        → IfOk r (λ found. MatchOption found (most < length (set_classes (automaton_of c) set)) (λ v. AreClassHandles (IsClassGuard c t set) (length (set_classes (automaton_of c) set)) (items v)))
     set_answer (Ok (Some v)) items known = class_guards t new (items v) known
     set_answer (Ok None) items more = more_classes s old most more
     set_answer (Err e) items said = said
@@ -101,10 +101,10 @@ module _ (c : Core) (core : IsCore c) (set : List ℕ) (list : List Guard) (told
     few_answer (Err e) items known few = few
 
 -- a store that has grown
-pub fits_kept : (c : Core) (s t : Store) → Keeps s t → (set : List ℕ) → FitsStore c s set → FitsStore c t set
+pub fits_kept : (c : SymbolicAutomaton) (s t : Store) → Keeps s t → (set : List ℕ) → FitsStore c s set → FitsStore c t set
 fits_kept c s t keeps set fits = record { states = fits.states; keeps = keeps_on fits.keeps keeps }
 
-pub class_kept : (c : Core) (s t : Store) → Keeps s t → (set : List ℕ) (k : ℕ) (g : Guard) → IsClassGuard c s set k g → IsClassGuard c t set k g
+pub class_kept : (c : SymbolicAutomaton) (s t : Store) → Keeps s t → (set : List ℕ) (k : ℕ) (g : Guard) → IsClassGuard c s set k g → IsClassGuard c t set k g
 class_kept c s t keeps set k g is = record {
   valuation = is.valuation;
   at = is.at;
@@ -122,7 +122,7 @@ met_number s t g found number same is met =
     (subst (λ (o : Option ℕ). MatchOption o (IsNeverMet t g) (λ n. truth_on (label_in t g) (bits_of t.names n) ≡ true)) is met)
 
 -- Where all labels of these edges are alike at two valuations, both read the same edges.
-same_edges : (v w : List Bool) (es : List TreeEdge) → are_alike (map (λ e. e.label) es) (holds_in v) (holds_in w) ≡ true
+same_edges : (v w : List Bool) (es : List LabelledEdge) → are_alike (map (λ e. e.label) es) (holds_in v) (holds_in w) ≡ true
     → filter (λ e. truth_on e.label w) es ≡ filter (λ e. truth_on e.label v) es
 same_edges v w [] alike = refl
 same_edges v w (e ∷ es) alike =
@@ -132,7 +132,7 @@ same_edges v w (e ∷ es) alike =
     λ i. cond (sym head i) (e ∷ tail i) (tail i)
 
 -- A valuation that meets the guard of a class reads the edges from the set that the class's own valuation reads.
-module _ (c : Core) (core : IsCore c) (s : Store) (set : List ℕ) (k : ℕ) (g : Guard) (fits : FitsStore c s set) (is : IsClassGuard c s set k g) where
+module _ (c : SymbolicAutomaton) (core : IsWellFormedSymbolic c) (s : Store) (set : List ℕ) (k : ℕ) (g : Guard) (fits : FitsStore c s set) (is : IsClassGuard c s set k g) where
   names_are : s.names ≡ length c.names
   names_are = fits.keeps.names ∙ core.parts.store_names
 

@@ -15,7 +15,7 @@ use Rattle.label_guards.specs.Classes.{AreClasses}
 use Rattle.label_guards.specs.Store.{Has, Keeps, Store, label_in}
 use Rattle.label_guards.specs.declared.guard.Guard.{Guard}
 use Rattle.letter_classes.proofs.Told.{same_place}
-use Rattle.letter_classes.specs.Known.{AreKnown, IsKnown, IsListClass, IsPut, same_list}
+use Rattle.letter_classes.specs.Known.{AreClassesKnown, IsKnown, IsListClass, AreClassesInserted, same_list}
 use Rattle.letter_classes.specs.SetClasses.{class_label}
 
 -- what a store finds
@@ -65,7 +65,7 @@ module _ (s t : Store) (keeps : Keeps s t) where
         };
       }
 
-  pub all_later : (known : List (List Guard × List Guard)) → AreKnown s known → AreKnown t known
+  pub all_later : (known : List (List Guard × List Guard)) → AreClassesKnown s known → AreClassesKnown t known
   all_later known are = λ list classes at. known_later list classes (are list classes at)
 
 -- with one list more
@@ -79,11 +79,12 @@ same_lists (x ∷ xs) (y ∷ ys) is =
     let rest = same_lists xs ys parts.1 in
     λ i. first i ∷ rest i
 
-pub put_known : (s : Store) (old new : List (List Guard × List Guard)) (list classes : List Guard) → IsPut old new list classes → AreKnown s old → IsKnown s list classes → AreKnown s new
-put_known s old new list classes put are is = λ q found at. by q found (same_list list q) refl (sym (put q) ∙ at)
+pub put_known : (s : Store) (old new : List (List Guard × List Guard)) (list classes : List Guard) → AreClassesInserted old new list classes → AreClassesKnown s old → IsKnown s list classes
+    → AreClassesKnown s new
+put_known s old new list classes put are is = λ q found at. by_cases q found (same_list list q) refl (sym (put q) ∙ at)
   where
-    by : (q found : List Guard) (b : Bool) → same_list list q ≡ b → cond (same_list list q) (Some classes) (lookup (same_list q) old) ≡ Some found → IsKnown s q found
-    by q found false differ at = are q found (sym (ap (λ b. cond b (Some classes) (lookup (same_list q) old)) differ) ∙ at)
-    by q found true same at =
+    by_cases : (q found : List Guard) (b : Bool) → same_list list q ≡ b → cond (same_list list q) (Some classes) (lookup (same_list q) old) ≡ Some found → IsKnown s q found
+    by_cases q found false differ at = are q found (sym (ap (λ b. cond b (Some classes) (lookup (same_list q) old)) differ) ∙ at)
+    by_cases q found true same at =
         let value : classes ≡ found = same_Some classes found (sym (ap (λ b. cond b (Some classes) (lookup (same_list q) old)) same) ∙ at) in
         subst (λ (x : List Guard). IsKnown s x found) (same_lists list q same) (subst (IsKnown s list) value is)

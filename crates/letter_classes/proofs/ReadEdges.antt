@@ -3,25 +3,25 @@ use Rattle.std.proofs.Common.{◌≡◌, ◌∙◌, ◌+◌, ◌≤◌, ◌==◌
 use Rattle.std.proofs.lemmas.List.{map-append, take_all}
 use Rattle.std.proofs.lemmas.List.Elements.{filter-append}
 use Rattle.aut_base.proofs.order.Ordered.{filter_map_of}
-use Rattle.aut_base.specs.Automaton.{Automaton, TreeEdge}
-use Rattle.aut_core.specs.Core.{Core, automaton_of, edge_of}
+use Rattle.aut_base.specs.Automaton.{Automaton, LabelledEdge}
+use Rattle.aut_core.specs.SymbolicAutomata.{SymbolicAutomaton, automaton_of, edge_of}
 use Rattle.aut_core.specs.Surveys.{edges_from}
 use Rattle.aut_core.specs.declared.link.Link.{Link}
 use Rattle.letter_classes.proofs.SetGuards.{set_edges_on}
 use Rattle.letter_classes.specs.SetClasses.{set_edges}
 use Rattle.letter_classes.specs.Taken.{taken_of}
 
-module _ {A : Type 0} (part : TreeEdge → A) (reads : TreeEdge → Bool) where
-  abbrev pub of_links : Core → List Link → List A
+module _ {A : Type 0} (part : LabelledEdge → A) (reads : LabelledEdge → Bool) where
+  abbrev pub of_links : SymbolicAutomaton → List Link → List A
   of_links c ls = taken_of part reads (map (edge_of c.store) ls)
 
-  taken_join : (es fs : List TreeEdge) → taken_of part reads (es ++ fs) ≡ taken_of part reads es ++ taken_of part reads fs
+  taken_join : (es fs : List LabelledEdge) → taken_of part reads (es ++ fs) ≡ taken_of part reads es ++ taken_of part reads fs
   taken_join es fs = ap (map part) (filter-append reads es fs) ∙ map-append part (filter reads es) (filter reads fs)
 
-  pub all_links : (c : Core) (state i : ℕ) (row : List Link) (old new : List A) → row ≡ filter (λ l. l.from == state) c.links → length row ≤ i → new ≡ old ++ of_links c (take i row)
+  pub all_links : (c : SymbolicAutomaton) (state i : ℕ) (row : List Link) (old new : List A) → row ≡ filter (λ l. l.from == state) c.links → length row ≤ i → new ≡ old ++ of_links c (take i row)
       → new ≡ old ++ taken_of part reads (edges_from state (automaton_of c).edges)
   all_links c state i row old new e all so =
-      so ∙ ap (λ es. old ++ taken_of part reads es) (ap (map (edge_of c.store)) (take_all i row all ∙ e) ∙ sym (filter_map_of (λ (e : TreeEdge). e.from == state) (edge_of c.store) c.links))
+      so ∙ ap (λ es. old ++ taken_of part reads es) (ap (map (edge_of c.store)) (take_all i row all ∙ e) ∙ sym (filter_map_of (λ (e : LabelledEdge). e.from == state) (edge_of c.store) c.links))
 
   -- with the edges of one state more
   pub state_more : (b : Automaton) (set : List ℕ) (k state : ℕ) (now new : List A) → slice_get set k ≡ Some state → now ≡ taken_of part reads (set_edges b (take k set))

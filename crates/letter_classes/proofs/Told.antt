@@ -24,11 +24,11 @@ there_again : (list : List Guard) (g : Guard) → list_any (λ (y : Guard). eqb 
 there_again list g there p =
     let found = any_found (λ (y : Guard). eqb y.place g.place) list there in
     let is : found.0 ≡ g = same_place found.0 g found.2 in
-    by (list_all p list) refl found.0 found.1 is ∙ sym (list_all-append p list (g ∷ []) ∙ ap (λ b. list_all p list && b) (and-true (p g)))
+    by_cases (list_all p list) refl found.0 found.1 is ∙ sym (list_all-append p list (g ∷ []) ∙ ap (λ b. list_all p list && b) (and-true (p g)))
   where
-    by : (b : Bool) → list_all p list ≡ b → (h : Guard) → Contains list h → h ≡ g → list_all p list ≡ (list_all p list && p g)
-    by true all h at is = all ∙ sym (ap (λ b. b && p g) all ∙ (ap p (sym is) ∙ each_is p list h all at))
-    by false all h at is = all ∙ sym (ap (λ b. b && p g) all)
+    by_cases : (b : Bool) → list_all p list ≡ b → (h : Guard) → Contains list h → h ≡ g → list_all p list ≡ (list_all p list && p g)
+    by_cases true all h at is = all ∙ sym (ap (λ b. b && p g) all ∙ (ap p (sym is) ∙ each_is p list h all at))
+    by_cases false all h at is = all ∙ sym (ap (λ b. b && p g) all)
 
 -- one link more
 module _ (links : List Link) (i : ℕ) (l : Link) (within : i < length links) (at : l ≡ get_or links i l) (old now : List Guard)

@@ -3,7 +3,7 @@ use Rattle.std.specs.Prelude.{◌≡◌, ℕ, All, Bool, List, Some, cond, lengt
 use Rattle.std.specs.Cmp.Lexicographic.{pointwise}
 use Rattle.std.specs.Map.{lookup}
 use Rattle.aut_base.specs.Valuation.{IsLeast, truth_on}
-use Rattle.exploration.specs.Moves.{AreClasses}
+use Rattle.exploration.specs.TransitionFunctions.{AreClassHandles}
 use Rattle.label_guards.specs.ClassLeasts.{class_leasts, labels_in}
 use Rattle.label_guards.specs.Store.{Has, Store, label_in}
 use Rattle.label_guards.specs.declared.guard.Guard.{Guard}
@@ -20,16 +20,16 @@ pub record IsListClass (s : Store) (list : List Guard) (k : ℕ) (g : Guard) : T
 -- the store has the list, and these are the guards of all its classes, in order
 pub record IsKnown (s : Store) (list classes : List Guard) : Type 0 where
   pub has : All (Has s) list
-  pub are : AreClasses (IsListClass s list) (length (class_leasts s.names (labels_in s list))) classes
+  pub are : AreClassHandles (IsListClass s list) (length (class_leasts s.names (labels_in s list))) classes
 
 -- whether the lists have the same guards in the same places
 abbrev pub same_list : List Guard → List Guard → Bool
 same_list = pointwise (λ (g h : Guard). nat_eq g.place h.place)
 
 -- the table with the classes of one list more
-abbrev pub IsPut : (old new : List (List Guard × List Guard)) (list classes : List Guard) → Type 0
-IsPut old new list classes = (q : List Guard) → lookup (same_list q) new ≡ cond (same_list list q) (Some classes) (lookup (same_list q) old)
+abbrev pub AreClassesInserted : (old new : List (List Guard × List Guard)) (list classes : List Guard) → Type 0
+AreClassesInserted old new list classes = (q : List Guard) → lookup (same_list q) new ≡ cond (same_list list q) (Some classes) (lookup (same_list q) old)
 
 -- each list of the table stands with its own classes
-abbrev pub AreKnown : Store → List (List Guard × List Guard) → Type 0
-AreKnown s known = (list classes : List Guard) → lookup (same_list list) known ≡ Some classes → IsKnown s list classes
+abbrev pub AreClassesKnown : Store → List (List Guard × List Guard) → Type 0
+AreClassesKnown s known = (list classes : List Guard) → lookup (same_list list) known ≡ Some classes → IsKnown s list classes

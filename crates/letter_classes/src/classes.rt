@@ -1,8 +1,8 @@
 //! The classes of the edges from a set of states.
 
 ghost use Rattle.std.specs.Prelude.{◌<◌, ◌≤◌, All, IfOk, MatchOption, length};
-ghost use Rattle.aut_core.specs.Core.{automaton_of};
-ghost use Rattle.exploration.specs.Moves.{AreClasses};
+ghost use Rattle.aut_core.specs.SymbolicAutomata.{automaton_of};
+ghost use Rattle.exploration.specs.TransitionFunctions.{AreClassHandles};
 ghost use Rattle.label_guards.specs.Store.{Keeps};
 ghost use Rattle.letter_classes.specs.SetClasses.{IsClassGuard, set_classes};
 
@@ -27,10 +27,10 @@ pub fn classes_of_set(
     requires store { Keeps a.now.store guards.old }
     ensures keeps { Keeps guards.old guards.new }
     ensures classes { IfOk result (λ found. MatchOption found (most < length (set_classes (automaton_of a.now) set.now))
-        (λ cs. AreClasses (IsClassGuard a.now guards.new set.now) (length (set_classes (automaton_of a.now) set.now)) cs.items)) }
+        (λ cs. AreClassHandles (IsClassGuard a.now guards.new set.now) (length (set_classes (automaton_of a.now) set.now)) cs.items)) }
     ensures few { IfOk result (λ found. MatchOption found (Unit {0}) (λ cs. length (set_classes (automaton_of a.now) set.now) ≤ most)) }
 {
-    a.whole();
+    a.well_formed();
     let list = set_guards(alloc, a, set)?;
     guards.classes(alloc, list, most)
 }

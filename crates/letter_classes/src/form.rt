@@ -1,8 +1,8 @@
-//! Automata of the things and edges that were found class by class.
+//! Automata of the states and edges that were found class by class.
 
 ghost use Rattle.std.specs.Prelude.{◌≡◌, ◌<◌, ◌^◌, ℕ, List, All, IfOk, length, map};
 ghost use Rattle.aut_base.specs.Formula.{formula_tree};
-ghost use Rattle.aut_core.specs.Core.{AreParts};
+ghost use Rattle.aut_core.specs.SymbolicAutomata.{AreSymbolicParts};
 ghost use Rattle.letter_classes.specs.ClassForms.{form_of, link_of};
 
 use aut_base::{Formula, Marks, Memory, Numbers};
@@ -12,36 +12,36 @@ use label_guards::{Guard, Guards};
 use std::alloc::Global;
 use std::hash::Hash;
 
-/// The marks of edges, by the notes that their steps tell.
+/// The marks of edges, by the outputs that their steps tell.
 pub trait Marking {
-    type Note: Copy;
+    type Output: Copy;
 
-    // what may be asked of a note
-    ghost fits: { Self → Self.Note → Type 0 };
+    // what may be asked of an output
+    ghost fits: { Self → Self.Output → Type 0 };
 
-    ghost marked: { Self → Self.Note → List ℕ };
+    ghost marked: { Self → Self.Output → List ℕ };
 
-    /// The marks of an edge with this note.
-    fn marks(&self, alloc: Global, note: Self::Note) -> Result<Marks, Memory>
-        requires { fits self.now note }
-        ensures { IfOk result (λ marks. marks ≡ marked self.now note) };
+    /// The marks of an edge with this output.
+    fn marks(&self, alloc: Global, output: Self::Output) -> Result<Marks, Memory>
+        requires { fits self.now output }
+        ensures { IfOk result (λ marks. marks ≡ marked self.now output) };
 }
 
-/// The automaton over the names of `b` whose states are the places of the things that were found, the first of which is the
+/// The automaton over the names of `b` whose states are the places of what was found, the first of which is the
 /// start, and whose edges are those that were found, under their classes.
 pub fn class_form<T: Eq + Hash, M: Marking>(
     alloc: Global,
     b: &Automaton,
     guards: Guards,
-    found: &Explored<T, Guard, M::Note>,
+    found: &Explored<T, Guard, M::Output>,
     marking: &M,
     sets: u32,
     formula: Formula,
 ) -> Result<Automaton, Memory>
-    requires few { length found.now.things.keys < 2 ^ 32 }
-    requires notes { All (λ e. M.fits marking.now e.note) found.now.edges.items }
-    requires parts { AreParts (form_of b.now guards (length found.now.things.keys) (map (link_of (M.marked marking.now)) found.now.edges.items) sets (formula_tree formula)) }
-    ensures { IfOk result (λ made. made ≡ form_of b.now guards (length found.now.things.keys) (map (link_of (M.marked marking.now)) found.now.edges.items) sets (formula_tree formula)) }
+    requires few { length found.now.states.keys < 2 ^ 32 }
+    requires notes { All (λ e. M.fits marking.now e.output) found.now.edges.items }
+    requires parts { AreSymbolicParts (form_of b.now guards (length found.now.states.keys) (map (link_of (M.marked marking.now)) found.now.edges.items) sets (formula_tree formula)) }
+    ensures { IfOk result (λ made. made ≡ form_of b.now guards (length found.now.states.keys) (map (link_of (M.marked marking.now)) found.now.edges.items) sets (formula_tree formula)) }
 {
     let names = copy_names(b.names())?;
     let links = links_of(alloc, found.edges.as_slice(), marking)?;
@@ -51,7 +51,7 @@ pub fn class_form<T: Eq + Hash, M: Marking>(
         alloc,
         names,
         guards,
-        found.things.len() as u32,
+        found.states.len() as u32,
         starts,
         links,
         sets,
@@ -62,10 +62,10 @@ pub fn class_form<T: Eq + Hash, M: Marking>(
 /// The links of the edges that were found, each with its marks.
 fn links_of<M: Marking>(
     alloc: Global,
-    edges: &[Edge<Guard, M::Note>],
+    edges: &[Edge<Guard, M::Output>],
     marking: &M,
 ) -> Result<Links, Memory>
-    requires { All (λ e. M.fits marking.now e.note) edges.now }
+    requires { All (λ e. M.fits marking.now e.output) edges.now }
     ensures { IfOk result (λ links. links ≡ map (link_of (M.marked marking.now)) edges.now) }
 {
     let mut links = Links::from_vec(Vec::with_capacity(alloc, edges.len())?);
@@ -74,7 +74,7 @@ fn links_of<M: Marking>(
             from: edge.from,
             guard: edge.class,
             to: edge.to,
-            marks: marking.marks(alloc, edge.note)?,
+            marks: marking.marks(alloc, edge.output)?,
         })?;
     }
     Ok(links)

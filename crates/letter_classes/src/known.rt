@@ -3,7 +3,7 @@
 ghost use Rattle.std.specs.Prelude.{◌≡◌, ◌<◌, ◌≤◌, All, IfOk, MatchOption, OnErr, OnOk, length};
 ghost use Rattle.label_guards.specs.ClassLeasts.{class_leasts, labels_in};
 ghost use Rattle.label_guards.specs.Store.{Has, Keeps};
-ghost use Rattle.letter_classes.specs.Known.{AreKnown, IsKnown, IsPut};
+ghost use Rattle.letter_classes.specs.Known.{AreClassesKnown, IsKnown, AreClassesInserted};
 
 use aut_base::Memory;
 use indexmap::IndexMap;
@@ -26,9 +26,9 @@ pub(crate) fn known_classes(
     most: u32,
 ) -> Result<Option<Vec<Guard>>, Memory>
     requires has { All (Has guards.old) list }
-    requires known { AreKnown guards.old known.old.entries }
+    requires known { AreClassesKnown guards.old known.old.entries }
     ensures keeps { Keeps guards.old guards.new }
-    ensures known { AreKnown guards.new known.new.entries }
+    ensures known { AreClassesKnown guards.new known.new.entries }
     ensures classes { IfOk result (λ found. MatchOption found (most < length (class_leasts guards.old.names (labels_in guards.old list))) (λ cs. IsKnown guards.new list cs.items)) }
     ensures few { IfOk result (λ found. MatchOption found (Unit {0}) (λ cs. length cs.items ≤ most)) }
 {
@@ -51,9 +51,9 @@ fn new_classes(
     most: u32,
 ) -> Result<Option<Vec<Guard>>, Memory>
     requires has { All (Has guards.old) list }
-    requires known { AreKnown guards.old known.old.entries }
+    requires known { AreClassesKnown guards.old known.old.entries }
     ensures keeps { Keeps guards.old guards.new }
-    ensures known { AreKnown guards.new known.new.entries }
+    ensures known { AreClassesKnown guards.new known.new.entries }
     ensures classes { IfOk result (λ found. MatchOption found (most < length (class_leasts guards.old.names (labels_in guards.old list))) (λ cs. IsKnown guards.new list cs.items)) }
     ensures few { IfOk result (λ found. MatchOption found (Unit {0}) (λ cs. length cs.items ≤ most)) }
 {
@@ -70,7 +70,7 @@ fn new_classes(
 
 /// Keeps the classes of a list.
 fn put(known: &mut Known, list: GuardList, classes: GuardList) -> Result<(), Memory>
-    ensures ok { OnOk result (IsPut known.old.entries known.new.entries list classes) }
+    ensures ok { OnOk result (AreClassesInserted known.old.entries known.new.entries list classes) }
     ensures err { OnErr result (known.new.entries ≡ known.old.entries) }
 {
     match known.insert(list, classes) {

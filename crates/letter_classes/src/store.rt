@@ -21,13 +21,13 @@ pub struct ClassStore {
 
 impl Model for ClassStore {
     ghost use Rattle.label_guards.specs.Store.{Store};
-    ghost use Rattle.letter_classes.specs.Known.{AreKnown};
+    ghost use Rattle.letter_classes.specs.Known.{AreClassesKnown};
 
     ghost Value = { Store };
 
     ghost view = { λ s. s.guards };
 
-    ghost invariant = { λ s. AreKnown s.guards s.known.entries };
+    ghost invariant = { λ s. AreClassesKnown s.guards s.known.entries };
 }
 
 impl ClassStore {

@@ -1,8 +1,8 @@
 //! What is taken of the edges from a set of states that are read at a letter.
 
 ghost use Rattle.std.specs.Prelude.{◌≡◌, ◌<◌, ◌++◌, All, IfOk, OnOk};
-ghost use Rattle.aut_base.specs.Automaton.{TreeEdge};
-ghost use Rattle.aut_core.specs.Core.{automaton_of, edge_of};
+ghost use Rattle.aut_base.specs.Automaton.{LabelledEdge};
+ghost use Rattle.aut_core.specs.SymbolicAutomata.{automaton_of, edge_of};
 ghost use Rattle.aut_core.specs.Surveys.{edges_from};
 ghost use Rattle.label_guards.specs.Store.{Store};
 ghost use Rattle.letter_classes.specs.SetClasses.{set_edges};
@@ -15,7 +15,7 @@ use aut_core::{Automaton, Link};
 pub trait Taking {
     type Taken: Drop;
 
-    ghost taken: { TreeEdge → Self.Taken };
+    ghost taken: { LabelledEdge → Self.Taken };
 
     /// What is taken of the edge for which the link stands, whatever its label.
     fn take(link: &Link) -> Self::Taken
@@ -33,7 +33,7 @@ pub fn taken_at<T: Taking>(
     requires { All (λ q. q < a.now.states) set.now }
     ensures { IfOk result (λ found. found ≡ taken_of T.taken (reads_at a.now number) (set_edges (automaton_of a.now) set.now)) }
 {
-    a.whole();
+    a.well_formed();
     let mut found = list;
     found.clear();
     'set: for state in set {
@@ -52,7 +52,7 @@ fn push_taken<T: Taking>(
     requires { state < a.now.states }
     ensures { OnOk result (found.new ≡ found.old ++ taken_of T.taken (reads_at a.now number) (edges_from state (automaton_of a.now).edges)) }
 {
-    a.whole();
+    a.well_formed();
     'links: for link in a.links_of(state) {
         if !a.guards().holds_at(link.guard, number) {
             continue;

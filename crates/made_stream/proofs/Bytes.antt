@@ -5,16 +5,16 @@ use Rattle.std.specs.List.{slice_index_or}
 use Rattle.std.proofs.lemmas.Option.{slice_get-get_or}
 use Rattle.aut_base.proofs.lists.Lists.{slice_get-append_left, slice_get-append_right}
 use Rattle.made_stream.specs.inner.Left.{left_at}
-use Rattle.made_stream.specs.inner.Parts.{part_back, part_front, part_number, part_text}
+use Rattle.made_stream.specs.inner.Parts.{part_back, part_front, part_number, ring_part_text}
 use Rattle.made_stream.specs.declared.made.place.Part.{Part}
 use Rattle.made_stream.specs.declared.made.place.Place.{Place}
 use Rattle.made_stream.proofs.Rings.{first_byte}
 
 pub length-part_text :
     (ring state : ℕ) (p : Part) →
-    length (part_text ring state p)
+    length (ring_part_text ring state p)
     ≡ length (part_front p) + length (decimal (part_number ring state p)) + length (part_back ring p)
-unfolding part_text
+unfolding ring_part_text
 length-part_text ring state p =
     let number = decimal (part_number ring state p) in
     let behind_front = length-append (part_front p) (number ++ part_back ring p) in
@@ -33,14 +33,14 @@ pub behind_front : (p : Place) (front : List ℕ) (number digits : ℕ) → fron
 behind_front p front number digits front_is number_is digits_is behind = record { front_is = front_is; number_is = number_is; digits_is = digits_is; behind = behind }
 
 at_place :
-    (count : ℕ) (p : Place) (byte : ℕ) → slice_get (part_text p.ring p.state p.part) p.given ≡ Some byte →
+    (count : ℕ) (p : Place) (byte : ℕ) → slice_get (ring_part_text p.ring p.state p.part) p.given ≡ Some byte →
     slice_get (left_at count (Some p)) 0 ≡ Some byte
-at_place count p byte is = first_byte (part_text p.ring p.state p.part) _ p.given byte is
+at_place count p byte is = first_byte (ring_part_text p.ring p.state p.part) _ p.given byte is
 
 pub byte_of_front :
     (count : ℕ) (p : Place) (front : List ℕ) → front ≡ part_front p.part → p.given < length front →
     slice_get (left_at count (Some p)) 0 ≡ Some (slice_index_or front p.given 0)
-unfolding part_text
+unfolding ring_part_text
 byte_of_front count p front is_front within =
     at_place count p _
     (rw (← is_front) (slice_get-append_left front _ p.given within ∙ slice_get-get_or front p.given 0 within))
@@ -49,7 +49,7 @@ pub byte_of_number :
     (count : ℕ) (p : Place) (front : List ℕ) (number digits byte : ℕ) → IsBehindFront p front number digits →
     p.given - length front < digits → slice_get (decimal number) (p.given - length front) ≡ Some byte →
     slice_get (left_at count (Some p)) 0 ≡ Some byte
-unfolding part_text
+unfolding ring_part_text
 byte_of_number count p front number digits byte at within is =
     let here : p.given - length front < length (decimal number) = omega arith in
     let start : p.given ≡ length front + (p.given - length front) = omega arith in
@@ -63,7 +63,7 @@ pub within_back :
     (p : Place) (front back : List ℕ) (number digits : ℕ) → IsBehindFront p front number digits →
     back ≡ part_back p.ring p.part → digits ≤ p.given - length front → p.given - length front - digits < length back
 within_back p front back number digits at is_back behind =
-    let whole : length (part_text p.ring p.state p.part) ≡ length front + length (decimal number) + length back =
+    let whole : length (ring_part_text p.ring p.state p.part) ≡ length front + length (decimal number) + length back =
     rw (at.front_is, at.number_is, is_back) (length-part_text p.ring p.state p.part) in
     let within = p.within in
     omega arith
@@ -72,7 +72,7 @@ pub byte_of_back :
     (count : ℕ) (p : Place) (front back : List ℕ) (number digits : ℕ) → IsBehindFront p front number digits →
     back ≡ part_back p.ring p.part → digits ≤ p.given - length front →
     slice_get (left_at count (Some p)) 0 ≡ Some (slice_index_or back (p.given - length front - digits) 0)
-unfolding part_text
+unfolding ring_part_text
 byte_of_back count p front back number digits at is_back behind =
     let here = within_back p front back number digits at is_back behind in
     let start : p.given ≡ length front + (p.given - length front) = omega arith in

@@ -8,12 +8,12 @@ use Rattle.std.proofs.lemmas.List.{drop_all}
 use Rattle.std.proofs.Math.Seq.{drop-cons}
 use Rattle.aut_base.proofs.lists.Lists.{drop-slice_get}
 use Rattle.made_stream.specs.Made.{line, made_text, mark, ring_text, state_back, state_on}
-use Rattle.made_stream.specs.inner.Parts.{behind_part, behind_state, part_text, rings_behind}
+use Rattle.made_stream.specs.inner.Parts.{behind_part, behind_state, ring_part_text, rings_behind}
 use Rattle.made_stream.specs.declared.made.place.Part.{Part}
 use Rattle.made_stream.specs.declared.made.place.Part.TheVariants as part
 
-pub part_not_empty : (ring state : ℕ) (p : Part) → 0 < length (part_text ring state p)
-unfolding part_text
+pub part_not_empty : (ring state : ℕ) (p : Part) → 0 < length (ring_part_text ring state p)
+unfolding ring_part_text
 part_not_empty ring state part.Head = omega arith
 part_not_empty ring state part.State = omega arith
 part_not_empty ring state part.Edge = omega arith
@@ -28,8 +28,8 @@ last_lines true = refl
 last_lines false = refl
 
 last_text :
-    (ring state : ℕ) → part_text ring state part.Last ≡ line (codes "[0] 0" ++ mark ring) ++ line (codes "--END--")
-unfolding part_text
+    (ring state : ℕ) → ring_part_text ring state part.Last ≡ line (codes "[0] 0" ++ mark ring) ++ line (codes "--END--")
+unfolding ring_part_text
 last_text ring state = rw (decimal_digit 0 (lit< tt)) (last_lines (ring % 2 == 1))
 
 regrouped : (a b c d : List ℕ) → a ++ (b ++ (c ++ d)) ≡ ((a ++ b) ++ c) ++ d
@@ -38,9 +38,9 @@ regrouped a b c d = sym (append_assoc a b (c ++ d)) ∙ sym (append_assoc (a ++ 
 -- the line of a state, and what stands behind it
 states :
     (ring state more : ℕ) → state + more + 1 ≡ ring →
-    part_text ring state part.State ++ behind_state ring state more
+    ring_part_text ring state part.State ++ behind_state ring state more
     ≡ flat_map state_on (range_with_len state more) ++ (state_back ring ++ line (codes "--END--"))
-unfolding part_text behind_state
+unfolding ring_part_text behind_state
 states ring state zero all =
     let e : ring - 1 ≡ state = omega arith in
     let here = line (codes "State: " ++ decimal state) in
@@ -60,14 +60,14 @@ with_head ring rest =
     ++ (line (codes "AP: 1 \"a\"") ++ (line (codes "Acceptance: 1 Inf(0)") ++ (line (codes "--BODY--") ++ rest)))))
 
 -- the first part, in lines
-head_lines : (ring : ℕ) (rest : List ℕ) → part_text ring 0 part.Head ++ rest ≡ with_head ring rest
-unfolding part_text
+head_lines : (ring : ℕ) (rest : List ℕ) → ring_part_text ring 0 part.Head ++ rest ≡ with_head ring rest
+unfolding ring_part_text
 head_lines ring rest =
     ap (λ t. codes "HOA: v1\nStates: " ++ t)
     (append_assoc (decimal ring) (codes "\nStart: 0\nAP: 1 \"a\"\nAcceptance: 1 Inf(0)\n--BODY--\n") rest
     ∙ sym (append_assoc (decimal ring) (codes "\n") (codes "Start: 0\nAP: 1 \"a\"\nAcceptance: 1 Inf(0)\n--BODY--\n" ++ rest)))
 
-pub ring_by_parts : (ring : ℕ) → 0 < ring → part_text ring 0 part.Head ++ behind_part ring 0 part.Head ≡ ring_text ring
+pub ring_by_parts : (ring : ℕ) → 0 < ring → ring_part_text ring 0 part.Head ++ behind_part ring 0 part.Head ≡ ring_text ring
 unfolding behind_part
 ring_by_parts ring some =
     let e : ring - 1 - 0 ≡ ring - 1 = omega arith in
@@ -91,14 +91,14 @@ all_rings count some = let e : count - 0 ≡ count = omega arith in sym (ring_be
 -- which part stands behind which
 pub state_behind :
     (ring state : ℕ) (p : Part) → (p ≡ part.Head) ⊎ (p ≡ part.Edge) →
-    behind_part ring state p ≡ part_text ring state part.State ++ behind_part ring state part.State
+    behind_part ring state p ≡ ring_part_text ring state part.State ++ behind_part ring state part.State
 unfolding behind_part
 state_behind ring state p (inl is) = rw is refl
 state_behind ring state p (inr is) = rw is refl
 
 pub edge_behind :
     (ring state : ℕ) (p : Part) → p ≡ part.State → state + 1 < ring →
-    behind_part ring state p ≡ part_text ring (state + 1) part.Edge ++ behind_part ring (state + 1) part.Edge
+    behind_part ring state p ≡ ring_part_text ring (state + 1) part.Edge ++ behind_part ring (state + 1) part.Edge
 unfolding behind_part behind_state
 edge_behind ring state p is more =
     let e : ring - 1 - state ≡ suc (ring - 1 - (state + 1)) = omega arith in
@@ -106,7 +106,7 @@ edge_behind ring state p is more =
 
 pub last_behind :
     (ring state : ℕ) (p : Part) → p ≡ part.State → ring ≤ state + 1 →
-    behind_part ring state p ≡ part_text ring state part.Last ++ behind_part ring state part.Last
+    behind_part ring state p ≡ ring_part_text ring state part.Last ++ behind_part ring state part.Last
 unfolding behind_part behind_state
 last_behind ring state p is last =
     let e : ring - 1 - state ≡ 0 = omega arith in

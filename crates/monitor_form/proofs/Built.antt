@@ -8,10 +8,10 @@ use Rattle.aut_base.specs.Automaton.{Automaton}
 use Rattle.aut_base.specs.Formula.{FormulaTree, SetsBelow}
 use Rattle.aut_base.specs.declared.limit.TheConstants.{MOST_SUBSETS}
 use Rattle.aut_core.proofs.Growth.{keeps_none}
-use Rattle.aut_core.specs.Core.{AreParts, Core, IsCore, automaton_of}
-use Rattle.exploration.specs.Explorations.{IsSound, arrow_of}
+use Rattle.aut_core.specs.SymbolicAutomata.{AreSymbolicParts, SymbolicAutomaton, IsWellFormedSymbolic, automaton_of}
+use Rattle.exploration.specs.Explorations.{IsSound, transition_of}
 use Rattle.exploration.specs.Reached.{IsExplored}
-use Rattle.exploration.specs.Turns.{Arrow, EndsWith}
+use Rattle.exploration.specs.Turns.{Transition, EndsWith}
 use Rattle.exploration.specs.declared.exploration.Edge.{Edge}
 use Rattle.label_guards.specs.Store.{Keeps, Store}
 use Rattle.label_guards.specs.declared.guard.Guard.{Guard}
@@ -25,22 +25,22 @@ first_place : (ss : List ℕ) → 0 < length ss → 0 ∷ [] ≡ first_places ss
 first_place [] some = absurd (omega (arith, some))
 first_place (s ∷ ss) some = refl
 
-module _ (b : Core) (core : IsCore b) (s : Store) (keeps : Keeps b.store s) (sets : List (List ℕ)) (edges : List (Edge Guard ⊤))
-    (is : IsExplored (pointwise nat_eq) (subset_moves (automaton_of b)) (start_set (automaton_of b)) sets (map arrow_of edges))
+module _ (b : SymbolicAutomaton) (core : IsWellFormedSymbolic b) (s : Store) (keeps : Keeps b.store s) (sets : List (List ℕ)) (edges : List (Edge Guard ⊤))
+    (is : IsExplored (pointwise nat_eq) (subset_moves (automaton_of b)) (start_set (automaton_of b)) sets (map transition_of edges))
     (sound : IsSound (FitsStore b s) (IsClassGuard b s) (λ _ _ _. ⊤) MOST_SUBSETS sets edges) where
   abbrev no_marks : ⊤ → List ℕ
-  no_marks note = []
+  no_marks output = []
 
   -- the condition is `t`, however it is made
   module _ (formula : FormulaTree) (always : formula ≡ FormulaTree.True) where
-    abbrev made : Core
+    abbrev made : SymbolicAutomaton
     made = form_of b s (length sets) (map (link_of no_marks) edges) 0 formula
 
-    pub made_parts : AreParts made
+    pub made_parts : AreSymbolicParts made
     made_parts = parts_are (λ (set : List ℕ). set) (λ _ _ _. ⊤) b core s keeps (pointwise nat_eq) (subset_moves (automaton_of b)) (start_set (automaton_of b)) MOST_SUBSETS sets edges is sound
         no_marks 0 formula (λ e there k d within. absurd (omega (arith, within))) (subst (SetsBelow 0) (sym always) tt)
 
-    pub made_monitor : 0 < length b.starts → automaton_of made ≡ monitor_on sets (map arrow_of edges) (automaton_of b)
+    pub made_monitor : 0 < length b.starts → automaton_of made ≡ monitor_on sets (map transition_of edges) (automaton_of b)
     made_monitor some = λ j. record {
       names = b.names;
       starts = first_place b.starts some j;
@@ -52,7 +52,7 @@ module _ (b : Core) (core : IsCore b) (s : Store) (keeps : Keeps b.store s) (set
     }
 
 -- the start fits
-pub start_fits : (b : Core) (s : Store) (set : List ℕ) → s ≡ b.store → set ≡ start_set (automaton_of b) → FitsStore b s set
+pub start_fits : (b : SymbolicAutomaton) (s : Store) (set : List ℕ) → s ≡ b.store → set ≡ start_set (automaton_of b) → FitsStore b s set
 start_fits b s set e f = record {
   states = subst (All (λ q. q < b.states)) (sym f) (each_there (λ q. q < b.states) (start_set (automaton_of b)) (λ q there.
       let kept = from_filter (λ p. list_any (λ t. nat_eq t p) b.starts) (range_with_len 0 b.states) q there in
@@ -61,9 +61,10 @@ start_fits b s set e f = record {
 }
 
 -- where there are starts
-pub explored_from : (b : Automaton) (ss : List ℕ) (sets : List (List ℕ)) (arrows : List Arrow) → 0 < length ss → EndsWith (subset_rules b) (start_set b) sets arrows → IsExploredFrom b ss sets arrows
-explored_from b [] sets arrows some ends = absurd (omega (arith, some))
-explored_from b (s ∷ ss) sets arrows some ends = ends
+pub explored_from : (b : Automaton) (ss : List ℕ) (sets : List (List ℕ)) (transitions : List Transition) → 0 < length ss → EndsWith (subset_rules b) (start_set b) sets transitions
+    → IsExploredFrom b ss sets transitions
+explored_from b [] sets transitions some ends = absurd (omega (arith, some))
+explored_from b (s ∷ ss) sets transitions some ends = ends
 
 pub explored_none : (b : Automaton) (ss : List ℕ) → length ss ≡ 0 → IsExploredFrom b ss [] []
 explored_none b [] e = (refl, refl)

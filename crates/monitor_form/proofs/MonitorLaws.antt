@@ -3,29 +3,29 @@ use Rattle.std.proofs.Common.{◌≡◌, ◌∙◌, ◌<◌, ◌≤◌, ℕ, Lis
 use Rattle.aut_base.specs.Automaton.{Automaton, IsWellFormed}
 use Rattle.aut_base.specs.Formula.{Inf}
 use Rattle.aut_base.specs.declared.limit.TheConstants.{MOST_BUCHI_STATES}
-use Rattle.aut_core.specs.Core.{Core, automaton_of}
+use Rattle.aut_core.specs.SymbolicAutomata.{SymbolicAutomaton, automaton_of}
 use Rattle.aut_core.specs.Deterministic.{IsDeterministic}
 use Rattle.aut_core.specs.OtherNames.{AcceptTheSame}
 use Rattle.aut_ops.proofs.flagged.FlagLaws.{pruned_is_determined}
 use Rattle.aut_ops.specs.Pruning.{IsPruned}
 use Rattle.degeneralise.specs.Buchi.{buchi, buchi_states}
-use Rattle.exploration.proofs.Ends.{ends_or_meets, has_one_ending, has_one_outcome}
-use Rattle.exploration.specs.Turns.{Ends, Goes, Meets, Turn, begin}
+use Rattle.exploration.proofs.Finished.{ends_or_meets, has_one_ending, has_one_outcome}
+use Rattle.exploration.specs.Turns.{Finished, Running, LimitMet, Turn, begin}
 use Rattle.exploration.specs.declared.fault.Fault.{Fault}
 use Rattle.monitor_form.proofs.Formed.{formed_of}
 use Rattle.monitor_form.proofs.LivePaths.{pruned_are_live}
 use Rattle.monitor_form.proofs.Prefixed.{monitor_accepts}
 use Rattle.monitor_form.specs.Prefixes.{AcceptsPrefixes, HasPrefix}
-use Rattle.monitor_form.specs.Subsets.{IsExploredFrom, IsMonitor, IsSubsetForm, MeetsLimit, MeetsSubsetLimit, MonitorExcludesLimits, MonitorIsDetermined, SubsetFormIsDetermined}
+use Rattle.monitor_form.specs.Subsets.{IsExploredFrom, IsMonitorAutomaton, IsSubsetForm, MeetsLimit, MeetsSubsetLimit, MonitorExcludesLimits, MonitorIsDetermined, SubsetFormIsDetermined}
 use Rattle.monitor_form.specs.Subsets.{monitor_on, start_set, subset_rules}
 
 forms_same : (b made other : Automaton) → IsSubsetForm b made → IsSubsetForm b other → made ≡ other
-forms_same b made other f g = by b.starts f.explored g.explored
+forms_same b made other f g = by_cases b.starts f.explored g.explored
   where
-    by : (ss : List ℕ) → IsExploredFrom b ss f.sets f.arrows → IsExploredFrom b ss g.sets g.arrows → made ≡ other
-    by [] x y = f.is ∙ ((λ i. monitor_on ((x.0 ∙ sym y.0) i) ((x.1 ∙ sym y.1) i) b) ∙ sym g.is)
-    by (s ∷ ss) x y =
-        let one = has_one_ending (List ℕ) (subset_rules b) (start_set b) f.sets g.sets f.arrows g.arrows x y in
+    by_cases : (ss : List ℕ) → IsExploredFrom b ss f.sets f.transitions → IsExploredFrom b ss g.sets g.transitions → made ≡ other
+    by_cases [] x y = f.is ∙ ((λ i. monitor_on ((x.0 ∙ sym y.0) i) ((x.1 ∙ sym y.1) i) b) ∙ sym g.is)
+    by_cases (s ∷ ss) x y =
+        let one = has_one_ending (List ℕ) (subset_rules b) (start_set b) f.sets g.sets f.transitions g.transitions x y in
         f.is ∙ ((λ i. monitor_on (one.0 i) (one.1 i) b) ∙ sym g.is)
 
 pub monitor_is_determined : MonitorIsDetermined
@@ -34,19 +34,19 @@ monitor_is_determined a made other m o =
     forms_same m.pruned made other m.is (subst (λ (b : Automaton). IsSubsetForm b other) (sym same) o.is)
 
 form_excludes : (b made : Automaton) (f : Fault) → IsSubsetForm b made → MeetsSubsetLimit b f → ⊥
-form_excludes b made f form meets = by b.starts form.explored meets.some
+form_excludes b made f form meets = by_cases b.starts form.explored meets.some
   where
-    by : (ss : List ℕ) → IsExploredFrom b ss form.sets form.arrows → 0 < length ss → ⊥
-    by [] x some = absurd (omega (arith, some))
-    by (s ∷ ss) x some = ends_or_meets (List ℕ) (subset_rules b) (start_set b) form.sets form.arrows f x meets.meets
+    by_cases : (ss : List ℕ) → IsExploredFrom b ss form.sets form.transitions → 0 < length ss → ⊥
+    by_cases [] x some = absurd (omega (arith, some))
+    by_cases (s ∷ ss) x some = ends_or_meets (List ℕ) (subset_rules b) (start_set b) form.sets form.transitions f x meets.meets
 
 abbrev fault_in : Fault → Turn (List ℕ) → Fault
-fault_in d (Goes s) = d
-fault_in d (Ends s) = d
-fault_in d (Meets f) = f
+fault_in d (Running s) = d
+fault_in d (Finished s) = d
+fault_in d (LimitMet f) = f
 
 one_limit : (b : Automaton) (f g : Fault) → MeetsSubsetLimit b f → MeetsSubsetLimit b g → f ≡ g
-one_limit b f g x y = ap (fault_in f) (has_one_outcome (List ℕ) (subset_rules b) (begin (start_set b)) (Meets f) (Meets g) tt tt x.meets y.meets)
+one_limit b f g x y = ap (fault_in f) (has_one_outcome (List ℕ) (subset_rules b) (begin (start_set b)) (LimitMet f) (LimitMet g) tt tt x.meets y.meets)
 
 pub subset_form_is_determined : SubsetFormIsDetermined
 subset_form_is_determined b = record { one = forms_same b; limit = one_limit b; either = form_excludes b }
@@ -83,13 +83,13 @@ pub form_deterministic : (b made : Automaton) → IsWellFormed b → IsSubsetFor
 form_deterministic b made well is = (formed_of b made well is).deterministic
 
 -- the monitor, from what its steps say
-pub monitor_of : (a form pruned made : Automaton) → form ≡ buchi a → IsPruned form pruned → IsSubsetForm pruned made → IsMonitor a made
+pub monitor_of : (a form pruned made : Automaton) → form ≡ buchi a → IsPruned form pruned → IsSubsetForm pruned made → IsMonitorAutomaton a made
 monitor_of a form pruned made same is_pruned is = record { pruned = pruned; is_pruned = subst (λ (b : Automaton). IsPruned b pruned) same is_pruned; is = is }
 
 pub no_limits : (a form pruned made : Automaton) → form ≡ buchi a → IsPruned form pruned → IsSubsetForm pruned made → (f : Fault) → MeetsLimit a f → ⊥
 no_limits a form pruned made same is_pruned is f meets = (monitor_excludes_limits a).monitors made f (monitor_of a form pruned made same is_pruned is) meets
 
-pub no_limits_on : {E : Type 0} (a form pruned : Automaton) → form ≡ buchi a → IsPruned form pruned → (r : Result Core E) → IfOk r (λ made. IsSubsetForm pruned (automaton_of made))
+pub no_limits_on : {E : Type 0} (a form pruned : Automaton) → form ≡ buchi a → IsPruned form pruned → (r : Result SymbolicAutomaton E) → IfOk r (λ made. IsSubsetForm pruned (automaton_of made))
     → OnOk r ((f : Fault) → MeetsLimit a f → ⊥)
 no_limits_on a form pruned same is_pruned (Ok made) is = no_limits a form pruned (automaton_of made) same is_pruned is
 no_limits_on a form pruned same is_pruned (Err e) is = tt

@@ -6,13 +6,13 @@ use Rattle.aut_base.proofs.lists.Members.{first_there, none_there, there_cases}
 use Rattle.aut_base.proofs.runs.Paths.{path_join, path_split}
 use Rattle.aut_base.proofs.words.Spelled.{stem_letter}
 use Rattle.aut_base.specs.Acceptance.{Accepts, IsPath}
-use Rattle.aut_base.specs.Automaton.{Automaton, TreeEdge}
+use Rattle.aut_base.specs.Automaton.{Automaton, LabelledEdge}
 use Rattle.aut_base.specs.Formula.{met}
 use Rattle.aut_base.specs.Word.{NameSet, copies}
 use Rattle.aut_base.proofs.words.Turns.{letter_in}
 use Rattle.monitor_form.proofs.LongPaths.{begins_with, long_path}
 use Rattle.monitor_form.proofs.Stops.{Stops, loop_of, stops}
-use Rattle.monitor_form.specs.Monitors.{AreLive, IsGoal, IsLive, IsMonitorOf, MonitorAccepts, first_places, set_at}
+use Rattle.monitor_form.specs.Monitors.{AreLive, IsGoal, IsLive, TracksSubsets, MonitorAccepts, first_places, set_at}
 use Rattle.monitor_form.specs.Prefixes.{HasPrefix}
 
 first_found : (starts : List ℕ) (s : ℕ) → Contains (first_places starts) s → (q : ℕ) × Contains starts q × (s ≡ 0)
@@ -27,7 +27,7 @@ some_sets : (sets : List (List ℕ)) (q : ℕ) → Contains (set_at sets 0) q �
 some_sets [] q there = absurd (none_there q there)
 some_sets (set ∷ sets) q there = omega arith
 
-module _ (b m : Automaton) (sets : List (List ℕ)) (is : IsMonitorOf b m sets) where
+module _ (b m : Automaton) (sets : List (List ℕ)) (is : TracksSubsets b m sets) where
   -- the place has a set, with a state, and all its states are live
   record Good (i : ℕ) : Type 0 where
     below : i < length sets
@@ -39,14 +39,14 @@ module _ (b m : Automaton) (sets : List (List ℕ)) (is : IsMonitorOf b m sets) 
   record Back (i : ℕ) (xs : List NameSet) (q : ℕ) : Type 0 where
     from : ℕ
     there : Contains (set_at sets i) from
-    way : List TreeEdge
+    way : List LabelledEdge
     leads : IsPath b from xs way q
 
   record Followed (i j : ℕ) (xs : List NameSet) : Type 0 where
     good : Good j
     back : (q : ℕ) → Contains (set_at sets j) q → Back i xs q
 
-  follow : AreLive b → (i j : ℕ) (xs : List NameSet) (es : List TreeEdge) → IsPath m i xs es j → Good i → Followed i j xs
+  follow : AreLive b → (i j : ℕ) (xs : List NameSet) (es : List LabelledEdge) → IsPath m i xs es j → Good i → Followed i j xs
   follow live i j [] [] path good = record {
     good = subst Good path good;
     back = λ q there. record { from = q; there = subst (λ k. Contains (set_at sets k) q) (sym path) there; way = []; leads = refl };
@@ -108,10 +108,10 @@ module _ (b m : Automaton) (sets : List (List ℕ)) (is : IsMonitorOf b m sets) 
   -- a path of m
   record Onward (i : ℕ) (xs : List NameSet) : Type 0 where
     stop : ℕ
-    way : List TreeEdge
+    way : List LabelledEdge
     leads : IsPath m i xs way stop
 
-  forth : (i p q : ℕ) (xs : List NameSet) (es : List TreeEdge) → i < length sets → Contains (set_at sets i) p → IsPath b p xs es q → Onward i xs
+  forth : (i p q : ℕ) (xs : List NameSet) (es : List LabelledEdge) → i < length sets → Contains (set_at sets i) p → IsPath b p xs es q → Onward i xs
   forth i p q [] [] below there path = record { stop = i; way = []; leads = refl }
   forth i p q [] (d ∷ ds) below there path = absurd path
   forth i p q (x ∷ xs) [] below there path = absurd path
@@ -123,7 +123,7 @@ module _ (b m : Automaton) (sets : List (List ℕ)) (is : IsMonitorOf b m sets) 
       let rest = forth one.edge.to d.to q xs ds move.below inside path.3 in
       record { stop = rest.stop; way = one.edge ∷ rest.way; leads = (sym one.from, one.there, one.allowed, rest.leads) }
 
-  stays : (i j : ℕ) (xs : List NameSet) (es : List TreeEdge) → IsPath m i xs es j → i < length sets → j < length sets
+  stays : (i j : ℕ) (xs : List NameSet) (es : List LabelledEdge) → IsPath m i xs es j → i < length sets → j < length sets
   stays i j [] [] path below = subst (λ k. k < length sets) path below
   stays i j [] (e ∷ es) path below = absurd path
   stays i j (x ∷ xs) [] path below = absurd path
@@ -162,7 +162,7 @@ module _ (b m : Automaton) (sets : List (List ℕ)) (is : IsMonitorOf b m sets) 
         leads = path_join m 0 halves.middle loop.state u (copies loop.before v) halves.front loop.way halves.first loop.leads;
         positive = loop.positive;
         returns = loop.returns;
-        meets = ap (met (map (λ (d : TreeEdge). d.marks) loop.cycle)) is.formula;
+        meets = ap (met (map (λ (d : LabelledEdge). d.marks) loop.cycle)) is.formula;
       }
 
 pub monitor_accepts : MonitorAccepts

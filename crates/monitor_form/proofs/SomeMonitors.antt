@@ -11,51 +11,51 @@ use Rattle.aut_ops.specs.Pruning.{IsPruned}
 use Rattle.degeneralise.specs.Buchi.{buchi, buchi_states}
 use Rattle.exploration.proofs.Causes.{met}
 use Rattle.exploration.proofs.Outcomes.{has_some_outcome}
-use Rattle.exploration.specs.Moves.{Fails}
-use Rattle.exploration.specs.Turns.{Comes, HasOutcome, Meets, begin, has_end, has_limit}
+use Rattle.exploration.specs.TransitionFunctions.{StepFailed}
+use Rattle.exploration.specs.Turns.{Comes, HasOutcome, LimitMet, begin, has_end, has_limit}
 use Rattle.exploration.specs.declared.fault.Fault.{Fault}
 use Rattle.exploration.specs.declared.fault.Fault.TheVariants as limit
 use Rattle.letter_classes.specs.SetClasses.{set_classes}
-use Rattle.monitor_form.specs.Subsets.{IsExploredFrom, IsMonitor, MeetsLimit, MonitorExists, goals, monitor_on, start_set, step_at, subset_rules, unless_empty}
+use Rattle.monitor_form.specs.Subsets.{IsExploredFrom, IsMonitorAutomaton, MeetsLimit, MonitorExists, successor_set, monitor_on, start_set, subset_step, subset_rules, unless_empty}
 
 numbers_same : (xs : List ℕ) → pointwise nat_eq xs xs ≡ true
 numbers_same xs = elim (cases_Bool (pointwise nat_eq xs xs)) [ inl is ↦ is | inr isnt ↦ absurd (other_text xs xs isnt refl) ]
 
 -- no step fails
-goals_go : (set : List ℕ) → unless_empty set ≡ Fails → ⊥
+goals_go : (set : List ℕ) → unless_empty set ≡ StepFailed → ⊥
 goals_go [] is = absurd cc
 goals_go (q ∷ qs) is = absurd cc
 
-step_goes : (b : Automaton) (set : List ℕ) (o : Option (List Bool)) → step_at b set o ≡ Fails → ⊥
+step_goes : (b : Automaton) (set : List ℕ) (o : Option (List Bool)) → subset_step b set o ≡ StepFailed → ⊥
 step_goes b set None is = absurd cc
-step_goes b set (Some v) is = goals_go (goals b set v) is
+step_goes b set (Some v) is = goals_go (successor_set b set v) is
 
-no_nodes : (b : Automaton) → Comes (subset_rules b) (begin (start_set b)) (Meets limit.Nodes) → ⊥
+no_nodes : (b : Automaton) → Comes (subset_rules b) (begin (start_set b)) (LimitMet limit.StepFailed) → ⊥
 no_nodes b comes =
-    let failure = met (subset_rules b) same_text numbers_same (start_set b) limit.Nodes comes in
-    step_goes b failure.thing (slice_get (set_classes b failure.thing) failure.class) failure.fails
+    let failure = met (subset_rules b) same_text numbers_same (start_set b) limit.StepFailed comes in
+    step_goes b failure.state (slice_get (set_classes b failure.state) failure.class) failure.fails
 
-module _ (a : Automaton) (few : buchi_states a ≤ MOST_BUCHI_STATES) (classes : MeetsLimit a limit.Classes → ⊥) (things : MeetsLimit a limit.Things → ⊥) where
+module _ (a : Automaton) (few : buchi_states a ≤ MOST_BUCHI_STATES) (classes : MeetsLimit a limit.Classes → ⊥) (states : MeetsLimit a limit.States → ⊥) where
   module _ (pruned : Automaton) (is : IsPruned (buchi a) pruned) where
-    meets_none : (f : Fault) → (f ≡ limit.Memory → ⊥) → 0 < length pruned.starts → Comes (subset_rules pruned) (begin (start_set pruned)) (Meets f) → ⊥
+    meets_none : (f : Fault) → (f ≡ limit.Memory → ⊥) → 0 < length pruned.starts → Comes (subset_rules pruned) (begin (start_set pruned)) (LimitMet f) → ⊥
     meets_none limit.Classes other some meets = classes (record { few = few; pruned = pruned; is_pruned = is; meets = record { some = some; meets = meets } })
-    meets_none limit.Things other some meets = things (record { few = few; pruned = pruned; is_pruned = is; meets = record { some = some; meets = meets } })
-    meets_none limit.Nodes other some meets = no_nodes pruned meets
+    meets_none limit.States other some meets = states (record { few = few; pruned = pruned; is_pruned = is; meets = record { some = some; meets = meets } })
+    meets_none limit.StepFailed other some meets = no_nodes pruned meets
     meets_none limit.Memory other some meets = other refl
 
-    has_form : ((made : Automaton) → IsMonitor a made → ⊥) → (ss : List ℕ) → pruned.starts ≡ ss → HasOutcome (subset_rules pruned) (start_set pruned) → ⊥
+    has_form : ((made : Automaton) → IsMonitorAutomaton a made → ⊥) → (ss : List ℕ) → pruned.starts ≡ ss → HasOutcome (subset_rules pruned) (start_set pruned) → ⊥
     has_form none [] starts outcome = none (monitor_on [] [] pruned) (record {
       pruned = pruned;
       is_pruned = is;
-      is = record { sets = []; arrows = []; explored = subst (λ ss. IsExploredFrom pruned ss [] []) (sym starts) (refl, refl); is = refl };
+      is = record { sets = []; transitions = []; explored = subst (λ ss. IsExploredFrom pruned ss [] []) (sym starts) (refl, refl); is = refl };
     })
-    has_form none (s ∷ ss) starts (has_end sets arrows ends) = none (monitor_on sets arrows pruned) (record {
+    has_form none (s ∷ ss) starts (has_end sets transitions ends) = none (monitor_on sets transitions pruned) (record {
       pruned = pruned;
       is_pruned = is;
-      is = record { sets = sets; arrows = arrows; explored = subst (λ ss. IsExploredFrom pruned ss sets arrows) (sym starts) ends; is = refl };
+      is = record { sets = sets; transitions = transitions; explored = subst (λ ss. IsExploredFrom pruned ss sets transitions) (sym starts) ends; is = refl };
     })
     has_form none (s ∷ ss) starts (has_limit f other meets) = meets_none f other (subst (λ (qs : List ℕ). 0 < length qs) (sym starts) (omega arith)) meets
 
 pub monitor_exists : MonitorExists
-monitor_exists a few classes things none = pruned_exists (buchi a) (λ pruned is.
-    has_form a few classes things pruned is none pruned.starts refl (has_some_outcome (List ℕ) (subset_rules pruned) (start_set pruned)))
+monitor_exists a few classes states none = pruned_exists (buchi a) (λ pruned is.
+    has_form a few classes states pruned is none pruned.starts refl (has_some_outcome (List ℕ) (subset_rules pruned) (start_set pruned)))

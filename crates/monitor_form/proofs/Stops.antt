@@ -2,7 +2,7 @@
 use Rattle.std.proofs.Common.{◌≡◌, ◌∙◌, ◌+◌, ◌-◌, ◌<◌, ◌≤◌, ℕ, zero, suc, List, [], ◌++◌, ap, arith, refl, subst, sym}
 use Rattle.aut_base.proofs.runs.Paths.{path_join, path_split}
 use Rattle.aut_base.specs.Acceptance.{IsPath}
-use Rattle.aut_base.specs.Automaton.{Automaton, TreeEdge}
+use Rattle.aut_base.specs.Automaton.{Automaton, LabelledEdge}
 use Rattle.aut_base.specs.Word.{NameSet, copies}
 use Rattle.aut_base.proofs.numbers.Pigeonhole.{pigeons}
 
@@ -12,11 +12,11 @@ first_then x f (suc i) = f i
 
 pub record Stops (a : Automaton) (v : List NameSet) (k p : ℕ) : Type 0 where
   pub at : ℕ → ℕ
-  pub way : ℕ → List TreeEdge
+  pub way : ℕ → List LabelledEdge
   pub first : at 0 ≡ p
   pub leg : (i : ℕ) → i < k → IsPath a (at i) v (way i) (at (suc i))
 
-pub stops : (a : Automaton) (v : List NameSet) (k p q : ℕ) (es : List TreeEdge) → IsPath a p (copies k v) es q → Stops a v k p
+pub stops : (a : Automaton) (v : List NameSet) (k p q : ℕ) (es : List LabelledEdge) → IsPath a p (copies k v) es q → Stops a v k p
 stops a v zero p q es path = record { at = λ i. p; way = λ i. []; first = refl; leg = λ i less. absurd (omega (arith, less)) }
 stops a v (suc k) p q es path =
     let parts = path_split a p q v (copies k v) es path in
@@ -28,13 +28,13 @@ stops a v (suc k) p q es path =
       leg = legs a v k p parts.front parts.middle parts.first rest;
     }
   where
-    legs : (a : Automaton) (v : List NameSet) (k p : ℕ) (front : List TreeEdge) (middle : ℕ) → IsPath a p v front middle → (rest : Stops a v k middle) → (i : ℕ) → i < suc k
+    legs : (a : Automaton) (v : List NameSet) (k p : ℕ) (front : List LabelledEdge) (middle : ℕ) → IsPath a p v front middle → (rest : Stops a v k middle) → (i : ℕ) → i < suc k
         → IsPath a (first_then p rest.at i) v (first_then front rest.way i) (first_then p rest.at (suc i))
     legs a v k p front middle path rest zero less = subst (λ r. IsPath a p v front r) (sym rest.first) path
     legs a v k p front middle path rest (suc i) less = rest.leg i (omega (arith, less))
 
 pub record Way (a : Automaton) (p : ℕ) (xs : List NameSet) (q : ℕ) : Type 0 where
-  pub way : List TreeEdge
+  pub way : List LabelledEdge
   pub leads : IsPath a p xs way q
 
 -- from one of these states to a later one
@@ -52,8 +52,8 @@ pub record Loop (a : Automaton) (v : List NameSet) (p : ℕ) : Type 0 where
   pub more : ℕ
   pub positive : 0 < more
   pub state : ℕ
-  pub way : List TreeEdge
-  pub cycle : List TreeEdge
+  pub way : List LabelledEdge
+  pub cycle : List LabelledEdge
   pub leads : IsPath a p (copies before v) way state
   pub returns : IsPath a state (copies more v) cycle state
 
@@ -77,9 +77,9 @@ loop_between a v k p s i d some within same =
 pub loop_of : (a : Automaton) (v : List NameSet) (n p : ℕ) (s : Stops a v n p) → ((i : ℕ) → i ≤ n → s.at i < n) → Loop a v p
 loop_of a v n p s below =
     let again = pigeons n s.at (suc n) (omega arith) (λ i within. below i (omega (arith, within))) in
-    by again.first again.second again.later again.within again.same
+    by_cases again.first again.second again.later again.within again.same
   where
-    by : (i j : ℕ) → i < j → j < suc n → s.at i ≡ s.at j → Loop a v p
-    by i j later within same =
+    by_cases : (i j : ℕ) → i < j → j < suc n → s.at i ≡ s.at j → Loop a v p
+    by_cases i j later within same =
         let e : j ≡ i + (j - i) = omega (arith, later) in
         loop_between a v n p s i (j - i) (omega (arith, later)) (omega (arith, later, within)) (same ∙ ap s.at e)

@@ -11,9 +11,9 @@ buchi_fault form.Terms = fault.Terms
 buchi_fault form.BuchiStates = fault.BuchiStates
 buchi_fault form.Memory = fault.Memory
 
--- of an exploration in which no step fails, so that there is nothing to say of `Nodes`
+-- of an exploration in which no step fails, so that there is nothing to say of `StepFailed`
 abbrev pub exploration_fault : Fault → MonFault
 exploration_fault limit.Classes = fault.Classes
-exploration_fault limit.Things = fault.Subsets
-exploration_fault limit.Nodes = fault.Memory
+exploration_fault limit.States = fault.Subsets
+exploration_fault limit.StepFailed = fault.Memory
 exploration_fault limit.Memory = fault.Memory

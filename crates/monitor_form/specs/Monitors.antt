@@ -2,7 +2,7 @@
 use Rattle.std.specs.Prelude.{◌≡◌, ◌↔◌, ℕ, ◌<◌, false, true, List, [], ◌∷◌, Contains, length, map}
 use Rattle.std.specs.List.{slice_index_or}
 use Rattle.aut_base.specs.Acceptance.{IsPath}
-use Rattle.aut_base.specs.Automaton.{Automaton, IsWellFormed, TreeEdge}
+use Rattle.aut_base.specs.Automaton.{Automaton, IsWellFormed, LabelledEdge}
 use Rattle.aut_base.specs.Formula.{FormulaTree, Inf, met}
 use Rattle.aut_base.specs.Label.{holds_at, truth}
 use Rattle.aut_base.specs.Word.{NameSet}
@@ -15,8 +15,8 @@ pub record IsLive (b : Automaton) (q : ℕ) : Type 0 where
   pub round : List NameSet
   pub some : 0 < length round
   pub state : ℕ
-  pub way : List TreeEdge
-  pub cycle : List TreeEdge
+  pub way : List LabelledEdge
+  pub cycle : List LabelledEdge
   pub leads : IsPath b q stem way state
   pub returns : IsPath b state round cycle state
   pub meets : met (map (λ e. e.marks) cycle) b.formula ≡ true
@@ -24,11 +24,11 @@ pub record IsLive (b : Automaton) (q : ℕ) : Type 0 where
 -- this is so of each start, and of each state that an edge leads to
 pub record AreLive (b : Automaton) : Type 0 where
   pub starts : (s : ℕ) → Contains b.starts s → IsLive b s
-  pub ends : (e : TreeEdge) → Contains b.edges e → IsLive b e.to
+  pub ends : (e : LabelledEdge) → Contains b.edges e → IsLive b e.to
 
 -- an edge leads from a state of the set to this one, and allows the letter
 pub record IsGoal (b : Automaton) (set : List ℕ) (x : NameSet) (q : ℕ) : Type 0 where
-  pub edge : TreeEdge
+  pub edge : LabelledEdge
   pub there : Contains b.edges edge
   pub from : Contains set edge.from
   pub allowed : truth (holds_at b.names x) edge.label ≡ true
@@ -47,7 +47,7 @@ pub record IsMove (b : Automaton) (sets : List (List ℕ)) (x : NameSet) (i j : 
 
 -- an edge from this place allows the letter
 pub record HasEdge (m : Automaton) (i : ℕ) (x : NameSet) : Type 0 where
-  pub edge : TreeEdge
+  pub edge : LabelledEdge
   pub there : Contains m.edges edge
   pub from : edge.from ≡ i
   pub allowed : truth (holds_at m.names x) edge.label ≡ true
@@ -59,16 +59,16 @@ first_places (s ∷ ss) = 0 ∷ []
 
 -- The states of m are the places of the list of sets, and its run is in the set of all states that b can be in. It is stuck
 -- where that set is empty.
-pub record IsMonitorOf (b m : Automaton) (sets : List (List ℕ)) : Type 0 where
+pub record TracksSubsets (b m : Automaton) (sets : List (List ℕ)) : Type 0 where
   pub starts : m.starts ≡ first_places b.starts
   pub first : (q : ℕ) → Contains (set_at sets 0) q ↔ Contains b.starts q
-  pub steps : (e : TreeEdge) (x : NameSet) → Contains m.edges e → truth (holds_at m.names x) e.label ≡ true → IsMove b sets x e.from e.to
+  pub steps : (e : LabelledEdge) (x : NameSet) → Contains m.edges e → truth (holds_at m.names x) e.label ≡ true → IsMove b sets x e.from e.to
   pub total : (i : ℕ) (x : NameSet) (q : ℕ) → i < length sets → IsGoal b (set_at sets i) x q → HasEdge m i x
   pub formula : m.formula ≡ FormulaTree.True
 
 -- Over an automaton whose states are live, such an automaton accepts the words of which no finite part is ruled out.
 abbrev pub MonitorAccepts : Type 0
-MonitorAccepts = (b m : Automaton) (sets : List (List ℕ)) → AreLive b → IsMonitorOf b m sets → AcceptsPrefixes m b
+MonitorAccepts = (b m : Automaton) (sets : List (List ℕ)) → AreLive b → TracksSubsets b m sets → AcceptsPrefixes m b
 
 -- Pruning leaves states that are live.
 abbrev pub PrunedAreLive : Type 0

@@ -47,13 +47,13 @@ impl From<BuchiFault> for MonFault {
 
 /// The limit that an exploration met in which no step fails.
 pub(crate) fn limit_met(fault: Fault) -> MonFault
-    requires { fault ≢ Fault.Nodes }
+    requires { fault ≢ Fault.StepFailed }
     ensures { result ≡ exploration_fault fault }
 {
     match fault {
         Fault::Classes => MonFault::Classes,
-        Fault::Things => MonFault::Subsets,
+        Fault::States => MonFault::Subsets,
         Fault::Memory => MonFault::Memory,
-        Fault::Nodes => unreachable!(),
+        Fault::StepFailed => unreachable!(),
     }
 }

@@ -4,16 +4,16 @@ ghost use Rattle.std.specs.Prelude.{◌≡◌, ◌<◌, ◌≤◌, ⊤, [], Err,
 ghost use Rattle.std.specs.Cmp.Lexicographic.{pointwise};
 ghost use Rattle.aut_base.specs.Formula.{FormulaTree};
 ghost use Rattle.aut_base.specs.declared.limit.TheConstants.{MOST_BUCHI_STATES, MOST_SUBSETS};
-ghost use Rattle.aut_core.specs.Core.{automaton_of};
+ghost use Rattle.aut_core.specs.SymbolicAutomata.{automaton_of};
 ghost use Rattle.aut_core.specs.Deterministic.{IsDeterministic};
 ghost use Rattle.degeneralise.specs.Buchi.{NeedsTooManyTerms, buchi_states};
-ghost use Rattle.exploration.specs.Explorations.{IsSound, arrow_of};
+ghost use Rattle.exploration.specs.Explorations.{IsSound, transition_of};
 ghost use Rattle.exploration.specs.Reached.{IsExplored};
 ghost use Rattle.exploration.specs.declared.fault.Fault.{Fault};
 ghost use Rattle.label_guards.specs.Store.{Keeps};
 ghost use Rattle.letter_classes.specs.SetClasses.{FitsStore, IsClassGuard};
 ghost use Rattle.monitor_form.specs.Prefixes.{AcceptsPrefixes};
-ghost use Rattle.monitor_form.specs.Subsets.{IsMonitor, IsSubsetForm, MeetsLimit, MeetsSubsetLimit, monitor_on, start_set, subset_moves};
+ghost use Rattle.monitor_form.specs.Subsets.{IsMonitorAutomaton, IsSubsetForm, MeetsLimit, MeetsSubsetLimit, monitor_on, start_set, subset_moves};
 ghost use Rattle.monitor_form.specs.declared.fault.MonFault.{MonFault};
 
 use crate::fault::{MonFault, limit_met};
@@ -38,7 +38,7 @@ use std::alloc::Global;
 /// `aut_base::MOST_SUBSETS` are listed, whichever is met first.
 pub fn monitor(alloc: Global, a: &Automaton) -> Result<Automaton, MonFault>
     ensures accepts { IfOk result (λ made. AcceptsPrefixes (automaton_of made) (automaton_of a.now)) }
-    ensures shape { IfOk result (λ made. IsMonitor (automaton_of a.now) (automaton_of made)) }
+    ensures shape { IfOk result (λ made. IsMonitorAutomaton (automaton_of a.now) (automaton_of made)) }
     ensures deterministic { IfOk result (λ made. IsDeterministic (automaton_of made)) }
     ensures names { IfOk result (λ made. made.names ≡ a.now.names) }
     ensures sets { IfOk result (λ made. made.sets ≡ 0) }
@@ -50,12 +50,12 @@ pub fn monitor(alloc: Global, a: &Automaton) -> Result<Automaton, MonFault>
     ensures only_states { result ≡ Err MonFault.BuchiStates → MOST_BUCHI_STATES < buchi_states (automaton_of a.now) }
     ensures within { OnOk result ((f : Fault) → MeetsLimit (automaton_of a.now) f → ⊥) }
     ensures only_classes { result ≡ Err MonFault.Classes → MeetsLimit (automaton_of a.now) Fault.Classes }
-    ensures only_subsets { result ≡ Err MonFault.Subsets → MeetsLimit (automaton_of a.now) Fault.Things }
+    ensures only_subsets { result ≡ Err MonFault.Subsets → MeetsLimit (automaton_of a.now) Fault.States }
 {
     let buchi = to_buchi(alloc, a)?;
-    buchi.whole();
+    buchi.well_formed();
     let pruned = prune(alloc, &buchi)?;
-    pruned.whole();
+    pruned.well_formed();
     subset_form(alloc, &pruned)
 }
 
@@ -64,11 +64,11 @@ fn subset_form(alloc: Global, b: &Automaton) -> Result<Automaton, MonFault>
     ensures shape { IfOk result (λ made. IsSubsetForm (automaton_of b.now) (automaton_of made)) }
     ensures states { IfOk result (λ made. made.states ≤ MOST_SUBSETS) }
     ensures classes { result ≡ Err MonFault.Classes → MeetsSubsetLimit (automaton_of b.now) Fault.Classes }
-    ensures subsets { result ≡ Err MonFault.Subsets → MeetsSubsetLimit (automaton_of b.now) Fault.Things }
+    ensures subsets { result ≡ Err MonFault.Subsets → MeetsSubsetLimit (automaton_of b.now) Fault.States }
     ensures terms { result ≡ Err MonFault.Terms → ⊥ }
     ensures buchi_states { result ≡ Err MonFault.BuchiStates → ⊥ }
 {
-    b.whole();
+    b.well_formed();
     if b.starts().is_empty() {
         return Ok(without_states(alloc, b)?);
     }
@@ -79,7 +79,7 @@ fn subset_form(alloc: Global, b: &Automaton) -> Result<Automaton, MonFault>
         guards: store,
     };
     let limits = Limits {
-        things: MOST_SUBSETS,
+        states: MOST_SUBSETS,
         classes: MOST_CLASSES,
     };
     match explore(alloc, &mut system, start, limits) {
@@ -93,7 +93,7 @@ fn without_states(alloc: Global, b: &Automaton) -> Result<Automaton, Memory>
     requires { length b.now.starts ≡ 0 }
     ensures { IfOk result (λ made. automaton_of made ≡ monitor_on [] [] (automaton_of b.now)) }
 {
-    b.whole();
+    b.well_formed();
     Automaton::from_parts(
         alloc,
         copy_names(b.names())?,
@@ -115,11 +115,11 @@ fn built(
 ) -> Result<Automaton, Memory>
     requires some { 0 < length b.now.starts }
     requires keeps { Keeps b.now.store guards }
-    requires explored { IsExplored (pointwise nat_eq) (subset_moves (automaton_of b.now)) (start_set (automaton_of b.now)) found.now.things.keys (map arrow_of found.now.edges.items) }
-    requires sound { IsSound (FitsStore b.now guards) (IsClassGuard b.now guards) (λ _ _ _. ⊤) MOST_SUBSETS found.now.things.keys found.now.edges.items }
-    ensures { IfOk result (λ made. automaton_of made ≡ monitor_on found.now.things.keys (map arrow_of found.now.edges.items) (automaton_of b.now)) }
+    requires explored { IsExplored (pointwise nat_eq) (subset_moves (automaton_of b.now)) (start_set (automaton_of b.now)) found.now.states.keys (map transition_of found.now.edges.items) }
+    requires sound { IsSound (FitsStore b.now guards) (IsClassGuard b.now guards) (λ _ _ _. ⊤) MOST_SUBSETS found.now.states.keys found.now.edges.items }
+    ensures { IfOk result (λ made. automaton_of made ≡ monitor_on found.now.states.keys (map transition_of found.now.edges.items) (automaton_of b.now)) }
 {
-    b.whole();
+    b.well_formed();
     class_form(alloc, b, guards, found, &WithoutMarks, 0, Formula::True)
 }
 
@@ -129,13 +129,13 @@ struct WithoutMarks;
 impl Marking for WithoutMarks {
     ghost use Rattle.std.specs.Prelude.{[], ⊤};
 
-    type Note = ();
+    type Output = ();
 
     ghost fits = { λ _ _. ⊤ };
 
     ghost marked = { λ _ _. [] };
 
-    fn marks(&self, alloc: Global, _note: ()) -> Result<Marks, Memory> {
+    fn marks(&self, alloc: Global, _output: ()) -> Result<Marks, Memory> {
         Ok(Marks::new(alloc))
     }
 }

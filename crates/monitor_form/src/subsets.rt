@@ -5,7 +5,7 @@ ghost use Rattle.std.specs.Prelude.{◌≡◌};
 use crate::goals::goals;
 use aut_base::{Memory, Numbers};
 use aut_core::Automaton;
-use exploration::{StepFault, System};
+use exploration::{StepFault, TransitionSystem};
 use label_guards::Guard;
 use letter_classes::{ClassStore, classes_of_set};
 use std::alloc::Global;
@@ -18,18 +18,18 @@ pub(crate) struct Subsets<'a> {
     pub(crate) guards: ClassStore,
 }
 
-impl<'a> System for Subsets<'a> {
+impl<'a> TransitionSystem for Subsets<'a> {
     ghost use Rattle.std.specs.Prelude.{ℕ, List, nat_eq, ⊤};
     ghost use Rattle.std.specs.Cmp.Lexicographic.{bytes_decides, pointwise};
-    ghost use Rattle.aut_core.specs.Core.{Core, automaton_of};
+    ghost use Rattle.aut_core.specs.SymbolicAutomata.{SymbolicAutomaton, automaton_of};
     ghost use Rattle.letter_classes.specs.SetClasses.{FitsStore, IsClassGuard};
     ghost use Rattle.monitor_form.specs.Subsets.{subset_moves};
 
-    type Thing = Numbers;
+    type State = Numbers;
 
     type Class = Guard;
 
-    type Note = ();
+    type Output = ();
 
     ghost Seen = { List ℕ };
 
@@ -37,7 +37,7 @@ impl<'a> System for Subsets<'a> {
 
     ghost same = { pointwise nat_eq };
 
-    ghost Frame = { Core };
+    ghost Frame = { SymbolicAutomaton };
 
     ghost frame = { λ s. s.automaton.now };
 
@@ -47,7 +47,7 @@ impl<'a> System for Subsets<'a> {
 
     ghost is_class = { λ s set k g. IsClassGuard s.automaton.now s.guards set k g };
 
-    ghost is_note = { λ _ _ _ _. ⊤ };
+    ghost is_output = { λ _ _ _ _. ⊤ };
 
     ghost tells = { bytes_decides };
 
@@ -56,14 +56,14 @@ impl<'a> System for Subsets<'a> {
     fn classes(
         &mut self,
         alloc: Global,
-        thing: &Numbers,
+        state: &Numbers,
         most: u32,
     ) -> Result<Option<Vec<Guard>>, Memory> {
         classes_of_set(
             alloc,
             self.automaton,
             &mut self.guards,
-            thing.as_slice(),
+            state.as_slice(),
             most,
         )
     }
@@ -71,15 +71,15 @@ impl<'a> System for Subsets<'a> {
     fn step(
         &mut self,
         alloc: Global,
-        thing: &Numbers,
+        state: &Numbers,
         _number: u32,
         class: Guard,
     ) -> Result<Option<(Numbers, ())>, StepFault> {
-        self.automaton.whole();
+        self.automaton.well_formed();
         let Some(number) = self.guards.guards().meeting(class) else {
             unreachable!()
         };
-        let goals = goals(alloc, self.automaton, thing.as_slice(), number)?;
+        let goals = goals(alloc, self.automaton, state.as_slice(), number)?;
         if goals.is_empty() {
             return Ok(None);
         }

@@ -4,8 +4,8 @@ use Rattle.std.proofs.lemmas.Option.{get_or_from_slice_get, slice_get_within}
 use Rattle.acc_forms.specs.Parity.{parity_min_odd}
 use Rattle.aut_base.proofs.lists.Members.{each_there}
 use Rattle.aut_base.specs.declared.limit.TheConstants.{MOST_NODES, MOST_TREES}
-use Rattle.aut_core.specs.Core.{AreParts, Core, IsCore, automaton_of}
-use Rattle.exploration.specs.Explorations.{IsClassed, IsSound, arrow_of}
+use Rattle.aut_core.specs.SymbolicAutomata.{AreSymbolicParts, SymbolicAutomaton, IsWellFormedSymbolic, automaton_of}
+use Rattle.exploration.specs.Explorations.{IsClassed, IsSound, transition_of}
 use Rattle.exploration.specs.Reached.{IsExplored}
 use Rattle.exploration.specs.declared.exploration.Edge.{Edge}
 use Rattle.label_guards.specs.Store.{Keeps, Store}
@@ -26,8 +26,8 @@ use Rattle.safra_trees.specs.Step.{IsTree}
 use Rattle.safra_trees.specs.Trees.{Node, root_states}
 use Rattle.safra_trees.specs.declared.event.Event.{Event}
 
-module _ (b : Core) (core : IsCore b) (s : Store) (keeps : Keeps b.store s) (trees : List (List Node)) (edges : List (Edge Guard Event))
-    (is : IsExplored same_nodes (tree_moves (automaton_of b)) (start_tree (automaton_of b)) trees (map arrow_of edges))
+module _ (b : SymbolicAutomaton) (core : IsWellFormedSymbolic b) (s : Store) (keeps : Keeps b.store s) (trees : List (List Node)) (edges : List (Edge Guard Event))
+    (is : IsExplored same_nodes (tree_moves (automaton_of b)) (start_tree (automaton_of b)) trees (map transition_of edges))
     (sound : IsSound (λ t. FitsStore b s (root_states t)) (λ t k g. IsClassGuard b s (root_states t) k g) (λ t k event. IsClassEvent b t k event) MOST_TREES trees edges) where
   abbrev most : ℕ
   most = width trees
@@ -38,7 +38,7 @@ module _ (b : Core) (core : IsCore b) (s : Store) (keeps : Keeps b.store s) (tre
   abbrev marks : Event → List ℕ
   marks event = mark_of most event ∷ []
 
-  abbrev pub made : Core
+  abbrev pub made : SymbolicAutomaton
   made = form_of b s (length trees) (map (link_of marks) edges) sets (parity_min_odd sets)
 
   abbrev Told : List Node → ℕ → Event → Type 0
@@ -51,22 +51,22 @@ module _ (b : Core) (core : IsCore b) (s : Store) (keeps : Keeps b.store s) (tre
   found = classed root_states Told b core s keeps same_nodes (tree_moves (automaton_of b)) (start_tree (automaton_of b)) MOST_TREES trees edges is sound
 
   -- the mark of an edge is the priority of its step
-  mark_is : (e : Edge Guard Event) → (c : IsFound e) → mark_of most e.note ≡ priority b.states most (class_moves (automaton_of b) c.thing c.class.valuation) c.thing
+  mark_is : (e : Edge Guard Event) → (c : IsFound e) → mark_of most e.output ≡ priority b.states most (class_moves (automaton_of b) c.state c.class.valuation) c.state
   mark_is e c =
-      let t = c.thing in
+      let t = c.state in
       let here : tree_at trees e.from ≡ t = get_or_from_slice_get trees e.from t [] c.at in
       let inside = slice_get_within trees e.from t c.at in
-      let tree = subst IsTree here (is_tree (automaton_of b) trees (map arrow_of edges) is e.from inside) in
+      let tree = subst IsTree here (is_tree (automaton_of b) trees (map transition_of edges) is e.from inside) in
       let few : length t ≤ most = subst (λ (u : List Node). length u ≤ most) here (within_width trees e.from inside) in
-      ap (mark_of most) (c.note c.class.valuation c.class.at) ∙ sym (priority_by_first b.states most (class_moves (automaton_of b) t c.class.valuation) t tree few)
+      ap (mark_of most) (c.output c.class.valuation c.class.at) ∙ sym (priority_by_first b.states most (class_moves (automaton_of b) t c.class.valuation) t tree few)
 
-  mark_below : (e : Edge Guard Event) → Contains edges e → mark_of most e.note < sets
+  mark_below : (e : Edge Guard Event) → Contains edges e → mark_of most e.output < sets
   mark_below e there =
       let c = found e there in
-      let low = priorities_are_below b.states most (class_moves (automaton_of b) c.thing c.class.valuation) c.thing in
+      let low = priorities_are_below b.states most (class_moves (automaton_of b) c.state c.class.valuation) c.state in
       omega (arith, low, mark_is e c)
 
-  pub is_made : automaton_of made ≡ parity_on trees (map arrow_of edges) (automaton_of b)
+  pub is_made : automaton_of made ≡ parity_on trees (map transition_of edges) (automaton_of b)
   is_made = λ j. record {
     names = b.names;
     starts = 0 ∷ [];
@@ -77,20 +77,20 @@ module _ (b : Core) (core : IsCore b) (s : Store) (keeps : Keeps b.store s) (tre
     formula = parity_min_odd sets;
   }
 
-  pub are_parts : AreParts made
+  pub are_parts : AreSymbolicParts made
   are_parts = parts_are root_states Told b core s keeps same_nodes (tree_moves (automaton_of b)) (start_tree (automaton_of b)) MOST_TREES trees edges is sound
-      marks sets (parity_min_odd sets) (λ e there. only (mark_of most e.note) (mark_below e there)) (parity_below sets (omega arith))
+      marks sets (parity_min_odd sets) (λ e there. only (mark_of most e.output) (mark_below e there)) (parity_below sets (omega arith))
     where
       only : (mark : ℕ) → mark < sets → All (λ m. m < sets) (mark ∷ [])
       only mark low zero d within = low
       only mark low (suc k) d within = absurd (omega (arith, within))
 
   pub few_sets : most ≤ MOST_NODES
-  few_sets = few_nodes (automaton_of b) trees (map arrow_of edges) is
+  few_sets = few_nodes (automaton_of b) trees (map transition_of edges) is
 
   -- the same in figures
   pub few_found : most ≤ 100
   few_found = few_sets
 
-  pub marks_fit : All (λ e. mark_of most e.note < 2 ^ 32) edges
-  marks_fit = each_there (λ e. mark_of most e.note < 2 ^ 32) edges (λ e there. (let low = mark_below e there in omega (arith, low, few_found)))
+  pub marks_fit : All (λ e. mark_of most e.output < 2 ^ 32) edges
+  marks_fit = each_there (λ e. mark_of most e.output < 2 ^ 32) edges (λ e there. (let low = mark_below e there in omega (arith, low, few_found)))

@@ -7,15 +7,15 @@ use Rattle.aut_core.specs.OtherNames.{AcceptTheSame}
 use Rattle.aut_ops.proofs.flagged.FlagLaws.{pruned_is_determined}
 use Rattle.aut_ops.specs.Pruning.{IsPruned}
 use Rattle.degeneralise.specs.Buchi.{NeedsTooManyTerms, buchi, buchi_states}
-use Rattle.exploration.proofs.Ends.{ends_or_meets, has_one_ending, has_one_outcome}
-use Rattle.exploration.specs.Turns.{Ends, Goes, Meets, Turn, begin}
+use Rattle.exploration.proofs.Finished.{ends_or_meets, has_one_ending, has_one_outcome}
+use Rattle.exploration.specs.Turns.{Finished, Running, LimitMet, Turn, begin}
 use Rattle.exploration.specs.declared.fault.Fault.{Fault}
 use Rattle.exploration.specs.declared.fault.Fault.TheVariants as limit
 use Rattle.parity_det.proofs.FewNodes.{pruned_widths}
 use Rattle.parity_det.proofs.Formed.{explored_trees, is_determinised, is_parity}
 use Rattle.parity_det.proofs.Widths.{wide}
 use Rattle.parity_det.specs.Complements.{ComplementIsDetermined, IsDeterministicForm, IsWithinParity, ParityExcludesLimits, PassesParity, by_completion, by_determinisation}
-use Rattle.parity_det.specs.Determinisation.{DeterminisationIsDetermined, IsDeterminisation, IsParityOf, IsTreeForm, MeetsParityLimit, MeetsTreeLimit, ParityIsDetermined, parity_on}
+use Rattle.parity_det.specs.Determinisation.{DeterminisationIsDetermined, IsDeterminisation, IsParityAutomatonOf, IsTreeForm, MeetsParityLimit, MeetsTreeLimit, ParityIsDetermined, parity_on}
 use Rattle.parity_det.specs.Determinisation.{start_tree, tree_rules, width}
 use Rattle.parity_det.specs.Promises.{HasFewSets, IsParityMinOdd, ParityHasFewSets}
 use Rattle.parity_det.specs.inner.Systems.{MeetsFirst}
@@ -30,11 +30,11 @@ use Rattle.safra_trees.specs.Trees.{Node}
 
 pub form_accepts : (b made : Automaton) → IsWellFormed b → b.formula ≡ Inf 0 false → IsTreeForm b made → AcceptTheSame made b
 form_accepts b made formed formula form = subst (λ d. AcceptTheSame d b) (sym form.is)
-    (accepts_the_same b (parity_on form.trees form.arrows b) form.trees (width form.trees) (well_formed_is_buchi b formed formula)
-    (is_determinised b form.trees form.arrows (explored_trees b form.trees form.arrows form.explored)))
+    (accepts_the_same b (parity_on form.trees form.transitions b) form.trees (width form.trees) (well_formed_is_buchi b formed formula)
+    (is_determinised b form.trees form.transitions (explored_trees b form.trees form.transitions form.explored)))
 
 pub form_parity : (b made : Automaton) → IsTreeForm b made → IsParityMinOdd made
-form_parity b made form = subst IsParityMinOdd (sym form.is) (is_parity b form.trees form.arrows (explored_trees b form.trees form.arrows form.explored))
+form_parity b made form = subst IsParityMinOdd (sym form.is) (is_parity b form.trees form.transitions (explored_trees b form.trees form.transitions form.explored))
 
 pub same_through : (a b c : Automaton) → AcceptTheSame a b → AcceptTheSame b c → AcceptTheSame a c
 same_through a b c first second u v = (λ x. (second u v).0 ((first u v).0 x), λ x. (first u v).1 ((second u v).1 x))
@@ -49,7 +49,7 @@ form_few a b made is form = record {
   half = width form.trees;
   some = omega (arith, wide form.trees);
   sets = ap (λ (x : Automaton). x.sets) form.is;
-  few = pruned_widths a b is form.trees form.arrows (explored_trees b form.trees form.arrows form.explored);
+  few = pruned_widths a b is form.trees form.transitions (explored_trees b form.trees form.transitions form.explored);
 }
 
 pub parity_has_few_sets : ParityHasFewSets
@@ -59,7 +59,7 @@ parity_has_few_sets a made m = (form_parity m.pruned made m.is, form_few (buchi 
 
 forms_same : (b made other : Automaton) → IsTreeForm b made → IsTreeForm b other → made ≡ other
 forms_same b made other f g =
-    let one = has_one_ending (List Node) (tree_rules b) (start_tree b) f.trees g.trees f.arrows g.arrows f.explored g.explored in
+    let one = has_one_ending (List Node) (tree_rules b) (start_tree b) f.trees g.trees f.transitions g.transitions f.explored g.explored in
     f.is ∙ ((λ i. parity_on (one.0 i) (one.1 i) b) ∙ sym g.is)
 
 determinisations_same : (a made other : Automaton) → IsDeterminisation a made → IsDeterminisation a other → made ≡ other
@@ -82,7 +82,7 @@ complement_is_determined a made other m o = m.is ∙ (ap dualised (deterministic
 -- ---- limits
 
 form_excludes : (b made : Automaton) (f : Fault) → IsTreeForm b made → MeetsFirst b f → ⊥
-form_excludes b made f form meets = ends_or_meets (List Node) (tree_rules b) (start_tree b) form.trees form.arrows f form.explored meets
+form_excludes b made f form meets = ends_or_meets (List Node) (tree_rules b) (start_tree b) form.trees form.transitions f form.explored meets
 
 pub determinisation_excludes : (a made : Automaton) (f : Fault) → IsDeterminisation a made → MeetsTreeLimit a f → ⊥
 determinisation_excludes a made f m meets =
@@ -90,14 +90,14 @@ determinisation_excludes a made f m meets =
     form_excludes m.pruned made f m.is (subst (λ b. MeetsFirst b f) same meets.meets)
 
 abbrev limit_of : Fault → Turn (List Node) → Fault
-limit_of d (Goes s) = d
-limit_of d (Ends s) = d
-limit_of d (Meets f) = f
+limit_of d (Running s) = d
+limit_of d (Finished s) = d
+limit_of d (LimitMet f) = f
 
 limits_same : (a : Automaton) (f g : Fault) → MeetsTreeLimit a f → MeetsTreeLimit a g → f ≡ g
 limits_same a f g x y =
     let same : y.pruned ≡ x.pruned = pruned_is_determined a y.pruned x.pruned y.is_pruned x.is_pruned in
-    let e = has_one_outcome (List Node) (tree_rules x.pruned) (begin (start_tree x.pruned)) (Meets f) (Meets g) tt tt x.meets (subst (λ b. MeetsFirst b g) same y.meets) in
+    let e = has_one_outcome (List Node) (tree_rules x.pruned) (begin (start_tree x.pruned)) (LimitMet f) (LimitMet g) tt tt x.meets (subst (λ b. MeetsFirst b g) same y.meets) in
     ap (limit_of f) e
 
 pub determinisation_is_determined : DeterminisationIsDetermined
@@ -110,12 +110,12 @@ determinisation_is_determined b = record {
 within_parity : (a : Automaton) → buchi_states a ≤ MOST_BUCHI_STATES → (NeedsTooManyTerms a.formula → ⊥) → ((f : Fault) → MeetsParityLimit a f → ⊥) → IsWithinParity a
 within_parity a few terms none fault.Terms p = terms p
 within_parity a few terms none fault.BuchiStates p = (let many = p.1 in omega (arith, few, many))
-within_parity a few terms none fault.Trees p = none limit.Things p.1
-within_parity a few terms none fault.Nodes p = none limit.Nodes p.1
+within_parity a few terms none fault.Trees p = none limit.States p.1
+within_parity a few terms none fault.Nodes p = none limit.StepFailed p.1
 within_parity a few terms none fault.Classes p = none limit.Classes p.1
 within_parity a few terms none fault.Memory p = p
 
-pub made_within : (a made : Automaton) → IsParityOf a made → buchi_states a ≤ MOST_BUCHI_STATES → (NeedsTooManyTerms a.formula → ⊥) → IsWithinParity a
+pub made_within : (a made : Automaton) → IsParityAutomatonOf a made → buchi_states a ≤ MOST_BUCHI_STATES → (NeedsTooManyTerms a.formula → ⊥) → IsWithinParity a
 made_within a made m few terms = within_parity a few terms (λ f meets. determinisation_excludes (buchi a) made f m meets.meets)
 
 one_meets : (a : Automaton) (f g : Fault) → MeetsParityLimit a f → MeetsParityLimit a g → f ≡ g
@@ -132,23 +132,23 @@ one_passes a fault.Terms fault.Nodes p q = absurd (q.0 p)
 one_passes a fault.Terms fault.Classes p q = absurd (q.0 p)
 one_passes a fault.BuchiStates fault.Terms p q = absurd (p.0 q)
 one_passes a fault.BuchiStates fault.BuchiStates p q = refl
-one_passes a fault.BuchiStates fault.Trees p q = few_many a limit.Things q.1 p.1
-one_passes a fault.BuchiStates fault.Nodes p q = few_many a limit.Nodes q.1 p.1
+one_passes a fault.BuchiStates fault.Trees p q = few_many a limit.States q.1 p.1
+one_passes a fault.BuchiStates fault.Nodes p q = few_many a limit.StepFailed q.1 p.1
 one_passes a fault.BuchiStates fault.Classes p q = few_many a limit.Classes q.1 p.1
 one_passes a fault.Trees fault.Terms p q = absurd (p.0 q)
-one_passes a fault.Trees fault.BuchiStates p q = few_many a limit.Things p.1 q.1
+one_passes a fault.Trees fault.BuchiStates p q = few_many a limit.States p.1 q.1
 one_passes a fault.Trees fault.Trees p q = refl
-one_passes a fault.Trees fault.Nodes p q = (let e = one_meets a limit.Things limit.Nodes p.1 q.1 in absurd cc)
-one_passes a fault.Trees fault.Classes p q = (let e = one_meets a limit.Things limit.Classes p.1 q.1 in absurd cc)
+one_passes a fault.Trees fault.Nodes p q = (let e = one_meets a limit.States limit.StepFailed p.1 q.1 in absurd cc)
+one_passes a fault.Trees fault.Classes p q = (let e = one_meets a limit.States limit.Classes p.1 q.1 in absurd cc)
 one_passes a fault.Nodes fault.Terms p q = absurd (p.0 q)
-one_passes a fault.Nodes fault.BuchiStates p q = few_many a limit.Nodes p.1 q.1
-one_passes a fault.Nodes fault.Trees p q = (let e = one_meets a limit.Nodes limit.Things p.1 q.1 in absurd cc)
+one_passes a fault.Nodes fault.BuchiStates p q = few_many a limit.StepFailed p.1 q.1
+one_passes a fault.Nodes fault.Trees p q = (let e = one_meets a limit.StepFailed limit.States p.1 q.1 in absurd cc)
 one_passes a fault.Nodes fault.Nodes p q = refl
-one_passes a fault.Nodes fault.Classes p q = (let e = one_meets a limit.Nodes limit.Classes p.1 q.1 in absurd cc)
+one_passes a fault.Nodes fault.Classes p q = (let e = one_meets a limit.StepFailed limit.Classes p.1 q.1 in absurd cc)
 one_passes a fault.Classes fault.Terms p q = absurd (p.0 q)
 one_passes a fault.Classes fault.BuchiStates p q = few_many a limit.Classes p.1 q.1
-one_passes a fault.Classes fault.Trees p q = (let e = one_meets a limit.Classes limit.Things p.1 q.1 in absurd cc)
-one_passes a fault.Classes fault.Nodes p q = (let e = one_meets a limit.Classes limit.Nodes p.1 q.1 in absurd cc)
+one_passes a fault.Classes fault.Trees p q = (let e = one_meets a limit.Classes limit.States p.1 q.1 in absurd cc)
+one_passes a fault.Classes fault.Nodes p q = (let e = one_meets a limit.Classes limit.StepFailed p.1 q.1 in absurd cc)
 one_passes a fault.Classes fault.Classes p q = refl
 one_passes a fault.Memory g p q = absurd p
 one_passes a f fault.Memory p q = absurd q

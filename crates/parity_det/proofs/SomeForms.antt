@@ -13,7 +13,7 @@ use Rattle.exploration.specs.Turns.{HasOutcome, has_end, has_limit}
 use Rattle.exploration.specs.declared.fault.Fault.{Fault}
 use Rattle.exploration.specs.declared.fault.Fault.TheVariants as limit
 use Rattle.parity_det.specs.Complements.{ComplementExists, IsWithinParity, ParityExists, by_completion, by_determinisation}
-use Rattle.parity_det.specs.Determinisation.{IsParityOf, MeetsTreeLimit, parity_on, start_tree, tree_rules}
+use Rattle.parity_det.specs.Determinisation.{IsParityAutomatonOf, MeetsTreeLimit, parity_on, start_tree, tree_rules}
 use Rattle.parity_det.specs.declared.fault.CompFault.TheVariants as fault
 use Rattle.parity_laws.specs.Complement.{dualised}
 use Rattle.safra_trees.specs.Trees.{Node}
@@ -27,13 +27,13 @@ module _ (a : Automaton) (within : IsWithinParity a) where
 
   meets_none : (f : Fault) → (f ≡ limit.Memory → ⊥) → MeetsTreeLimit (buchi a) f → ⊥
   meets_none limit.Classes other meets = within fault.Classes (within fault.Terms, record { few = few_states; meets = meets })
-  meets_none limit.Nodes other meets = within fault.Nodes (within fault.Terms, record { few = few_states; meets = meets })
-  meets_none limit.Things other meets = within fault.Trees (within fault.Terms, record { few = few_states; meets = meets })
+  meets_none limit.StepFailed other meets = within fault.Nodes (within fault.Terms, record { few = few_states; meets = meets })
+  meets_none limit.States other meets = within fault.Trees (within fault.Terms, record { few = few_states; meets = meets })
   meets_none limit.Memory other meets = other refl
 
-  pruned_has_form : ((made : Automaton) → IsParityOf a made → ⊥) → (pruned : Automaton) → IsPruned (buchi a) pruned → HasOutcome (tree_rules pruned) (start_tree pruned) → ⊥
-  pruned_has_form none pruned is (has_end trees arrows ends) =
-      none (parity_on trees arrows pruned) (record { pruned = pruned; is_pruned = is; is = record { trees = trees; arrows = arrows; explored = ends; is = refl } })
+  pruned_has_form : ((made : Automaton) → IsParityAutomatonOf a made → ⊥) → (pruned : Automaton) → IsPruned (buchi a) pruned → HasOutcome (tree_rules pruned) (start_tree pruned) → ⊥
+  pruned_has_form none pruned is (has_end trees transitions ends) =
+      none (parity_on trees transitions pruned) (record { pruned = pruned; is_pruned = is; is = record { trees = trees; transitions = transitions; explored = ends; is = refl } })
   pruned_has_form none pruned is (has_limit f other meets) = meets_none f other (record { pruned = pruned; is_pruned = is; meets = meets })
 
 pub parity_exists : ParityExists

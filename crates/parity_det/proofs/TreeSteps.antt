@@ -4,9 +4,9 @@ use Rattle.std.proofs.lemmas.Option.{same_Some}
 use Rattle.aut_base.specs.Automaton.{Automaton}
 use Rattle.aut_base.specs.Valuation.{truth_on}
 use Rattle.aut_base.specs.declared.limit.TheConstants.{MOST_NODES}
-use Rattle.aut_core.specs.Core.{Core, IsCore, automaton_of}
-use Rattle.exploration.specs.Moves as same
-use Rattle.exploration.specs.Moves.{Fails, Gives, IsStep, Move}
+use Rattle.aut_core.specs.SymbolicAutomata.{SymbolicAutomaton, IsWellFormedSymbolic, automaton_of}
+use Rattle.exploration.specs.TransitionFunctions as same
+use Rattle.exploration.specs.TransitionFunctions.{StepFailed, Successor, IsStepAnswer, StepOutcome}
 use Rattle.exploration.specs.declared.fault.StepFault.{StepFault}
 use Rattle.label_guards.specs.Leasts.{bits_of}
 use Rattle.label_guards.specs.Store.{Keeps, Store, label_in}
@@ -14,7 +14,7 @@ use Rattle.label_guards.specs.declared.guard.Guard.{Guard}
 use Rattle.letter_classes.proofs.ClassGuards.{class_kept, fits_kept, number_edges}
 use Rattle.letter_classes.specs.SetClasses.{FitsStore, IsClassGuard, set_edges}
 use Rattle.parity_det.proofs.Explored.{large_fails, small_given}
-use Rattle.parity_det.specs.Determinisation.{class_moves, step_at, tree_classes, tree_moves, unless_large}
+use Rattle.parity_det.specs.Determinisation.{class_moves, tree_step_at, tree_classes, tree_moves, unless_large}
 use Rattle.parity_det.specs.Faults.{step_fault}
 use Rattle.letter_classes.specs.Taken.{reads_at}
 use Rattle.parity_det.specs.inner.Systems.{IsClassEvent, moves_of}
@@ -29,7 +29,7 @@ use Rattle.safra_trees.specs.declared.fault.TreeFault.TheVariants as tree
 use Rattle.safra_trees.specs.declared.moves.Move as moves
 
 -- The moves at a valuation that meets the guard of the class, of a set that is the root's states, are those of the class.
-pub class_taken : (c : Core) → IsCore c → (s : Store) (t : List Node) (k : ℕ) (g : Guard) → FitsStore c s (root_states t) → (is : IsClassGuard c s (root_states t) k g)
+pub class_taken : (c : SymbolicAutomaton) → IsWellFormedSymbolic c → (s : Store) (t : List Node) (k : ℕ) (g : Guard) → FitsStore c s (root_states t) → (is : IsClassGuard c s (root_states t) k g)
     → (set : List ℕ) → set ≡ root_states t → (number : ℕ) → truth_on (label_in s g) (bits_of s.names number) ≡ true
     → (taken : List moves.Move) → taken ≡ moves_of (reads_at c number) (set_edges (automaton_of c) set) → taken ≡ class_moves (automaton_of c) t is.valuation
 class_taken c core s t k g fits is set root number meets taken e =
@@ -37,26 +37,26 @@ class_taken c core s t k g fits is set root number meets taken e =
     ∙ ap (map move_of) (number_edges c core s (root_states t) k g fits is c.store.names number refl meets))
 
 -- a system whose store has grown
-pub system_keeps : (c : Core) (s t : Store) → Keeps s t → same.Keeps (tree_moves (automaton_of c)) (tree_moves (automaton_of c)) (λ x. FitsStore c s (root_states x))
+pub system_keeps : (c : SymbolicAutomaton) (s t : Store) → Keeps s t → same.KeepsSystem (tree_moves (automaton_of c)) (tree_moves (automaton_of c)) (λ x. FitsStore c s (root_states x))
     (λ x. FitsStore c t (root_states x))
     (λ x k g. IsClassGuard c s (root_states x) k g) (λ x k g. IsClassGuard c t (root_states x) k g)
 system_keeps c s t keeps = record { moves = refl; fits = λ x. fits_kept c s t keeps (root_states x); is_class = λ x. class_kept c s t keeps (root_states x) }
 
-module _ (c : Core) (core : IsCore c) (s : Store) (t : List Node) (k : ℕ) (g : Guard) (fits : FitsStore c s (root_states t)) (is : IsClassGuard c s (root_states t) k g)
+module _ (c : SymbolicAutomaton) (core : IsWellFormedSymbolic c) (s : Store) (t : List Node) (k : ℕ) (g : Guard) (fits : FitsStore c s (root_states t)) (is : IsClassGuard c s (root_states t) k g)
     (taken : List moves.Move) (moves_are : taken ≡ class_moves (automaton_of c) t is.valuation) where
   abbrev a : Automaton
   a = automaton_of c
 
-  step_is : step_at a t (slice_get (tree_classes a t) k) ≡ unless_large (next_tree c.states taken t)
-  step_is = ap (step_at a t) is.at ∙ ap (λ ms. unless_large (next_tree c.states ms t)) (sym moves_are)
+  step_is : tree_step_at a t (slice_get (tree_classes a t) k) ≡ unless_large (next_tree c.states taken t)
+  step_is = ap (tree_step_at a t) is.at ∙ ap (λ ms. unless_large (next_tree c.states ms t)) (sym moves_are)
 
-  pub step_gives : (made : List Node) → made ≡ pruned (grown c.states taken t) → length made ≤ MOST_NODES → step_at a t (slice_get (tree_classes a t) k) ≡ Gives made
+  pub step_gives : (made : List Node) → made ≡ pruned (grown c.states taken t) → length made ≤ MOST_NODES → tree_step_at a t (slice_get (tree_classes a t) k) ≡ Successor made
   step_gives made is_made few = step_is ∙ (ap unless_large (sym is_made) ∙ small_given made few)
 
-  abbrev fails : Move (List Node)
-  fails = Fails
+  abbrev fails : StepOutcome (List Node)
+  fails = StepFailed
 
-  pub step_fails : MOST_NODES < length (pruned (grown c.states taken t)) → step_at a t (slice_get (tree_classes a t) k) ≡ fails
+  pub step_fails : MOST_NODES < length (pruned (grown c.states taken t)) → tree_step_at a t (slice_get (tree_classes a t) k) ≡ fails
   step_fails many = step_is ∙ large_fails (next_tree c.states taken t) many
 
   pub step_told : (event : Event) → event ≡ event_of c.states taken t → IsClassEvent c t k event
@@ -65,7 +65,7 @@ module _ (c : Core) (core : IsCore c) (s : Store) (t : List Node) (k : ℕ) (g :
       told ∙ (ap (λ ms. event_of c.states ms t) moves_are ∙ ap (λ w. event_of c.states (class_moves a t w) t) same)
 
 -- where the step is refused for its nodes, the move fails
-pub step_refused : {T X : Type 0} (N : Type 0) (seen : T → X) (m : Move X) (came : TreeFault) (told : StepFault) → told ≡ step_fault came → (came ≡ tree.Nodes → m ≡ Fails)
-    → IsStep {N = N} seen m (Err told)
-step_refused N seen m tree.Nodes told e nodes = subst (λ (f : StepFault). IsStep {N = N} seen m (Err f)) (sym e) (nodes refl)
-step_refused N seen m tree.Memory told e nodes = subst (λ (f : StepFault). IsStep {N = N} seen m (Err f)) (sym e) tt
+pub step_refused : {T X : Type 0} (N : Type 0) (seen : T → X) (m : StepOutcome X) (came : TreeFault) (told : StepFault) → told ≡ step_fault came → (came ≡ tree.Nodes → m ≡ StepFailed)
+    → IsStepAnswer {N = N} seen m (Err told)
+step_refused N seen m tree.Nodes told e nodes = subst (λ (f : StepFault). IsStepAnswer {N = N} seen m (Err f)) (sym e) (nodes refl)
+step_refused N seen m tree.Memory told e nodes = subst (λ (f : StepFault). IsStepAnswer {N = N} seen m (Err f)) (sym e) tt

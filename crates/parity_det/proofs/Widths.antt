@@ -6,8 +6,8 @@ use Rattle.aut_base.proofs.lists.Members.{each_there, there_at}
 use Rattle.aut_base.specs.Automaton.{Automaton}
 use Rattle.aut_base.specs.Formula.{And, Fin, FormulaTree, Inf, Or, SetsBelow, none}
 use Rattle.aut_base.specs.declared.limit.TheConstants.{MOST_NODES}
-use Rattle.exploration.specs.Reached.{IsExplored, Leads}
-use Rattle.exploration.specs.Turns.{Arrow}
+use Rattle.exploration.specs.Reached.{IsExplored, LeadsTo}
+use Rattle.exploration.specs.Turns.{Transition}
 use Rattle.parity_det.proofs.Explored.{step_given}
 use Rattle.parity_det.specs.Determinisation.{start_tree, tree_classes, tree_moves, width}
 use Rattle.safra_trees.specs.Same.{same_nodes}
@@ -18,7 +18,7 @@ first_few : (n : ℕ) (starts : List ℕ) (b : Bool) → length (tree_if n start
 first_few n starts true = omega arith
 first_few n starts false = omega arith
 
-leads_few : (b : Automaton) (ks : List ℕ) (x y : List Node) → length x ≤ MOST_NODES → Leads (tree_moves b) x ks y → length y ≤ MOST_NODES
+leads_few : (b : Automaton) (ks : List ℕ) (x y : List Node) → length x ≤ MOST_NODES → LeadsTo (tree_moves b) x ks y → length y ≤ MOST_NODES
 leads_few b [] x y few e = subst (λ (t : List Node). length t ≤ MOST_NODES) e few
 leads_few b (k ∷ ks) x y few way = leads_few b ks way.1 y (step_given b x (slice_get (tree_classes b x) k) way.1 way.2).few way.3
 
@@ -29,8 +29,8 @@ width_few (t ∷ ts) all =
     let rest = width_few ts (λ k d within. all (suc k) d (omega (arith, within))) in
     omega (arith, here, rest)
 
-pub few_nodes : (b : Automaton) (trees : List (List Node)) (arrows : List Arrow) → IsExplored same_nodes (tree_moves b) (start_tree b) trees arrows → width trees ≤ MOST_NODES
-few_nodes b trees arrows is = width_few trees (each_there (λ (t : List Node). length t ≤ MOST_NODES) trees (λ t there.
+pub few_nodes : (b : Automaton) (trees : List (List Node)) (transitions : List Transition) → IsExplored same_nodes (tree_moves b) (start_tree b) trees transitions → width trees ≤ MOST_NODES
+few_nodes b trees transitions is = width_few trees (each_there (λ (t : List Node). length t ≤ MOST_NODES) trees (λ t there.
     let at = there_at trees t there in
     let reached = is.reached at.0 t at.1 in
     leads_few b reached.word (start_tree b) t (first_few b.states b.starts (list_any (has b.starts) (range_with_len 0 b.states))) reached.leads))
@@ -42,19 +42,19 @@ wide (t ∷ ts) = (let rest = wide ts in omega (arith, rest))
 -- ---- the condition
 
 atom_below : (n set : ℕ) → set < n → SetsBelow n (parity_atom set)
-atom_below n set less = by (is_odd set)
+atom_below n set less = by_cases (is_odd set)
   where
-    by : (b : Bool) → SetsBelow n (cond b (Inf set false) (Fin set false))
-    by true = less
-    by false = less
+    by_cases : (b : Bool) → SetsBelow n (cond b (Inf set false) (Fin set false))
+    by_cases true = less
+    by_cases false = less
 
 joined_below : (n set : ℕ) (rest : FormulaTree) → set < n → SetsBelow n rest
     → SetsBelow n (cond (is_odd set) (Or (parity_atom set) rest none) (And (parity_atom set) rest none))
-joined_below n set rest less below = by (is_odd set)
+joined_below n set rest less below = by_cases (is_odd set)
   where
-    by : (b : Bool) → SetsBelow n (cond b (Or (parity_atom set) rest none) (And (parity_atom set) rest none))
-    by true = (atom_below n set less, below, tt)
-    by false = (atom_below n set less, below, tt)
+    by_cases : (b : Bool) → SetsBelow n (cond b (Or (parity_atom set) rest none) (And (parity_atom set) rest none))
+    by_cases true = (atom_below n set less, below, tt)
+    by_cases false = (atom_below n set less, below, tt)
 
 from_below : (n more set : ℕ) → set + more < n → SetsBelow n (parity_from more set)
 from_below n zero set less = atom_below n set (omega (arith, less))

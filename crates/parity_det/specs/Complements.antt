@@ -6,7 +6,7 @@ use Rattle.aut_core.specs.Deterministic.{IsDeterministic}
 use Rattle.aut_ops.specs.Completion.{completed}
 use Rattle.degeneralise.specs.Buchi.{NeedsTooManyTerms, buchi_states}
 use Rattle.exploration.specs.declared.fault.Fault.TheVariants as limit
-use Rattle.parity_det.specs.Determinisation.{IsParityOf, MeetsParityLimit}
+use Rattle.parity_det.specs.Determinisation.{IsParityAutomatonOf, MeetsParityLimit}
 use Rattle.parity_det.specs.declared.fault.CompFault.{CompFault}
 use Rattle.parity_det.specs.declared.fault.CompFault.TheVariants as fault
 use Rattle.parity_laws.specs.Complement.{dualised}
@@ -14,11 +14,11 @@ use Rattle.parity_laws.specs.Complement.{dualised}
 -- The automaton made is a, made complete, where a is deterministic, and else its parity automaton.
 pub data IsDeterministicForm (a made : Automaton) : Type 0 where
   by_completion : IsDeterministic a → made ≡ completed a → IsDeterministicForm a made
-  by_determinisation : (IsDeterministic a → ⊥) → IsParityOf a made → IsDeterministicForm a made
+  by_determinisation : (IsDeterministic a → ⊥) → IsParityAutomatonOf a made → IsDeterministicForm a made
 
 -- The automaton made is the complement of a. Laws: there is at most one, and of each lasso word exactly one of both accepts
 -- it.
-pub record IsComplementOf (a made : Automaton) : Type 0 where
+pub record IsComplementAutomaton (a made : Automaton) : Type 0 where
   pub form : Automaton
   pub is_form : IsDeterministicForm a form
   pub is : made ≡ dualised form
@@ -27,8 +27,8 @@ pub record IsComplementOf (a made : Automaton) : Type 0 where
 abbrev pub PassesParity : CompFault → Automaton → Type 0
 PassesParity fault.Terms a = NeedsTooManyTerms a.formula
 PassesParity fault.BuchiStates a = (NeedsTooManyTerms a.formula → ⊥) × (MOST_BUCHI_STATES < buchi_states a)
-PassesParity fault.Trees a = (NeedsTooManyTerms a.formula → ⊥) × MeetsParityLimit a limit.Things
-PassesParity fault.Nodes a = (NeedsTooManyTerms a.formula → ⊥) × MeetsParityLimit a limit.Nodes
+PassesParity fault.Trees a = (NeedsTooManyTerms a.formula → ⊥) × MeetsParityLimit a limit.States
+PassesParity fault.Nodes a = (NeedsTooManyTerms a.formula → ⊥) × MeetsParityLimit a limit.StepFailed
 PassesParity fault.Classes a = (NeedsTooManyTerms a.formula → ⊥) × MeetsParityLimit a limit.Classes
 PassesParity fault.Memory a = ⊥
 
@@ -48,20 +48,20 @@ IsRefusal a f = (IsDeterministic a → ⊥) × PassesParity f a
 
 -- An automaton has one complement.
 abbrev pub ComplementIsDetermined : Type 0
-ComplementIsDetermined = (a made other : Automaton) → IsComplementOf a made → IsComplementOf a other → made ≡ other
+ComplementIsDetermined = (a made other : Automaton) → IsComplementAutomaton a made → IsComplementAutomaton a other → made ≡ other
 
 -- An automaton passes at most one limit, and where it has a parity automaton none.
-pub record LimitsExclude (a : Automaton) : Type 0 where
-  pub made : (made : Automaton) → IsParityOf a made → buchi_states a ≤ MOST_BUCHI_STATES → (NeedsTooManyTerms a.formula → ⊥) → IsWithinParity a
+pub record ParityLimitsExclude (a : Automaton) : Type 0 where
+  pub made : (made : Automaton) → IsParityAutomatonOf a made → buchi_states a ≤ MOST_BUCHI_STATES → (NeedsTooManyTerms a.formula → ⊥) → IsWithinParity a
   pub one : (f g : CompFault) → PassesParity f a → PassesParity g a → f ≡ g
 
 abbrev pub ParityExcludesLimits : Type 0
-ParityExcludesLimits = (a : Automaton) → LimitsExclude a
+ParityExcludesLimits = (a : Automaton) → ParityLimitsExclude a
 
 -- An automaton that passes no limit can't lack a parity automaton,
 abbrev pub ParityExists : Type 0
-ParityExists = (a : Automaton) → IsWithinParity a → ((made : Automaton) → IsParityOf a made → ⊥) → ⊥
+ParityExists = (a : Automaton) → IsWithinParity a → ((made : Automaton) → IsParityAutomatonOf a made → ⊥) → ⊥
 
 -- and one that is deterministic or passes none can't lack a complement.
 abbrev pub ComplementExists : Type 0
-ComplementExists = (a : Automaton) → ((IsDeterministic a → ⊥) → IsWithinParity a) → ((made : Automaton) → IsComplementOf a made → ⊥) → ⊥
+ComplementExists = (a : Automaton) → ((IsDeterministic a → ⊥) → IsWithinParity a) → ((made : Automaton) → IsComplementAutomaton a made → ⊥) → ⊥

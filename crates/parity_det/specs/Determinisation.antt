@@ -1,14 +1,14 @@
--- Determinisation, as a system that is explored (Safra 1988, Piterman 2007): things are trees, as lists of nodes, and classes
+-- Determinisation, as a system that is explored (Safra 1988, Piterman 2007): its states are trees, as lists of nodes, and classes
 -- are those of the letters that the edges from the root's states tell apart.
 use Rattle.std.specs.Prelude.{◌≡◌, ◌+◌, ◌≤◌, ℕ, Bool, if◌then◌else◌, List, [], ◌∷◌, Option, None, Some, filter, leb, length, map, max, slice_get}
 use Rattle.acc_forms.specs.Parity.{parity_min_odd}
-use Rattle.aut_base.specs.Automaton.{Automaton, TreeEdge}
+use Rattle.aut_base.specs.Automaton.{Automaton, LabelledEdge}
 use Rattle.aut_base.specs.Valuation.{truth_on}
 use Rattle.aut_base.specs.declared.limit.TheConstants.{MOST_BUCHI_STATES, MOST_CLASSES, MOST_NODES, MOST_TREES}
 use Rattle.aut_ops.specs.Pruning.{IsPruned}
 use Rattle.degeneralise.specs.Buchi.{buchi, buchi_states}
-use Rattle.exploration.specs.Moves.{Fails, Gives, Lacks, Move, Moves}
-use Rattle.exploration.specs.Turns.{Arrow, Comes, EndsWith, Meets, Rules, begin}
+use Rattle.exploration.specs.TransitionFunctions.{StepFailed, Successor, NoSuccessor, StepOutcome, TransitionFunction}
+use Rattle.exploration.specs.Turns.{Transition, Comes, EndsWith, LimitMet, Rules, begin}
 use Rattle.exploration.specs.declared.fault.Fault.{Fault}
 use Rattle.letter_classes.specs.ClassForms.{class_edge}
 use Rattle.letter_classes.specs.SetClasses.{set_classes, set_edges}
@@ -29,15 +29,15 @@ abbrev pub class_moves : Automaton → List Node → List Bool → List moves.Mo
 class_moves b t v = map move_of (filter (λ e. truth_on e.label v) (set_edges b (root_states t)))
 
 -- the tree, unless it has too many nodes
-abbrev pub unless_large : List Node → Move (List Node)
-unless_large t = if leb (length t) MOST_NODES then Gives t else Fails
+abbrev pub unless_large : List Node → StepOutcome (List Node)
+unless_large t = if leb (length t) MOST_NODES then Successor t else StepFailed
 
-abbrev pub step_at : Automaton → List Node → Option (List Bool) → Move (List Node)
-step_at b t None = Lacks
-step_at b t (Some v) = unless_large (next_tree b.states (class_moves b t v) t)
+abbrev pub tree_step_at : Automaton → List Node → Option (List Bool) → StepOutcome (List Node)
+tree_step_at b t None = NoSuccessor
+tree_step_at b t (Some v) = unless_large (next_tree b.states (class_moves b t v) t)
 
-abbrev pub tree_moves : Automaton → Moves (List Node)
-tree_moves b = record { count = λ t. length (tree_classes b t); step = λ t k. step_at b t (slice_get (tree_classes b t) k) }
+abbrev pub tree_moves : Automaton → TransitionFunction (List Node)
+tree_moves b = record { count = λ t. length (tree_classes b t); step = λ t k. tree_step_at b t (slice_get (tree_classes b t) k) }
 
 -- the tree of the starts
 abbrev pub start_tree : Automaton → List Node
@@ -45,7 +45,7 @@ start_tree b = first_tree b.states b.starts
 
 -- the exploration of what that tree leads to
 abbrev pub tree_rules : Automaton → Rules (List Node)
-tree_rules b = record { same = same_nodes; moves = tree_moves b; most_things = MOST_TREES; most_classes = MOST_CLASSES }
+tree_rules b = record { same = same_nodes; moves = tree_moves b; max_states = MOST_TREES; max_classes = MOST_CLASSES }
 
 -- the greatest number of nodes, and at least 1
 abbrev pub width : List (List Node) → ℕ
@@ -53,16 +53,16 @@ width [] = 1
 width (t ∷ ts) = max (length t) (width ts)
 
 -- the edge between the places of two trees, under its class, with the priority of its step as its one mark
-abbrev pub parity_edge : Automaton → List (List Node) → ℕ → Arrow → TreeEdge
+abbrev pub parity_edge : Automaton → List (List Node) → ℕ → Transition → LabelledEdge
 parity_edge b trees most = class_edge b (λ place. root_states (tree_at trees place)) (λ place v. priority b.states most (class_moves b (tree_at trees place) v) (tree_at trees place) ∷ [])
 
 -- the automaton whose states are the places of these trees
-abbrev pub parity_on : List (List Node) → List Arrow → Automaton → Automaton
-parity_on trees arrows b = record {
+abbrev pub parity_on : List (List Node) → List Transition → Automaton → Automaton
+parity_on trees transitions b = record {
   names = b.names;
   starts = 0 ∷ [];
   states = length trees;
-  edges = map (parity_edge b trees (width trees)) arrows;
+  edges = map (parity_edge b trees (width trees)) transitions;
   sets = width trees + width trees + 1;
   formula = parity_min_odd (width trees + width trees + 1);
 }
@@ -70,9 +70,9 @@ parity_on trees arrows b = record {
 -- the automaton made is that of the trees that b leads to
 pub record IsTreeForm (b made : Automaton) : Type 0 where
   pub trees : List (List Node)
-  pub arrows : List Arrow
-  pub explored : EndsWith (tree_rules b) (start_tree b) trees arrows
-  pub is : made ≡ parity_on trees arrows b
+  pub transitions : List Transition
+  pub explored : EndsWith (tree_rules b) (start_tree b) trees transitions
+  pub is : made ≡ parity_on trees transitions b
 
 -- The automaton made is b determinised: that of the trees of b, pruned.
 pub record IsDeterminisation (b made : Automaton) : Type 0 where
@@ -81,14 +81,14 @@ pub record IsDeterminisation (b made : Automaton) : Type 0 where
   pub is : IsTreeForm pruned made
 
 -- The automaton made is the parity automaton of a: its Büchi form determinised. Law: there is at most one.
-abbrev pub IsParityOf : Automaton → Automaton → Type 0
-IsParityOf a made = IsDeterminisation (buchi a) made
+abbrev pub IsParityAutomatonOf : Automaton → Automaton → Type 0
+IsParityAutomatonOf a made = IsDeterminisation (buchi a) made
 
 -- determinisation of b meets this limit first
 pub record MeetsTreeLimit (b : Automaton) (f : Fault) : Type 0 where
   pub pruned : Automaton
   pub is_pruned : IsPruned b pruned
-  pub meets : Comes (tree_rules pruned) (begin (start_tree pruned)) (Meets f)
+  pub meets : Comes (tree_rules pruned) (begin (start_tree pruned)) (LimitMet f)
 
 -- the Büchi form has no more states than it may, and its determinisation meets this limit first
 pub record MeetsParityLimit (a : Automaton) (f : Fault) : Type 0 where
@@ -97,7 +97,7 @@ pub record MeetsParityLimit (a : Automaton) (f : Fault) : Type 0 where
 
 -- An automaton has one parity automaton.
 abbrev pub ParityIsDetermined : Type 0
-ParityIsDetermined = (a made other : Automaton) → IsParityOf a made → IsParityOf a other → made ≡ other
+ParityIsDetermined = (a made other : Automaton) → IsParityAutomatonOf a made → IsParityAutomatonOf a other → made ≡ other
 
 -- Of each Büchi automaton there is at most one determinised automaton, or at most one limit is met first, and never both.
 pub record DeterminisationLaw (b : Automaton) : Type 0 where

@@ -13,13 +13,13 @@ use Rattle.safra_trees.specs.declared.fault.TreeFault.{TreeFault}
 use Rattle.safra_trees.specs.declared.fault.TreeFault.TheVariants as tree
 
 abbrev pub step_fault : TreeFault → StepFault
-step_fault tree.Nodes = step.Nodes
+step_fault tree.Nodes = step.Failed
 step_fault tree.Memory = step.Memory
 
 abbrev pub fault_of_exploration : Fault → DetFault
 fault_of_exploration limit.Classes = det.Classes
-fault_of_exploration limit.Nodes = det.Nodes
-fault_of_exploration limit.Things = det.Trees
+fault_of_exploration limit.StepFailed = det.Nodes
+fault_of_exploration limit.States = det.Trees
 fault_of_exploration limit.Memory = det.Memory
 
 abbrev pub fault_of_buchi : BuchiFault → CompFault

@@ -4,10 +4,10 @@ use Rattle.std.specs.List.{range_with_len}
 use Rattle.acc_forms.specs.Parity.{parity_min_odd}
 use Rattle.aut_base.specs.Automaton.{Automaton}
 use Rattle.aut_core.specs.Deterministic.{IsComplete, IsDeterministic}
-use Rattle.aut_ops.specs.Passable.{is_flagged}
+use Rattle.aut_ops.specs.Satisfiable.{is_flagged}
 use Rattle.aut_ops.specs.Pruning.{AreUseful}
 use Rattle.degeneralise.specs.Buchi.{buchi}
-use Rattle.parity_det.specs.Determinisation.{IsParityOf}
+use Rattle.parity_det.specs.Determinisation.{IsParityAutomatonOf}
 
 -- deterministic and complete, with one mark on each edge and 2N + 1 sets for some N above 0, and the least number that is met
 -- again and again has to be odd
@@ -32,4 +32,4 @@ pub record HasFewSets (b made : Automaton) : Type 0 where
 -- The parity automaton of an automaton is such a one, and has few sets: N is at most the greater of 1 and the number of useful
 -- states of the Büchi form.
 abbrev pub ParityHasFewSets : Type 0
-ParityHasFewSets = (a made : Automaton) → IsParityOf a made → IsParityMinOdd made × HasFewSets (buchi a) made
+ParityHasFewSets = (a made : Automaton) → IsParityAutomatonOf a made → IsParityMinOdd made × HasFewSets (buchi a) made

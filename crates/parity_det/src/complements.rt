@@ -2,14 +2,14 @@
 
 ghost use Rattle.std.specs.Prelude.{◌≡◌, ◌+◌, ◌*◌, ◌<◌, ◌≤◌, ◌^◌, Err, IfErr, IfOk, OnOk};
 ghost use Rattle.aut_base.specs.declared.limit.TheConstants.{MOST_NODES, MOST_TREES};
-ghost use Rattle.aut_core.specs.Core.{automaton_of};
+ghost use Rattle.aut_core.specs.SymbolicAutomata.{automaton_of};
 ghost use Rattle.aut_core.specs.Deterministic.{IsComplete, IsDeterministic};
 ghost use Rattle.aut_core.specs.OtherNames.{AcceptTheSame};
 ghost use Rattle.aut_ops.specs.Completion.{completed};
-ghost use Rattle.parity_det.specs.Complements.{IsComplementOf, IsDeterministicForm, IsRefusal, IsWithinParity};
+ghost use Rattle.parity_det.specs.Complements.{IsComplementAutomaton, IsDeterministicForm, IsRefusal, IsWithinParity};
 ghost use Rattle.degeneralise.specs.Buchi.{NeedsTooManyTerms};
 ghost use Rattle.parity_det.specs.declared.fault.CompFault.{CompFault};
-ghost use Rattle.parity_laws.specs.Complement.{AreComplements};
+ghost use Rattle.parity_laws.specs.Complement.{AreComplementLanguages};
 
 use crate::fault::CompFault;
 use crate::form::parity;
@@ -24,17 +24,17 @@ use std::alloc::Global;
 pub fn complement(alloc: Global, a: &Automaton) -> Result<Automaton, CompFault>
     requires states { IsDeterministic (automaton_of a.now) → (completed (automaton_of a.now)).states < 2 ^ 32 }
     requires sets { IsDeterministic (automaton_of a.now) → (completed (automaton_of a.now)).sets < 2 ^ 32 }
-    ensures complements { IfOk result (λ made. AreComplements (automaton_of a.now) (automaton_of made)) }
-    ensures shape { IfOk result (λ made. IsComplementOf (automaton_of a.now) (automaton_of made)) }
+    ensures complements { IfOk result (λ made. AreComplementLanguages (automaton_of a.now) (automaton_of made)) }
+    ensures shape { IfOk result (λ made. IsComplementAutomaton (automaton_of a.now) (automaton_of made)) }
     ensures names { IfOk result (λ made. made.names ≡ a.now.names) }
     ensures size { IfOk result (λ made. (made.states ≤ a.now.states + MOST_TREES) × (made.sets ≤ a.now.sets + (2 * MOST_NODES + 1))) }
     ensures refused { IfErr result (IsRefusal (automaton_of a.now)) }
     ensures within { (IsDeterministic (automaton_of a.now) → ⊥) → OnOk result (IsWithinParity (automaton_of a.now)) }
     ensures passed_terms { (IsDeterministic (automaton_of a.now) → ⊥) → NeedsTooManyTerms a.now.formula → result ≡ Err CompFault.Terms }
 {
-    a.whole();
+    a.well_formed();
     let own = deterministic_form(alloc, a)?;
-    own.whole();
+    own.well_formed();
     let formula = dual(alloc, own.formula())?;
     Ok(own.with_formula(formula))
 }
@@ -53,7 +53,7 @@ fn deterministic_form(alloc: Global, a: &Automaton) -> Result<Automaton, CompFau
     ensures within { (IsDeterministic (automaton_of a.now) → ⊥) → OnOk result (IsWithinParity (automaton_of a.now)) }
     ensures passed_terms { (IsDeterministic (automaton_of a.now) → ⊥) → NeedsTooManyTerms a.now.formula → result ≡ Err CompFault.Terms }
 {
-    a.whole();
+    a.well_formed();
     if a.is_deterministic() {
         return Ok(complete(alloc, a)?);
     }

@@ -54,8 +54,8 @@ impl From<Fault> for DetFault {
     fn from(came: Fault) -> DetFault {
         match came {
             Fault::Classes => DetFault::Classes,
-            Fault::Nodes => DetFault::Nodes,
-            Fault::Things => DetFault::Trees,
+            Fault::StepFailed => DetFault::Nodes,
+            Fault::States => DetFault::Trees,
             Fault::Memory => DetFault::Memory,
         }
     }
@@ -99,7 +99,7 @@ pub(crate) fn step_fault(fault: TreeFault) -> StepFault
     ensures { result ≡ step_fault fault }
 {
     match fault {
-        TreeFault::Nodes => StepFault::Nodes,
+        TreeFault::Nodes => StepFault::Failed,
         TreeFault::Memory => StepFault::Memory,
     }
 }

@@ -3,16 +3,16 @@
 ghost use Rattle.std.specs.Prelude.{◌≡◌, ◌+◌, ◌*◌, ◌≤◌, Err, IfErr, IfOk, OnOk, false, map};
 ghost use Rattle.aut_base.specs.Formula.{Inf};
 ghost use Rattle.aut_base.specs.declared.limit.TheConstants.{MOST_NODES, MOST_TREES};
-ghost use Rattle.aut_core.specs.Core.{automaton_of};
+ghost use Rattle.aut_core.specs.SymbolicAutomata.{automaton_of};
 ghost use Rattle.aut_core.specs.OtherNames.{AcceptTheSame};
 ghost use Rattle.degeneralise.specs.Buchi.{NeedsTooManyTerms, buchi};
-ghost use Rattle.exploration.specs.Explorations.{IsSound, arrow_of};
+ghost use Rattle.exploration.specs.Explorations.{IsSound, transition_of};
 ghost use Rattle.exploration.specs.Reached.{IsExplored};
 ghost use Rattle.exploration.specs.declared.fault.Fault.{Fault};
 ghost use Rattle.label_guards.specs.Store.{Keeps};
 ghost use Rattle.letter_classes.specs.SetClasses.{FitsStore, IsClassGuard};
 ghost use Rattle.parity_det.specs.Complements.{IsParityRefusal, IsWithinParity};
-ghost use Rattle.parity_det.specs.Determinisation.{IsDeterminisation, IsParityOf, IsTreeForm, MeetsTreeLimit, parity_on, start_tree, tree_moves};
+ghost use Rattle.parity_det.specs.Determinisation.{IsDeterminisation, IsParityAutomatonOf, IsTreeForm, MeetsTreeLimit, parity_on, start_tree, tree_moves};
 ghost use Rattle.safra_trees.specs.Same.{same_nodes};
 ghost use Rattle.parity_det.specs.Promises.{HasFewSets, IsParityMinOdd};
 ghost use Rattle.parity_det.specs.inner.Systems.{IsClassEvent, MeetsFirst};
@@ -32,7 +32,7 @@ use degeneralise::to_buchi;
 use exploration::{Explored, Limits, explore};
 use label_guards::{Guard, Guards};
 use letter_classes::{ClassStore, class_form};
-use safra_trees::{Event, Moves, Room, SafraTree, start};
+use safra_trees::{Event, Moves, SafraTree, Scratch, start};
 use std::alloc::Global;
 
 /// The deterministic automaton of a Büchi automaton. Its states are the compact Safra trees that the automaton, pruned,
@@ -55,13 +55,13 @@ pub fn determinise(alloc: Global, b: &Automaton) -> Result<Automaton, DetFault>
     ensures states { IfOk result (λ made. made.states ≤ MOST_TREES) }
     ensures sets { IfOk result (λ made. made.sets ≤ 2 * MOST_NODES + 1) }
     ensures within { OnOk result ((f : Fault) → MeetsTreeLimit (automaton_of b.now) f → ⊥) }
-    ensures only_trees { result ≡ Err DetFault.Trees → MeetsTreeLimit (automaton_of b.now) Fault.Things }
-    ensures only_nodes { result ≡ Err DetFault.Nodes → MeetsTreeLimit (automaton_of b.now) Fault.Nodes }
+    ensures only_trees { result ≡ Err DetFault.Trees → MeetsTreeLimit (automaton_of b.now) Fault.States }
+    ensures only_nodes { result ≡ Err DetFault.Nodes → MeetsTreeLimit (automaton_of b.now) Fault.StepFailed }
     ensures only_classes { result ≡ Err DetFault.Classes → MeetsTreeLimit (automaton_of b.now) Fault.Classes }
 {
     let pruned = prune(alloc, b)?;
-    b.whole();
-    pruned.whole();
+    b.well_formed();
+    pruned.well_formed();
     tree_form(alloc, &pruned)
 }
 
@@ -69,7 +69,7 @@ pub fn determinise(alloc: Global, b: &Automaton) -> Result<Automaton, DetFault>
 /// `degeneralise::to_buchi` refuses, and then as `determinise`.
 pub fn parity(alloc: Global, a: &Automaton) -> Result<Automaton, CompFault>
     ensures accepts { IfOk result (λ made. AcceptTheSame (automaton_of made) (automaton_of a.now)) }
-    ensures shape { IfOk result (λ made. IsParityOf (automaton_of a.now) (automaton_of made)) }
+    ensures shape { IfOk result (λ made. IsParityAutomatonOf (automaton_of a.now) (automaton_of made)) }
     ensures parity { IfOk result (λ made. IsParityMinOdd (automaton_of made)) }
     ensures few { IfOk result (λ made. HasFewSets (buchi (automaton_of a.now)) (automaton_of made)) }
     ensures names { IfOk result (λ made. made.names ≡ a.now.names) }
@@ -80,7 +80,7 @@ pub fn parity(alloc: Global, a: &Automaton) -> Result<Automaton, CompFault>
     ensures passed_terms { NeedsTooManyTerms a.now.formula → result ≡ Err CompFault.Terms }
 {
     let buchi = to_buchi(alloc, a)?;
-    buchi.whole();
+    buchi.well_formed();
     Ok(determinise(alloc, &buchi)?)
 }
 
@@ -90,21 +90,21 @@ fn tree_form(alloc: Global, b: &Automaton) -> Result<Automaton, DetFault>
     ensures names { IfOk result (λ made. made.names ≡ b.now.names) }
     ensures states { IfOk result (λ made. made.states ≤ MOST_TREES) }
     ensures sets { IfOk result (λ made. made.sets ≤ 2 * MOST_NODES + 1) }
-    ensures trees { result ≡ Err DetFault.Trees → MeetsFirst (automaton_of b.now) Fault.Things }
-    ensures nodes { result ≡ Err DetFault.Nodes → MeetsFirst (automaton_of b.now) Fault.Nodes }
+    ensures trees { result ≡ Err DetFault.Trees → MeetsFirst (automaton_of b.now) Fault.States }
+    ensures nodes { result ≡ Err DetFault.Nodes → MeetsFirst (automaton_of b.now) Fault.StepFailed }
     ensures classes { result ≡ Err DetFault.Classes → MeetsFirst (automaton_of b.now) Fault.Classes }
 {
-    b.whole();
+    b.well_formed();
     let first = start(alloc, b.starts())?;
     let store = ClassStore::new(alloc, b.guards().copy(alloc)?);
     let mut system = Trees {
         automaton: b,
         guards: store,
         moves: Moves::new(alloc),
-        room: Room::new(alloc),
+        room: Scratch::new(alloc),
     };
     let limits = Limits {
-        things: MOST_TREES,
+        states: MOST_TREES,
         classes: MOST_CLASSES,
     };
     let found = explore(alloc, &mut system, first, limits)?;
@@ -119,14 +119,14 @@ fn built(
     found: &Explored<SafraTree, Guard, Event>,
 ) -> Result<Automaton, Memory>
     requires keeps { Keeps b.now.store guards }
-    requires explored { IsExplored same_nodes (tree_moves (automaton_of b.now)) (start_tree (automaton_of b.now)) (map tree_of found.now.things.keys) (map arrow_of found.now.edges.items) }
+    requires explored { IsExplored same_nodes (tree_moves (automaton_of b.now)) (start_tree (automaton_of b.now)) (map tree_of found.now.states.keys) (map transition_of found.now.edges.items) }
     requires sound { IsSound (λ t. FitsStore b.now guards (root_states t)) (λ t k g. IsClassGuard b.now guards (root_states t) k g)
-        (λ t k event. IsClassEvent b.now t k event) MOST_TREES (map tree_of found.now.things.keys) found.now.edges.items }
+        (λ t k event. IsClassEvent b.now t k event) MOST_TREES (map tree_of found.now.states.keys) found.now.edges.items }
     ensures few { IfOk result (λ made. made.sets ≤ 2 * MOST_NODES + 1) }
-    ensures is { IfOk result (λ made. automaton_of made ≡ parity_on (map tree_of found.now.things.keys) (map arrow_of found.now.edges.items) (automaton_of b.now)) }
+    ensures is { IfOk result (λ made. automaton_of made ≡ parity_on (map tree_of found.now.states.keys) (map transition_of found.now.edges.items) (automaton_of b.now)) }
 {
-    b.whole();
-    let most = width(found.things.as_slice());
+    b.well_formed();
+    let most = width(found.states.as_slice());
     let sets = most + most + 1;
     let formula = parity_min_odd(alloc, sets)?;
     class_form(alloc, b, guards, found, &EventMarks { most }, sets, formula)

@@ -31,7 +31,7 @@ impl Marking for EventMarks {
     ghost use Rattle.std.specs.Prelude.{[], ◌∷◌, ◌<◌, ◌^◌};
     ghost use Rattle.parity_det.specs.inner.Systems.{mark_of};
 
-    type Note = Event;
+    type Output = Event;
 
     ghost fits = { λ s event. mark_of s.most event < 2 ^ 32 };
 

@@ -1,11 +1,11 @@
 //! The moves that are allowed from a set of states at a valuation.
 
 ghost use Rattle.std.specs.Prelude.{◌≡◌, ◌<◌, All, IfOk};
-ghost use Rattle.aut_core.specs.Core.{automaton_of};
+ghost use Rattle.aut_core.specs.SymbolicAutomata.{automaton_of};
 ghost use Rattle.letter_classes.specs.SetClasses.{set_edges};
 ghost use Rattle.letter_classes.specs.Taken.{reads_at};
 ghost use Rattle.parity_det.specs.inner.Systems.{moves_of};
-ghost use Rattle.safra_trees.specs.Events.{IsWithin};
+ghost use Rattle.safra_trees.specs.Events.{IsMoveInRange};
 
 use aut_base::Memory;
 use aut_core::{Automaton, Link};
@@ -22,9 +22,9 @@ pub(crate) fn moves_at(
 ) -> Result<Moves, Memory>
     requires { All (λ q. q < a.now.states) set.now }
     ensures moves { IfOk result (λ moves. moves ≡ moves_of (reads_at a.now number) (set_edges (automaton_of a.now) set.now)) }
-    ensures within { IfOk result (All (IsWithin a.now.states)) }
+    ensures within { IfOk result (All (IsMoveInRange a.now.states)) }
 {
-    a.whole();
+    a.well_formed();
     taken_at::<EdgeMoves>(list, a, set, number)
 }
 

@@ -6,10 +6,10 @@ use crate::fault::step_fault;
 use crate::moves::moves_at;
 use aut_base::Memory;
 use aut_core::Automaton;
-use exploration::{StepFault, System};
+use exploration::{StepFault, TransitionSystem};
 use label_guards::Guard;
 use letter_classes::{ClassStore, classes_of_set};
-use safra_trees::{Event, Moves, Room, SafraTree};
+use safra_trees::{Event, Moves, SafraTree, Scratch};
 use std::alloc::Global;
 use std::mem;
 
@@ -21,11 +21,11 @@ pub(crate) struct Trees<'a> {
     /// A list for the moves of a step, which the next one uses again.
     pub(crate) moves: Moves,
     /// What each step fills.
-    pub(crate) room: Room,
+    pub(crate) room: Scratch,
 }
 
-impl<'a> System for Trees<'a> {
-    ghost use Rattle.aut_core.specs.Core.{Core, automaton_of};
+impl<'a> TransitionSystem for Trees<'a> {
+    ghost use Rattle.aut_core.specs.SymbolicAutomata.{SymbolicAutomaton, automaton_of};
     ghost use Rattle.letter_classes.specs.SetClasses.{FitsStore, IsClassGuard};
     ghost use Rattle.parity_det.specs.Determinisation.{tree_moves};
     ghost use Rattle.parity_det.specs.inner.Systems.{IsClassEvent};
@@ -34,12 +34,12 @@ impl<'a> System for Trees<'a> {
     ghost use Rattle.safra_trees.specs.View.{tree_of};
     ghost use Rattle.std.specs.Prelude.{List};
 
-    type Thing = SafraTree;
+    type State = SafraTree;
 
     type Class = Guard;
 
     /// The least names that were red and green.
-    type Note = Event;
+    type Output = Event;
 
     ghost Seen = { List Node };
 
@@ -47,7 +47,7 @@ impl<'a> System for Trees<'a> {
 
     ghost same = { lists.same_nodes };
 
-    ghost Frame = { Core };
+    ghost Frame = { SymbolicAutomaton };
 
     ghost frame = { λ s. s.automaton.now };
 
@@ -57,7 +57,7 @@ impl<'a> System for Trees<'a> {
 
     ghost is_class = { λ s t k g. IsClassGuard s.automaton.now s.guards (root_states t) k g };
 
-    ghost is_note = { λ c t k event. IsClassEvent c t k event };
+    ghost is_output = { λ c t k event. IsClassEvent c t k event };
 
     ghost tells = { λ a b. lists.same_tells (tree_of a) (tree_of b) };
 
@@ -66,30 +66,30 @@ impl<'a> System for Trees<'a> {
     fn classes(
         &mut self,
         alloc: Global,
-        thing: &SafraTree,
+        state: &SafraTree,
         most: u32,
     ) -> Result<Option<Vec<Guard>>, Memory> {
-        let set = thing.root_states();
+        let set = state.root_states();
         classes_of_set(alloc, self.automaton, &mut self.guards, set, most)
     }
 
     fn step(
         &mut self,
         alloc: Global,
-        thing: &SafraTree,
+        state: &SafraTree,
         _number: u32,
         class: Guard,
     ) -> Result<Option<(SafraTree, Event)>, StepFault> {
-        self.automaton.whole();
+        self.automaton.well_formed();
         let Some(number) = self.guards.guards().meeting(class) else {
             unreachable!()
         };
         let list = mem::replace(&mut self.moves, Moves::new(alloc));
-        let moves = moves_at(list, self.automaton, thing.root_states(), number)?;
+        let moves = moves_at(list, self.automaton, state.root_states(), number)?;
         match safra_trees::step_in_room(
             alloc,
             self.automaton.states(),
-            thing,
+            state,
             &moves,
             &mut self.room,
         ) {

@@ -1,6 +1,6 @@
 -- Büchi automata, and the moves that a letter allows of one.
 use Rattle.std.specs.Prelude.{◌≡◌, ◌<◌, ℕ, false, List, Contains, filter, map}
-use Rattle.aut_base.specs.Automaton.{Automaton, IsWellFormed, TreeEdge}
+use Rattle.aut_base.specs.Automaton.{Automaton, IsWellFormed, LabelledEdge}
 use Rattle.aut_base.specs.Formula.{Inf}
 use Rattle.aut_base.specs.Marks.{is_in}
 use Rattle.aut_base.specs.Word.{NameSet}
@@ -8,16 +8,16 @@ use Rattle.aut_core.specs.Deterministic.{is_met}
 use Rattle.safra_trees.specs.declared.moves.Move.{Move}
 
 -- what is asked is that set 0 is met again and again
-pub record IsBuchi (b : Automaton) : Type 0 where
+pub record IsBuchiForm (b : Automaton) : Type 0 where
   pub formula : b.formula ≡ Inf 0 false
   pub starts : (s : ℕ) → Contains b.starts s → s < b.states
-  pub ends : (e : TreeEdge) → Contains b.edges e → e.to < b.states
+  pub ends : (e : LabelledEdge) → Contains b.edges e → e.to < b.states
 
 abbrev pub WellFormedIsBuchi : Type 0
-WellFormedIsBuchi = (b : Automaton) → IsWellFormed b → b.formula ≡ Inf 0 false → IsBuchi b
+WellFormedIsBuchi = (b : Automaton) → IsWellFormed b → b.formula ≡ Inf 0 false → IsBuchiForm b
 
 -- an edge without its label, accepting where it is in set 0
-abbrev pub move_of : TreeEdge → Move
+abbrev pub move_of : LabelledEdge → Move
 move_of e = record { from = e.from; to = e.to; accepting = is_in 0 e.marks }
 
 -- the moves that the letter allows, in the order of the edges

@@ -9,10 +9,10 @@ use Rattle.aut_base.specs.Label.{LabelTree}
 use Rattle.acc_forms.specs.Parity.{parity_min_odd}
 use Rattle.safra_trees.specs.Trees.{Node}
 use Rattle.safra_laws.specs.Example.{tree_of_both, tree_of_start, tree_with_child}
-use Rattle.parity_laws.specs.Buchi.{IsBuchi}
-use Rattle.parity_laws.specs.Complement.{AreComplements, dualised}
-use Rattle.parity_laws.specs.Determinised.{IsDeterminised}
-use Rattle.parity_laws.specs.Explored.{IsExplored}
+use Rattle.parity_laws.specs.Buchi.{IsBuchiForm}
+use Rattle.parity_laws.specs.Complement.{AreComplementLanguages, dualised}
+use Rattle.parity_laws.specs.Determinised.{TracksTrees}
+use Rattle.parity_laws.specs.Explored.{IsTreeExploration}
 
 abbrev pub when_a : LabelTree
 when_a = LabelTree.Prop 0
@@ -47,10 +47,10 @@ determinised = record {
 
 -- All that the laws ask is so of the example, and so what they say.
 pub record WorkedDeterminisation : Type 0 where
-  pub buchi : IsBuchi finitely_often
-  pub explored : IsExplored finitely_often determinised its_trees 2
-  pub is_determinised : IsDeterminised finitely_often determinised its_trees 2
-  pub dual : AreComplements finitely_often (dualised determinised)
+  pub buchi : IsBuchiForm finitely_often
+  pub explored : IsTreeExploration finitely_often determinised its_trees 2
+  pub is_determinised : TracksTrees finitely_often determinised its_trees 2
+  pub dual : AreComplementLanguages finitely_often (dualised determinised)
   -- the word with `a` always is accepted by both; the one with `a` never by the dual alone
   pub always : Accepts finitely_often [] (on ∷ [])
   pub always_too : Accepts determinised [] (on ∷ [])

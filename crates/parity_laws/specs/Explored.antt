@@ -1,7 +1,7 @@
 -- Determinisation class by class: letters at which the labels that matter have the same truths go one way.
 use Rattle.std.specs.Prelude.{◌≡◌, ◌+◌, ◌<◌, ◌≤◌, ◌&&◌, ℕ, Bool, List, [], ◌∷◌, Contains, filter, length, map, slice_index_or}
 use Rattle.std.specs.List.{range_with_len}
-use Rattle.aut_base.specs.Automaton.{Automaton, TreeEdge}
+use Rattle.aut_base.specs.Automaton.{Automaton, LabelledEdge}
 use Rattle.aut_base.specs.Label.{LabelTree, True, truth}
 use Rattle.acc_forms.specs.Parity.{parity_min_odd}
 use Rattle.aut_core.specs.Surveys.{edges_from}
@@ -12,7 +12,7 @@ use Rattle.safra_laws.specs.Priorities.{priority}
 use Rattle.safra_laws.specs.Rounds.{next_tree}
 use Rattle.parity_laws.specs.Buchi.{move_of}
 use Rattle.parity_laws.specs.Classes.{AreClassesOf, MeetsClass}
-use Rattle.parity_laws.specs.Determinised.{IsDeterminised, tree_at}
+use Rattle.parity_laws.specs.Determinised.{TracksTrees, tree_at}
 
 -- the labels of the edges that leave the states of the root
 abbrev pub root_labels : Automaton → List Node → List LabelTree
@@ -23,8 +23,8 @@ abbrev pub root_moves : Automaton → List Node → (ℕ → Bool) → List Move
 root_moves b t on = map move_of (filter (λ e. holds t 0 e.from && truth on e.label) b.edges)
 
 -- the edge of a state for a class: its label, where it leads, and the priority of the step under these moves
-abbrev pub class_edge : Automaton → List Node → ℕ → ℕ → LabelTree → ℕ → List Move → TreeEdge
-class_edge b t most i label to moves = record { from = i; label = label; to = to; marks = priority b.states most moves t ∷ [] }
+abbrev pub tree_class_edge : Automaton → List Node → ℕ → ℕ → LabelTree → ℕ → List Move → LabelledEdge
+tree_class_edge b t most i label to moves = record { from = i; label = label; to = to; marks = priority b.states most moves t ∷ [] }
 
 -- The edges of state i of d: one for each class under the labels that matter, in the order of the classes. It leads to the
 -- step of the state's tree under the moves of the class, which are read off at some valuation that meets it.
@@ -37,10 +37,10 @@ pub record IsExpanded (b d : Automaton) (trees : List (List Node)) (most i : ℕ
   pub below : (k : ℕ) → k < length classes → to k < length trees
   pub tree : (k : ℕ) → k < length classes → tree_at trees (to k) ≡ next_tree b.states (root_moves b (tree_at trees i) (valuation k)) (tree_at trees i)
   pub edges : edges_from i d.edges
-      ≡ map (λ k. class_edge b (tree_at trees i) most i (slice_index_or classes k True) (to k) (root_moves b (tree_at trees i) (valuation k))) (range_with_len 0 (length classes))
+      ≡ map (λ k. tree_class_edge b (tree_at trees i) most i (slice_index_or classes k True) (to k) (root_moves b (tree_at trees i) (valuation k))) (range_with_len 0 (length classes))
 
 -- The states of d are places in a list of trees, the first one that of the starts; each is expanded class by class.
-pub record IsExplored (b d : Automaton) (trees : List (List Node)) (most : ℕ) : Type 0 where
+pub record IsTreeExploration (b d : Automaton) (trees : List (List Node)) (most : ℕ) : Type 0 where
   pub names : d.names ≡ b.names
   pub states : d.states ≡ length trees
   pub starts : d.starts ≡ 0 ∷ []
@@ -48,10 +48,10 @@ pub record IsExplored (b d : Automaton) (trees : List (List Node)) (most : ℕ) 
   pub first : tree_at trees 0 ≡ first_tree b.states b.starts
   pub are_trees : (i : ℕ) → i < length trees → IsTree (tree_at trees i)
   pub few : (i : ℕ) → i < length trees → length (tree_at trees i) ≤ most
-  pub from : (e : TreeEdge) → Contains d.edges e → e.from < length trees
+  pub from : (e : LabelledEdge) → Contains d.edges e → e.from < length trees
   pub expanded : (i : ℕ) → i < length trees → IsExpanded b d trees most i
   pub formula : d.formula ≡ parity_min_odd (most + most + 1)
 
 -- Then d is deterministic and complete, and its edges are steps under each letter that meets them.
 abbrev pub ExploredIsDeterminised : Type 0
-ExploredIsDeterminised = (b d : Automaton) (trees : List (List Node)) (most : ℕ) → IsExplored b d trees most → IsDeterminised b d trees most
+ExploredIsDeterminised = (b d : Automaton) (trees : List (List Node)) (most : ℕ) → IsTreeExploration b d trees most → TracksTrees b d trees most

@@ -10,9 +10,9 @@ use Rattle.filter_plan.specs.declared.plan.Form.TheVariants as form
 use Rattle.plan_meaning.specs.Changes as change
 use Rattle.plan_meaning.specs.Changes.{Change, PassesBuchi, PassesDnf, PassesForm, PassesIn, PassesMonitor, PassesWithoutFin, limits_of_change, limits_of_form}
 use Rattle.plan_meaning.specs.Filters as filter
-use Rattle.plan_meaning.specs.Filters.{Filter, Passes, limits_of_filter}
+use Rattle.plan_meaning.specs.Filters.{Filter, PassesLimitOf, limits_of_filter}
 use Rattle.plan_meaning.specs.Laws.{PassTheirOwn}
-use Rattle.plan_meaning.specs.Limits.{PassesOfBoth, PassesOfEither, PassesOfEquivalence, PassesOfInclusion, PassesOfSquare, PassesOfSum, PassesOfWord, PassesParity}
+use Rattle.plan_meaning.specs.Limits.{PassesOfBoth, PassesOfEither, PassesOfEquivalence, PassesOfInclusion, PassesOfSquare, PassesOfSum, PassesOfWord, PassesParityLimit}
 use Rattle.plan_meaning.specs.Limits.{limits_of_inclusion, limits_of_parity, limits_of_product}
 use Rattle.word_syntax.specs.Grammar.{WordPattern}
 
@@ -40,7 +40,7 @@ of_square : (which : Limit) (a : Automaton) → PassesOfSquare which a → Conta
 of_square limit.Pairs a h = (0, omega arith, refl)
 of_square _ a h = absurd h
 
-of_parity : (which : Limit) (a : Automaton) → PassesParity which a → Contains limits_of_parity which
+of_parity : (which : Limit) (a : Automaton) → PassesParityLimit which a → Contains limits_of_parity which
 of_parity limit.Terms a h = (0, omega arith, refl)
 of_parity limit.BuchiStates a h = (1, omega arith, refl)
 of_parity limit.Trees a h = (2, omega arith, refl)
@@ -58,7 +58,7 @@ of_equivalence which a b (inr h) = of_inclusion which b a h.2
 
 -- ---- of a filter
 
-of_filter : (f : Filter) (which : Limit) (a : Automaton) → Passes which f a → Contains (limits_of_filter f) which
+of_filter : (f : Filter) (which : Limit) (a : Automaton) → PassesLimitOf which f a → Contains (limits_of_filter f) which
 of_filter (filter.AcceptsWord p) which a h = of_word which (canonical a) p h
 of_filter (filter.RejectsWord p) which a h = of_word which (canonical a) p h
 of_filter (filter.IncludedIn b) which a h = of_inclusion which (canonical a) b h

@@ -11,9 +11,9 @@ use Rattle.plan_meaning.specs.Standing.{those_standing}
 -- ---- the list as far as a loop has come
 
 -- one item more
-pub one_more : {C S : Type 0} (spec : C → S) (xs : List (Option C)) (i : ℕ) (d o : Option C) → i < length xs → get_or xs i d ≡ o
+pub standing_up_to_next : {C S : Type 0} (spec : C → S) (xs : List (Option C)) (i : ℕ) (d o : Option C) → i < length xs → get_or xs i d ≡ o
     → filter_map (option_map spec) (take (i + 1) xs) ≡ filter_map (option_map spec) (take i xs) ++ filter_map (option_map spec) (o ∷ [])
-one_more spec xs i d o lt is = ap (filter_map (option_map spec)) (take_more xs i d lt ∙ ap (λ x. take i xs ++ x ∷ []) is) ∙ filter_map-append (option_map spec) (take i xs) (o ∷ [])
+standing_up_to_next spec xs i d o lt is = ap (filter_map (option_map spec)) (take_more xs i d lt ∙ ap (λ x. take i xs ++ x ∷ []) is) ∙ filter_map-append (option_map spec) (take i xs) (o ∷ [])
 
 -- what stands before an item, the item, and what stands behind it
 pub parted : {C S : Type 0} (spec : C → S) (xs : List (Option C)) (i : ℕ) (d o : Option C) → i < length xs → get_or xs i d ≡ o → (f : C) → o ≡ Some f
@@ -21,7 +21,7 @@ pub parted : {C S : Type 0} (spec : C → S) (xs : List (Option C)) (i : ℕ) (d
 parted spec xs i d o lt is f some =
     let asked = filter_map (option_map spec) in
     sym (ap asked (take-append-drop (i + 1) xs)) ∙ filter_map-append (option_map spec) (take (i + 1) xs) (drop (i + 1) xs)
-    ∙ ap (λ fs. fs ++ asked (drop (i + 1) xs)) (one_more spec xs i d o lt is ∙ ap (λ x. asked (take i xs) ++ asked (x ∷ [])) some)
+    ∙ ap (λ fs. fs ++ asked (drop (i + 1) xs)) (standing_up_to_next spec xs i d o lt is ∙ ap (λ x. asked (take i xs) ++ asked (x ∷ [])) some)
     ∙ append_assoc (asked (take i xs)) (spec f ∷ []) (asked (drop (i + 1) xs))
 
 -- ---- code and definition have the same list

@@ -11,10 +11,10 @@ use Rattle.aut_base.specs.Automaton.{Automaton}
 use Rattle.aut_base.specs.Word.{NameSet, letter_at}
 use Rattle.aut_base.specs.declared.limit.Limit.{Limit}
 use Rattle.aut_base.specs.declared.limit.Limit.TheVariants as limit
-use Rattle.aut_core.specs.Core.{Core, automaton_of}
+use Rattle.aut_core.specs.SymbolicAutomata.{SymbolicAutomaton, automaton_of}
 use Rattle.aut_core.specs.Deterministic as core
 use Rattle.aut_ops.specs.Completion.{completed}
-use Rattle.aut_ops.specs.Products.{IsEitherOf, IsProductOf}
+use Rattle.aut_ops.specs.Products.{IsUnionProductOf, IsProductOf}
 use Rattle.aut_ops.specs.Sums.{summed}
 use Rattle.aut_ops.specs.Trimming.{IsTrimmed}
 use Rattle.degeneralise.specs.Buchi.{NeedsTooManyTerms, buchi, buchi_states}
@@ -25,10 +25,10 @@ use Rattle.filter_plan.specs.declared.plan.Form.TheVariants as form
 use Rattle.filter_plan.specs.declared.plan.Hidden.{Hidden}
 use Rattle.filter_plan.specs.declared.plan.Plan.{Plan}
 use Rattle.fin_removal.specs.Copies.{HasTooManyTerms, without_fin}
-use Rattle.monitor_form.specs.Subsets.{IsMonitor, MeetsLimit}
-use Rattle.parity_det.specs.Complements.{IsComplementOf}
-use Rattle.parity_det.specs.Determinisation.{IsParityOf}
-use Rattle.plan_meaning.specs.Limits.{PassesOfBoth, PassesOfEither, PassesOfSum, PassesParity, PassesUnlessDeterministic, limits_of_parity, limits_of_product}
+use Rattle.monitor_form.specs.Subsets.{IsMonitorAutomaton, MeetsLimit}
+use Rattle.parity_det.specs.Complements.{IsComplementAutomaton}
+use Rattle.parity_det.specs.Determinisation.{IsParityAutomatonOf}
+use Rattle.plan_meaning.specs.Limits.{PassesOfBoth, PassesOfEither, PassesOfSum, PassesParityLimit, PassesUnlessDeterministic, limits_of_parity, limits_of_product}
 use Rattle.plan_meaning.specs.Operands.{operand_at, place_of_product, place_of_product_or, place_of_sum}
 use Rattle.plan_meaning.specs.Standing.{those_standing}
 use Rattle.plan_meaning.specs.declared.fault.PlanFault.{PlanFault}
@@ -51,24 +51,24 @@ pub data Change : Type 0 where
 abbrev pub in_disjunctive_form : Automaton → Automaton
 in_disjunctive_form a = record a { formula = of_terms (terms a.formula) }
 
-abbrev pub IsInForm : Form → Automaton → Automaton → Type 0
-IsInForm form.AsIs a made = ⊥
-IsInForm form.Deterministic a made = (core.IsDeterministic a × (made ≡ a)) ⊎ ((core.IsDeterministic a → ⊥) × IsParityOf a made)
-IsInForm form.Parity a made = IsParityOf a made
-IsInForm form.Buchi a made = made ≡ buchi a
-IsInForm form.RemoveFin a made = made ≡ without_fin a
-IsInForm form.Dnf a made = made ≡ in_disjunctive_form a
-IsInForm form.Monitor a made = IsMonitor a made
+abbrev pub IsMadeInForm : Form → Automaton → Automaton → Type 0
+IsMadeInForm form.AsIs a made = ⊥
+IsMadeInForm form.Deterministic a made = (core.IsDeterministic a × (made ≡ a)) ⊎ ((core.IsDeterministic a → ⊥) × IsParityAutomatonOf a made)
+IsMadeInForm form.Parity a made = IsParityAutomatonOf a made
+IsMadeInForm form.Buchi a made = made ≡ buchi a
+IsMadeInForm form.RemoveFin a made = made ≡ without_fin a
+IsMadeInForm form.Dnf a made = made ≡ in_disjunctive_form a
+IsMadeInForm form.Monitor a made = IsMonitorAutomaton a made
 
 -- what the change makes of an automaton, exactly
 abbrev pub Makes : Change → Automaton → Automaton → Type 0
 Makes (Product b) a made = IsProductOf a b made
-Makes (ProductOr b) a made = IsEitherOf a b made
+Makes (ProductOr b) a made = IsUnionProductOf a b made
 Makes (Sum b) a made = made ≡ summed a b
 Makes (RemoveAp h) a made = made ≡ hidden h.how h.name a
 Makes Trim a made = IsTrimmed a made
-Makes Complement a made = IsComplementOf a made
-Makes (Bring f) a made = IsInForm f a made
+Makes Complement a made = IsComplementAutomaton a made
+Makes (Bring f) a made = IsMadeInForm f a made
 Makes Complete a made = made ≡ completed a
 
 -- a count of the change is the first that passes its limit
@@ -90,13 +90,13 @@ abbrev pub PassesMonitor : Limit → Automaton → Type 0
 PassesMonitor limit.Terms a = PassesBuchi limit.Terms a
 PassesMonitor limit.BuchiStates a = PassesBuchi limit.BuchiStates a
 PassesMonitor limit.Classes a = (NeedsTooManyTerms a.formula → ⊥) × MeetsLimit a explored.Classes
-PassesMonitor limit.Subsets a = (NeedsTooManyTerms a.formula → ⊥) × MeetsLimit a explored.Things
+PassesMonitor limit.Subsets a = (NeedsTooManyTerms a.formula → ⊥) × MeetsLimit a explored.States
 PassesMonitor _ a = ⊥
 
 abbrev pub PassesForm : Limit → Form → Automaton → Type 0
 PassesForm which form.AsIs a = ⊥
 PassesForm which form.Deterministic a = PassesUnlessDeterministic which a
-PassesForm which form.Parity a = PassesParity which a
+PassesForm which form.Parity a = PassesParityLimit which a
 PassesForm which form.Buchi a = PassesBuchi which a
 PassesForm which form.RemoveFin a = PassesWithoutFin which a
 PassesForm which form.Dnf a = PassesDnf which a
@@ -180,7 +180,7 @@ Changed (Err (fault.Limit which)) cs a = StopsIn which cs a
 Changed (Err fault.Memory) cs a = Unit {0}
 
 -- the same of an answer with an automaton under guards
-abbrev pub ChangedTo : Result Core PlanFault → List Change → Automaton → Type 0
+abbrev pub ChangedTo : Result SymbolicAutomaton PlanFault → List Change → Automaton → Type 0
 ChangedTo result cs a = Changed (result_map_both automaton_of (λ fault. fault) result) cs a
 
 -- ---- what is accepted, over all lasso words

@@ -3,34 +3,34 @@ use Rattle.std.specs.Prelude.{◌≡◌, ◌+◌, ◌*◌, ◌≤◌, List, Opti
 use Rattle.aut_base.specs.Automaton.{Automaton}
 use Rattle.aut_base.specs.declared.limit.Limit.{Limit}
 use Rattle.aut_base.specs.declared.limit.TheConstants.{MOST_NODES}
-use Rattle.aut_core.specs.Core.{Core, automaton_of}
+use Rattle.aut_core.specs.SymbolicAutomata.{SymbolicAutomaton, automaton_of}
 use Rattle.filter_plan.specs.declared.plan.Plan.{Plan}
-use Rattle.parity_det.specs.Complements.{IsComplementOf}
-use Rattle.parity_laws.specs.Complement.{AreComplements}
+use Rattle.parity_det.specs.Complements.{IsComplementAutomaton}
+use Rattle.parity_laws.specs.Complement.{AreComplementLanguages}
 use Rattle.plan_meaning.specs.Limits.{PassesUnlessDeterministic}
 use Rattle.plan_meaning.specs.Operands.{operand_at, place_of_equivalent_to, place_of_included_in, refuted_operand}
 use Rattle.plan_meaning.specs.declared.complements.Complements.{Complements}
 
 -- It is the complement of the automaton, which passes no limit on the way.
-pub record IsKeptOf (b co : Automaton) : Type 0 where
-  pub complements : AreComplements b co
-  pub shape : IsComplementOf b co
+pub record IsKeptComplement (b co : Automaton) : Type 0 where
+  pub complements : AreComplementLanguages b co
+  pub shape : IsComplementAutomaton b co
   pub names : co.names ≡ b.names
   pub sets : co.sets ≤ b.sets + (2 * MOST_NODES + 1)
   pub within : (which : Limit) → PassesUnlessDeterministic which b → ⊥
 
 -- where something is kept it is the complement of this automaton
-abbrev pub KeepsOf : Automaton → Option Core → Type 0
-KeepsOf b kept = IfSome kept (λ co. IsKeptOf b (automaton_of co))
+abbrev pub KeepsComplement : Automaton → Option SymbolicAutomaton → Type 0
+KeepsComplement b kept = IfSome kept (λ co. IsKeptComplement b (automaton_of co))
 
 -- What is kept for an option is the complement of its operand.
-pub record AreKept (p : Plan) (ops : List Automaton) (cs : Complements) : Type 0 where
-  pub included_in : IfSome (operand_at p.included_in place_of_included_in ops) (λ b. KeepsOf b cs.included_in)
-  pub equivalent_to : IfSome (operand_at p.equivalent_to (place_of_equivalent_to p) ops) (λ b. KeepsOf b cs.equivalent_to)
-  pub refuted : IfSome (refuted_operand p ops) (λ b. KeepsOf b cs.refuted)
+pub record AreComplementsKept (p : Plan) (ops : List Automaton) (cs : Complements) : Type 0 where
+  pub included_in : IfSome (operand_at p.included_in place_of_included_in ops) (λ b. KeepsComplement b cs.included_in)
+  pub equivalent_to : IfSome (operand_at p.equivalent_to (place_of_equivalent_to p) ops) (λ b. KeepsComplement b cs.equivalent_to)
+  pub refuted : IfSome (refuted_operand p ops) (λ b. KeepsComplement b cs.refuted)
 
 -- What was kept is kept still, and is the same.
-abbrev pub StaysKept : Option Core → Option Core → Type 0
+abbrev pub StaysKept : Option SymbolicAutomaton → Option SymbolicAutomaton → Type 0
 StaysKept old new = is_some old ≡ true → new ≡ old
 
 pub record StayKept (old new : Complements) : Type 0 where
@@ -40,4 +40,4 @@ pub record StayKept (old new : Complements) : Type 0 where
 
 -- nothing is kept yet, so that it is true of any operands
 abbrev pub AreFresh : Complements → Type 0
-AreFresh cs = (p : Plan) (ops : List Automaton) → AreKept p ops cs
+AreFresh cs = (p : Plan) (ops : List Automaton) → AreComplementsKept p ops cs

@@ -9,7 +9,7 @@ use Rattle.aut_base.specs.declared.limit.Limit.{Limit}
 use Rattle.aut_base.specs.declared.limit.Limit.TheVariants as limit
 use Rattle.aut_core.specs.Deterministic as core
 use Rattle.aut_core.specs.OtherNames.{AcceptTheSame}
-use Rattle.filter_plan.specs.Spans.{IsIn}
+use Rattle.filter_plan.specs.Spans.{IsInRange}
 use Rattle.filter_plan.specs.declared.plan.Plan.{Plan}
 use Rattle.filter_plan.specs.declared.range.Range.{Range}
 use Rattle.lasso_emptiness.specs.Emptiness.{AcceptsNothing}
@@ -50,26 +50,26 @@ Holds (Intersects b) a = AcceptTogether a b
 Holds IsDeterministic a = core.IsDeterministic a
 Holds IsComplete a = core.IsComplete a
 Holds IsUnambiguous a = runs.IsUnambiguous a
-Holds (States r) a = IsIn r a.states
-Holds (Edges r) a = IsIn r (length a.edges)
-Holds (Sets r) a = IsIn r a.sets
-Holds (Names r) a = IsIn r (length a.names)
+Holds (States r) a = IsInRange r a.states
+Holds (Edges r) a = IsInRange r (length a.edges)
+Holds (Sets r) a = IsInRange r a.sets
+Holds (Names r) a = IsInRange r (length a.names)
 
 -- a count that the filter looks at is the first that passes its limit; labels are in canonical form
-abbrev pub Passes : Limit → Filter → Automaton → Type 0
-Passes which (AcceptsWord p) a = PassesOfWord which (canonical a) p
-Passes which (RejectsWord p) a = PassesOfWord which (canonical a) p
-Passes which (Intersects b) a = PassesOfBoth which (canonical a) b
-Passes which (IncludedIn b) a = PassesOfInclusion which (canonical a) b
-Passes which (EquivalentTo b) a = PassesOfEquivalence which (canonical a) b
-Passes which IsEmpty a = ⊥
-Passes which IsDeterministic a = ⊥
-Passes which IsComplete a = ⊥
-Passes which IsUnambiguous a = PassesOfSquare which (canonical a)
-Passes which (States r) a = ⊥
-Passes which (Edges r) a = ⊥
-Passes which (Sets r) a = ⊥
-Passes which (Names r) a = ⊥
+abbrev pub PassesLimitOf : Limit → Filter → Automaton → Type 0
+PassesLimitOf which (AcceptsWord p) a = PassesOfWord which (canonical a) p
+PassesLimitOf which (RejectsWord p) a = PassesOfWord which (canonical a) p
+PassesLimitOf which (Intersects b) a = PassesOfBoth which (canonical a) b
+PassesLimitOf which (IncludedIn b) a = PassesOfInclusion which (canonical a) b
+PassesLimitOf which (EquivalentTo b) a = PassesOfEquivalence which (canonical a) b
+PassesLimitOf which IsEmpty a = ⊥
+PassesLimitOf which IsDeterministic a = ⊥
+PassesLimitOf which IsComplete a = ⊥
+PassesLimitOf which IsUnambiguous a = PassesOfSquare which (canonical a)
+PassesLimitOf which (States r) a = ⊥
+PassesLimitOf which (Edges r) a = ⊥
+PassesLimitOf which (Sets r) a = ⊥
+PassesLimitOf which (Names r) a = ⊥
 
 -- the limits that a filter may pass: it passes none of the others
 abbrev pub limits_of_filter : Filter → List Limit
@@ -89,11 +89,11 @@ limits_of_filter (Names r) = []
 
 -- The filter is examined within all limits, and it holds, or doesn't.
 pub record HoldsWithin (f : Filter) (a : Automaton) : Type 0 where
-  pub within : (which : Limit) → Passes which f a → ⊥
+  pub within : (which : Limit) → PassesLimitOf which f a → ⊥
   pub holds : Holds f a
 
 pub record LacksWithin (f : Filter) (a : Automaton) : Type 0 where
-  pub within : (which : Limit) → Passes which f a → ⊥
+  pub within : (which : Limit) → PassesLimitOf which f a → ⊥
   pub fails : Holds f a → ⊥
 
 -- ---- the filters of a plan
@@ -124,7 +124,7 @@ abbrev pub AllHold : List Filter → Automaton → Type 0
 AllHold fs a = AllByRecursion (λ f. HoldsWithin f a) fs
 
 -- A filter doesn't hold, and all before it do: it is the last that is examined.
-pub record FailsAt (fs : List Filter) (a : Automaton) : Type 0 where
+pub record FailsAtFilter (fs : List Filter) (a : Automaton) : Type 0 where
   pub before : List Filter
   pub filter : Filter
   pub after : List Filter
@@ -139,15 +139,15 @@ pub record PassesAt (which : Limit) (fs : List Filter) (a : Automaton) : Type 0 
   pub after : List Filter
   pub all : fs ≡ before ++ filter ∷ after
   pub held : AllHold before a
-  pub passes : Passes which filter a
+  pub passes : PassesLimitOf which filter a
 
 -- An automaton is kept where all filters hold, and dropped where one doesn't; the other way round where the plan inverts.
 abbrev pub IsKeptBy : Bool → List Filter → Automaton → Type 0
 IsKeptBy false fs a = AllHold fs a
-IsKeptBy true fs a = FailsAt fs a
+IsKeptBy true fs a = FailsAtFilter fs a
 
 abbrev pub IsDroppedBy : Bool → List Filter → Automaton → Type 0
-IsDroppedBy false fs a = FailsAt fs a
+IsDroppedBy false fs a = FailsAtFilter fs a
 IsDroppedBy true fs a = AllHold fs a
 
 abbrev pub IsKept : Plan → List Automaton → Automaton → Type 0

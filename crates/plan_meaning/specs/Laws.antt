@@ -4,7 +4,7 @@ use Rattle.aut_base.specs.Automaton.{Automaton}
 use Rattle.aut_base.specs.declared.limit.Limit.{Limit}
 use Rattle.filter_plan.specs.declared.plan.Plan.{Plan}
 use Rattle.plan_meaning.specs.Changes.{Change, MakesAll, PassesIn, StopsIn, changes_of, limits_of_change}
-use Rattle.plan_meaning.specs.Filters.{Filter, IsDropped, IsKept, IsOverFilters, Passes, limits_of_filter}
+use Rattle.plan_meaning.specs.Filters.{Filter, IsDropped, IsKept, IsOverFilters, PassesLimitOf, limits_of_filter}
 use Rattle.plan_meaning.specs.Limits.{PassesOfInclusion, limits_of_inclusion}
 
 -- the verdict on an automaton
@@ -19,12 +19,12 @@ IsVerdict Dropped p ops a = IsDropped p ops a
 IsVerdict (Over which) p ops a = IsOverFilters which p ops a
 
 -- There is no more than one verdict,
-abbrev pub OneVerdict : Type 0
-OneVerdict = (p : Plan) (ops : List Automaton) (a : Automaton) (v w : Verdict) → IsVerdict v p ops a → IsVerdict w p ops a → v ≡ w
+abbrev pub VerdictIsOne : Type 0
+VerdictIsOne = (p : Plan) (ops : List Automaton) (a : Automaton) (v w : Verdict) → IsVerdict v p ops a → IsVerdict w p ops a → v ≡ w
 
 -- and no automaton on which there is none.
-abbrev pub SomeVerdict : Type 0
-SomeVerdict = (p : Plan) (ops : List Automaton) (a : Automaton) → ((v : Verdict) → IsVerdict v p ops a → ⊥) → ⊥
+abbrev pub AVerdictExists : Type 0
+AVerdictExists = (p : Plan) (ops : List Automaton) (a : Automaton) → ((v : Verdict) → IsVerdict v p ops a → ⊥) → ⊥
 
 -- Where two automata are compared, no more than one limit is passed.
 abbrev pub OneLimitOfInclusion : Type 0
@@ -32,7 +32,7 @@ OneLimitOfInclusion = (which other : Limit) (a b : Automaton) → PassesOfInclus
 
 -- A filter passes no limits but those of its list, and neither does a change, nor the comparison of two automata.
 pub record PassTheirOwn : Type 0 where
-  pub filter : (f : Filter) (which : Limit) (a : Automaton) → Passes which f a → Contains (limits_of_filter f) which
+  pub filter : (f : Filter) (which : Limit) (a : Automaton) → PassesLimitOf which f a → Contains (limits_of_filter f) which
   pub change : (c : Change) (which : Limit) (a : Automaton) → PassesIn which c a → Contains (limits_of_change c) which
   pub inclusion : (which : Limit) (a b : Automaton) → PassesOfInclusion which a b → Contains limits_of_inclusion which
 

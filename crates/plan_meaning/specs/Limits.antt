@@ -13,7 +13,7 @@ use Rattle.aut_core.specs.OtherNames.{joined_names}
 use Rattle.aut_ops.specs.Completion.{completed}
 use Rattle.aut_ops.specs.Products.{HasMorePairs, over_both}
 use Rattle.parity_det.specs.Complements as det
-use Rattle.parity_det.specs.Complements.{IsComplementOf}
+use Rattle.parity_det.specs.Complements.{IsComplementAutomaton}
 use Rattle.parity_det.specs.declared.fault.CompFault.TheVariants as comp
 use Rattle.word_syntax.specs.Grammar.{WordPattern}
 use Rattle.word_syntax.specs.Matching.{word_automaton}
@@ -67,17 +67,17 @@ PassesOfWord which a p =
     ⊎ ((length p.names ≤ MOST_NAMES) × PassesOfBoth which a (canonical (word_automaton p)))
 
 -- those of the Büchi form, and then the first that its determinisation meets
-abbrev pub PassesParity : Limit → Automaton → Type 0
-PassesParity limit.Terms a = det.PassesParity comp.Terms a
-PassesParity limit.BuchiStates a = det.PassesParity comp.BuchiStates a
-PassesParity limit.Trees a = det.PassesParity comp.Trees a
-PassesParity limit.Nodes a = det.PassesParity comp.Nodes a
-PassesParity limit.Classes a = det.PassesParity comp.Classes a
-PassesParity _ a = ⊥
+abbrev pub PassesParityLimit : Limit → Automaton → Type 0
+PassesParityLimit limit.Terms a = det.PassesParity comp.Terms a
+PassesParityLimit limit.BuchiStates a = det.PassesParity comp.BuchiStates a
+PassesParityLimit limit.Trees a = det.PassesParity comp.Trees a
+PassesParityLimit limit.Nodes a = det.PassesParity comp.Nodes a
+PassesParityLimit limit.Classes a = det.PassesParity comp.Classes a
+PassesParityLimit _ a = ⊥
 
 -- the same, where the automaton isn't deterministic; else none
 abbrev pub PassesUnlessDeterministic : Limit → Automaton → Type 0
-PassesUnlessDeterministic which a = (core.IsDeterministic a → ⊥) × PassesParity which a
+PassesUnlessDeterministic which a = (core.IsDeterministic a → ⊥) × PassesParityLimit which a
 
 -- ---- two automata compared
 
@@ -88,7 +88,7 @@ IsIncluded a b = (u v : List NameSet) → Accepts a u v → Accepts b u v
 -- a product of the one with the complement of the other
 pub record PassesWithComplement (which : Limit) (a b : Automaton) : Type 0 where
   pub co : Automaton
-  pub is : IsComplementOf b co
+  pub is : IsComplementAutomaton b co
   pub passes : PassesOfBoth which a co
 
 -- whether the one is included in the other: the complement of the other, then its product with the one

@@ -4,7 +4,7 @@ use Rattle.std.specs.Prelude.{◌≡◌, ℕ, ◌+◌, ◌≤◌, List, length, 
 use Rattle.aut_base.specs.Automaton.{Automaton}
 use Rattle.aut_base.specs.declared.limit.TheConstants.{MOST_SETS, MOST_STATES}
 use Rattle.filter_plan.specs.Table.{refuted}
-use Rattle.filter_plan.specs.Words.{listed, operands}
+use Rattle.filter_plan.specs.Words.{file_list, operands}
 use Rattle.filter_plan.specs.declared.plan.Plan.{Plan}
 
 -- the places of operands in the list: behind those of the options before
@@ -12,22 +12,22 @@ abbrev pub place_of_included_in : ℕ
 place_of_included_in = 0
 
 abbrev pub place_of_equivalent_to : Plan → ℕ
-place_of_equivalent_to p = length (listed p.included_in)
+place_of_equivalent_to p = length (file_list p.included_in)
 
 abbrev pub place_of_intersect : Plan → ℕ
-place_of_intersect p = place_of_equivalent_to p + length (listed p.equivalent_to)
+place_of_intersect p = place_of_equivalent_to p + length (file_list p.equivalent_to)
 
 abbrev pub place_of_product : Plan → ℕ
-place_of_product p = place_of_intersect p + length (listed p.intersect)
+place_of_product p = place_of_intersect p + length (file_list p.intersect)
 
 abbrev pub place_of_product_or : Plan → ℕ
-place_of_product_or p = place_of_product p + length (listed p.product)
+place_of_product_or p = place_of_product p + length (file_list p.product)
 
 abbrev pub place_of_sum : Plan → ℕ
-place_of_sum p = place_of_product_or p + length (listed p.product_or)
+place_of_sum p = place_of_product_or p + length (file_list p.product_or)
 
 abbrev pub place_of_refuted : Plan → ℕ
-place_of_refuted p = place_of_sum p + length (listed p.sum)
+place_of_refuted p = place_of_sum p + length (file_list p.sum)
 
 -- the operand at a place, where its option stands
 abbrev pub operand_at : Option (List ℕ) → ℕ → List Automaton → Option Automaton

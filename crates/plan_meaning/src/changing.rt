@@ -4,12 +4,12 @@ ghost use Rattle.std.specs.Prelude.{◌≡◌, ◌<◌, ◌≤◌, ◌^◌, IfOk
 ghost use Rattle.ap_project.specs.Laws.{SayTheSame};
 ghost use Rattle.aut_base.specs.Acceptance.{Accepts};
 ghost use Rattle.aut_base.specs.declared.limit.TheConstants.{MOST_NAMES};
-ghost use Rattle.aut_core.specs.Core.{automaton_of};
+ghost use Rattle.aut_core.specs.SymbolicAutomata.{automaton_of};
 ghost use Rattle.plan_meaning.specs.Changes.{ChangedTo, changes_of, set_operation};
 ghost use Rattle.plan_meaning.specs.Operands.{AreOperands, IsOfReadSize};
 ghost use Rattle.filter_plan.specs.declared.plan.Form.{Form};
 ghost use Rattle.plan_meaning.specs.Promises.{HasFewSetsUnder, KeepsPromises};
-ghost use Rattle.plan_meaning.specs.inner.Stepping.{IsOfLastSize, IsOfSizeFor, Steps, changes_asked};
+ghost use Rattle.plan_meaning.specs.inner.Stepping.{IsOfLastSize, IsOfSizeFor, StepsChanges, changes_asked};
 
 mod combining;
 mod determinising;
@@ -44,14 +44,14 @@ pub fn change(
     ensures sized { IfOk result (λ made. (made.states < 2 ^ 32) × (made.sets < 2 ^ 32) × (length made.names ≤ MOST_NAMES)) }
 {
     let made = make_all(alloc, &changes(plan, operands), a)?;
-    made.whole();
+    made.well_formed();
     Ok(made)
 }
 
 /// Makes the changes that are asked for, one after the other.
 fn make_all(alloc: Global, changes: &[Option<Change>], a: Automaton) -> Result<Automaton, PlanFault>
     requires { IsOfSizeFor (changes_asked changes.now) (automaton_of a) }
-    ensures steps { Steps (changes_asked changes.now) (automaton_of a) result }
+    ensures steps { StepsChanges (changes_asked changes.now) (automaton_of a) result }
     ensures size { IfOk result (λ made. IsOfLastSize (automaton_of made)) }
 {
     let mut made = a;

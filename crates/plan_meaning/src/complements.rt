@@ -1,8 +1,8 @@
 //! Complements of operands, each made when it is first asked for and kept from then on.
 
 ghost use Rattle.std.specs.Prelude.{◌≡◌, IfErr, OnOk, is_some, true};
-ghost use Rattle.aut_core.specs.Core.{automaton_of};
-ghost use Rattle.plan_meaning.specs.Complements.{AreFresh, KeepsOf, StaysKept};
+ghost use Rattle.aut_core.specs.SymbolicAutomata.{automaton_of};
+ghost use Rattle.plan_meaning.specs.Complements.{AreFresh, KeepsComplement, StaysKept};
 ghost use Rattle.plan_meaning.specs.Operands.{IsOfReadSize};
 ghost use Rattle.plan_meaning.specs.inner.Beside.{FindsBeside};
 ghost use Rattle.parity_det.specs.Complements.{IsRefusal};
@@ -47,9 +47,9 @@ pub(crate) fn word_beside(
 ) -> Result<Option<Lasso>, PlanFault>
     requires size { IsOfReadSize (automaton_of a.now) }
     requires other_size { IsOfReadSize (automaton_of b.now) }
-    requires kept { KeepsOf (automaton_of b.now) kept.old }
+    requires kept { KeepsComplement (automaton_of b.now) kept.old }
     ensures finds { FindsBeside result (automaton_of a.now) (automaton_of b.now) }
-    ensures kept { KeepsOf (automaton_of b.now) kept.new }
+    ensures kept { KeepsComplement (automaton_of b.now) kept.new }
     ensures stays { StaysKept kept.old kept.new }
 {
     keep_complement(alloc, b, kept)?;
@@ -66,8 +66,8 @@ pub(crate) fn keep_complement(
     kept: &mut Option<Automaton>,
 ) -> Result<(), CompFault>
     requires size { IsOfReadSize (automaton_of b.now) }
-    requires kept { KeepsOf (automaton_of b.now) kept.old }
-    ensures kept { KeepsOf (automaton_of b.now) kept.new }
+    requires kept { KeepsComplement (automaton_of b.now) kept.old }
+    ensures kept { KeepsComplement (automaton_of b.now) kept.new }
     ensures stays { StaysKept kept.old kept.new }
     ensures made { OnOk result (is_some kept.new ≡ true) }
     ensures refused { IfErr result (IsRefusal (automaton_of b.now)) }

@@ -123,9 +123,9 @@ impl From<CompFault> for PlanFault {
 
 impl From<BuchiFault> for PlanFault {
     ghost use Rattle.std.specs.Prelude.{◌≡◌};
-    ghost use Rattle.plan_meaning.specs.inner.Faults.{fault_of_buchi};
+    ghost use Rattle.plan_meaning.specs.inner.Faults.{plan_fault_of_buchi};
 
-    ghost from_gives = { λ came fault. fault ≡ fault_of_buchi came };
+    ghost from_gives = { λ came fault. fault ≡ plan_fault_of_buchi came };
 
     fn from(came: BuchiFault) -> PlanFault {
         match came {

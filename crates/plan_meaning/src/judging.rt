@@ -6,8 +6,8 @@ mod meeting;
 mod square;
 
 ghost use Rattle.std.specs.Prelude.{map};
-ghost use Rattle.aut_core.specs.Core.{automaton_of};
-ghost use Rattle.plan_meaning.specs.Complements.{AreKept, StayKept};
+ghost use Rattle.aut_core.specs.SymbolicAutomata.{automaton_of};
+ghost use Rattle.plan_meaning.specs.Complements.{AreComplementsKept, StayKept};
 ghost use Rattle.plan_meaning.specs.Filters.{Judged, filters};
 ghost use Rattle.plan_meaning.specs.Operands.{AreOperands, IsOfReadSize};
 ghost use Rattle.plan_meaning.specs.inner.Judging.{JudgesWithin};
@@ -33,9 +33,9 @@ pub fn judge(
 ) -> Result<bool, PlanFault>
     requires operands { AreOperands plan.now (map automaton_of operands.now) }
     requires size { IsOfReadSize (automaton_of a.now) }
-    requires kept { AreKept plan.now (map automaton_of operands.now) complements.old }
+    requires kept { AreComplementsKept plan.now (map automaton_of operands.now) complements.old }
     ensures judged { Judged result plan.now (map automaton_of operands.now) (automaton_of a.now) }
-    ensures kept { AreKept plan.now (map automaton_of operands.now) complements.new }
+    ensures kept { AreComplementsKept plan.now (map automaton_of operands.now) complements.new }
     ensures stay { StayKept complements.old complements.new }
 {
     let holds = hold_all(alloc, plan, operands, complements, a)?;
@@ -52,9 +52,9 @@ fn hold_all(
 ) -> Result<bool, PlanFault>
     requires operands { AreOperands plan.now (map automaton_of operands.now) }
     requires size { IsOfReadSize (automaton_of a.now) }
-    requires kept { AreKept plan.now (map automaton_of operands.now) complements.old }
+    requires kept { AreComplementsKept plan.now (map automaton_of operands.now) complements.old }
     ensures judges { JudgesWithin result (filters plan.now (map automaton_of operands.now)) (automaton_of a.now) }
-    ensures kept { AreKept plan.now (map automaton_of operands.now) complements.new }
+    ensures kept { AreComplementsKept plan.now (map automaton_of operands.now) complements.new }
     ensures stay { StayKept complements.old complements.new }
 {
     let asked = filters(plan, operands);

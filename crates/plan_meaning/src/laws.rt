@@ -1,16 +1,16 @@
 //! What holds of the verdict on an automaton.
 
-ghost use Rattle.plan_meaning.specs.Laws.{OneLimitOfInclusion, OneVerdict, PassTheirOwn, SomeVerdict};
+ghost use Rattle.plan_meaning.specs.Laws.{OneLimitOfInclusion, VerdictIsOne, PassTheirOwn, AVerdictExists};
 
 /// There is no more than one verdict on an automaton, and where it is compared with another no more than one limit is passed.
-pub fn one_verdict()
-    ensures verdict { OneVerdict }
+pub fn verdict_is_one()
+    ensures verdict { VerdictIsOne }
     ensures inclusion { OneLimitOfInclusion }
 {}
 
 /// There is no automaton on which there is no verdict.
-pub fn some_verdict()
-    ensures { SomeVerdict }
+pub fn a_verdict_exists()
+    ensures { AVerdictExists }
 {}
 
 /// No limits are passed but those that are listed for a filter, a change and the comparison of two automata.

@@ -21,6 +21,6 @@ pub use changing::change;
 pub use complements::Complements;
 pub use fault::PlanFault;
 pub use judging::judge;
-pub use laws::{one_verdict, only_own_limits, some_verdict};
+pub use laws::{a_verdict_exists, only_own_limits, verdict_is_one};
 pub use operands::Automata;
 pub use refuting::{Refutation, refute};

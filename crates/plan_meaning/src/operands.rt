@@ -2,7 +2,7 @@
 
 ghost use Rattle.std.specs.Prelude.{◌≡◌, ◌<◌, ◌≤◌, All, IfSome, is_some, length, map, true};
 ghost use Rattle.std.specs.Option.{option_map};
-ghost use Rattle.aut_core.specs.Core.{automaton_of};
+ghost use Rattle.aut_core.specs.SymbolicAutomata.{automaton_of};
 ghost use Rattle.plan_meaning.specs.Operands.{AreOperands, IsOfReadSize, operand_at, refuted_operand};
 ghost use Rattle.plan_meaning.specs.Operands.{place_of_equivalent_to, place_of_included_in, place_of_intersect, place_of_product, place_of_product_or, place_of_refuted, place_of_sum};
 

@@ -1,9 +1,9 @@
 //! A word that an automaton accepts and the operand of `--refute` doesn't.
 
 ghost use Rattle.std.specs.Prelude.{◌≡◌, is_some, map, true, MatchOption};
-ghost use Rattle.aut_core.specs.Core.{automaton_of};
+ghost use Rattle.aut_core.specs.SymbolicAutomata.{automaton_of};
 ghost use Rattle.filter_plan.specs.Table.{refuted};
-ghost use Rattle.plan_meaning.specs.Complements.{AreKept, KeepsOf, StayKept, StaysKept};
+ghost use Rattle.plan_meaning.specs.Complements.{AreComplementsKept, KeepsComplement, StayKept, StaysKept};
 ghost use Rattle.plan_meaning.specs.Operands.{AreOperands, IsOfReadSize, refuted_operand};
 ghost use Rattle.plan_meaning.specs.Refutations.{Refuted};
 
@@ -36,9 +36,9 @@ pub fn refute(
     requires refutes { is_some (refuted plan.now.output) ≡ true }
     requires operands { AreOperands plan.now (map automaton_of operands.now) }
     requires size { IsOfReadSize (automaton_of a.now) }
-    requires kept { AreKept plan.now (map automaton_of operands.now) complements.old }
+    requires kept { AreComplementsKept plan.now (map automaton_of operands.now) complements.old }
     ensures refuted { MatchOption (refuted_operand plan.now (map automaton_of operands.now)) ⊥ (λ b. Refuted result (automaton_of a.now) b) }
-    ensures kept { AreKept plan.now (map automaton_of operands.now) complements.new }
+    ensures kept { AreComplementsKept plan.now (map automaton_of operands.now) complements.new }
     ensures stay { StayKept complements.old complements.new }
 {
     match refuted_operand(plan, operands) {
@@ -56,9 +56,9 @@ fn refuted_by(
 ) -> Result<Option<Refutation>, PlanFault>
     requires size { IsOfReadSize (automaton_of a.now) }
     requires other_size { IsOfReadSize (automaton_of other.now) }
-    requires kept { KeepsOf (automaton_of other.now) kept.old }
+    requires kept { KeepsComplement (automaton_of other.now) kept.old }
     ensures refuted { Refuted result (automaton_of a.now) (automaton_of other.now) }
-    ensures kept { KeepsOf (automaton_of other.now) kept.new }
+    ensures kept { KeepsComplement (automaton_of other.now) kept.new }
     ensures stays { StaysKept kept.old kept.new }
 {
     match word_beside(alloc, a, other, kept)? {

@@ -7,8 +7,8 @@ use Rattle.real_io.specs.declared.inputs.Origin.TheVariants.{File, Nothing, Stan
 use Rattle.real_io.specs.declared.inputs.RealInputs.{RealInputs}
 
 -- Of all texts they tell only how many calls failed.
-abbrev pub seen_of : {R O F : Type 0} → RealInputs R O F → Seen
-seen_of s = record { texts = None; left = None; openings = s.openings; open_faults = s.open_faults; read_faults = s.read_faults }
+abbrev pub seen_of_real : {R O F : Type 0} → RealInputs R O F → Seen
+seen_of_real s = record { texts = None; left = None; openings = s.openings; open_faults = s.open_faults; read_faults = s.read_faults }
 
 -- the bytes at hand: those of the block, where a text is open
 abbrev pub at_hand_in : {F : Type 0} → Origin F → List ℕ → List ℕ
@@ -29,8 +29,8 @@ left_of of_reader of_file standard Nothing block = Some []
 left_of of_reader of_file standard Standard block = prepend_known block (of_reader standard)
 left_of of_reader of_file standard (File file) block = prepend_known block (of_file file)
 
-abbrev pub unread : {R O F : Type 0} → (R → Option (List ℕ)) → (F → Option (List ℕ)) → RealInputs R O F → Option (List ℕ)
-unread of_reader of_file s = left_of of_reader of_file s.standard s.origin s.block
+abbrev pub unread_text : {R O F : Type 0} → (R → Option (List ℕ)) → (F → Option (List ℕ)) → RealInputs R O F → Option (List ℕ)
+unread_text of_reader of_file s = left_of of_reader of_file s.standard s.origin s.block
 
 -- what standard input has left, where it is known
 abbrev pub unread_standard : {R O F : Type 0} → (R → Option (List ℕ)) → RealInputs R O F → Option (List ℕ)

@@ -30,12 +30,12 @@ pub record IsAnswered {F : Type 0} (answers : Result F Error → Type 0) (result
   pub told : result ≡ told_of answer
 
 -- What is open after a file was asked for: the file, or nothing where it was refused.
-abbrev pub Leaves : {F : Type 0} → Result F OpenFail → Result (Unit {0}) OpenFail → Origin F → Type 0
-Leaves (Ok file) result origin = (result ≡ Ok tt) × (origin ≡ File file)
-Leaves (Err why) result origin = (result ≡ Err why) × (origin ≡ Nothing)
+abbrev pub LeavesOpen : {F : Type 0} → Result F OpenFail → Result (Unit {0}) OpenFail → Origin F → Type 0
+LeavesOpen (Ok file) result origin = (result ≡ Ok tt) × (origin ≡ File file)
+LeavesOpen (Err why) result origin = (result ≡ Err why) × (origin ≡ Nothing)
 
 -- The file is open that the system gave, or nothing is and the result says why.
 pub record OpensFile {F : Type 0} (answers : Result F Error → Type 0) (result : Result (Unit {0}) OpenFail) (origin : Origin F) : Type 0 where
   pub opened : Result F OpenFail
   pub answered : IsAnswered answers opened
-  pub leaves : Leaves opened result origin
+  pub leaves : LeavesOpen opened result origin

@@ -3,8 +3,8 @@
 ghost use Rattle.std.specs.Prelude.{◌≡◌, ◌≢◌, ◌≤◌, [], length, take, IfOk, IsUtf8};
 ghost use Rattle.std.specs.Io.KnownBytes.{Consumes};
 ghost use Rattle.aut_io.specs.Outside.{Rose};
-ghost use Rattle.aut_io.specs.Seen.{Nexts, Opens, Skips};
-ghost use Rattle.real_io.specs.Left.{KeepsStandard, at_hand, of_standard, seen_of, unread, unread_standard};
+ghost use Rattle.aut_io.specs.Seen.{Nexts, Opens, SkipsBytes};
+ghost use Rattle.real_io.specs.Left.{KeepsStandard, at_hand, of_standard, seen_of_real, unread_text, unread_standard};
 ghost use Rattle.real_io.specs.Opening.{IsAnswered, OpensFile, fail_of, standard_name};
 ghost use Rattle.real_io.specs.Unread.{GivesFirst};
 
@@ -62,14 +62,14 @@ impl<R: Read + Drop, O: Opener + Drop> RealInputs<R, O> {
 }
 
 impl<R: Read + Drop, O: Opener + Drop> Inputs for RealInputs<R, O> {
-    ghost seen = { seen_of };
+    ghost seen = { seen_of_real };
 
     ghost at_hand = { at_hand };
 
     ghost may_open = { λ _. Unit {0} };
 
     fn open(&mut self, name: &Text) -> Result<(), OpenFail>
-        ensures told { Opens (seen_of self.old) name.now result (seen_of self.new) }
+        ensures told { Opens (seen_of_real self.old) name.now result (seen_of_real self.new) }
 
         // What is open then: standard input, a file as the opener gave it, or nothing.
         ensures standard { name.now ≡ standard_name → (result ≡ Ok tt) × (self.new.origin ≡ Origin.Standard) }
@@ -110,10 +110,10 @@ impl<R: Read + Drop, O: Opener + Drop> Inputs for RealInputs<R, O> {
 
     #[inline]
     fn next(&mut self) -> Result<Option<u8>, Failed>
-        ensures told { Nexts (seen_of self.old) result (seen_of self.new) }
+        ensures told { Nexts (seen_of_real self.old) result (seen_of_real self.new) }
 
         // The first byte of what the block still holds, followed by what the reader of the open text has left.
-        ensures gives { GivesFirst (unread R.remaining O.File.remaining self.old) (unread R.remaining O.File.remaining self.new) result }
+        ensures gives { GivesFirst (unread_text R.remaining O.File.remaining self.old) (unread_text R.remaining O.File.remaining self.new) result }
         ensures closed { self.old.origin ≡ Origin.Nothing → result ≡ Ok None }
 
         // At its end a text is let go, so it is not asked for more behind it.
@@ -152,10 +152,10 @@ impl<R: Read + Drop, O: Opener + Drop> Inputs for RealInputs<R, O> {
     #[inline]
     fn skip(&mut self, count: usize)
         requires { count ≤ length (at_hand self.old) }
-        ensures told { Skips (seen_of self.old) (take count (at_hand self.old)) (seen_of self.new) }
+        ensures told { SkipsBytes (seen_of_real self.old) (take count (at_hand self.old)) (seen_of_real self.new) }
 
         // These bytes are the first of what the open text has left, and the others stay.
-        ensures gives { Consumes (unread R.remaining O.File.remaining self.old) (unread R.remaining O.File.remaining self.new) (take count (at_hand self.old)) }
+        ensures gives { Consumes (unread_text R.remaining O.File.remaining self.old) (unread_text R.remaining O.File.remaining self.new) (take count (at_hand self.old)) }
         ensures open { self.new.origin ≡ self.old.origin }
 
         // The same of standard input where it is open. Nothing is taken of it where it isn't.

@@ -3,7 +3,7 @@
 ghost use Rattle.std.specs.Prelude.{◌≡◌, ◌≢◌, ◌≤◌, [], IfErr, None, OnErr, OnOk, length, take};
 ghost use Rattle.std.specs.Io.KnownBytes.{Appends};
 ghost use Rattle.aut_io.specs.Outside.{Rose};
-ghost use Rattle.aut_io.specs.Seen.{Writes};
+ghost use Rattle.aut_io.specs.Seen.{WritesPiece};
 ghost use Rattle.real_io.specs.Sent.{AppendsFront};
 
 use crate::refusals::Refusals;
@@ -35,7 +35,7 @@ impl<W: Write> Sink for RealSink<W> {
     ghost seen = { λ s. record { written = None; faults = s.faults } };
 
     fn write(&mut self, piece: &[u8]) -> Result<(), Failed>
-        ensures told { Writes (record { written = None; faults = self.old.faults }) piece.now result (record { written = None; faults = self.new.faults }) }
+        ensures told { WritesPiece (record { written = None; faults = self.old.faults }) piece.now result (record { written = None; faults = self.new.faults }) }
 
         // The writer holds the piece more, or a front of it where the write failed: no byte is written twice or out of its turn.
         ensures gains { OnOk result (Appends (W.contents self.old.writer) (W.contents self.new.writer) piece.now) }

@@ -4,7 +4,7 @@ use Rattle.std.proofs.lemmas.Bool.{cases_lt, true≢false}
 use Rattle.std.proofs.lemmas.List.{get_or_past}
 use Rattle.safra_trees.proofs.list_step.Pruned.{grown_forest, pruned_length, pruned_parts, pruned_tree}
 use Rattle.safra_trees.proofs.list_step.Ranks.{rank_back}
-use Rattle.safra_trees.specs.Step.{IsTree, grown, pruned, stays}
+use Rattle.safra_trees.specs.Step.{IsTree, grown, pruned, survives}
 use Rattle.safra_trees.specs.Trees.{Node, has, holds}
 use Rattle.safra_trees.specs.declared.moves.Move.{Move}
 use Rattle.safra_laws.specs.Rounds.{next_tree, tree_after}
@@ -32,5 +32,5 @@ holds_within t x s h = elim (cases_lt x (length t)) [
 pub held_below : (n : ℕ) (ms : List Move) (t : List Node) (x q : ℕ) → x < length (next_tree n ms t) → holds (next_tree n ms t) x q ≡ true → q < n
 held_below n ms t x q within here =
     let f = grown n ms t in
-    let at = rank_back (stays f) f.size x (omega (arith, within, pruned_length f)) in
+    let at = rank_back (survives f) f.size x (omega (arith, within, pruned_length f)) in
     (pruned_parts f at.name q at.below at.stays (subst (λ y. holds (pruned f) y q ≡ true) (sym at.is) here)).1

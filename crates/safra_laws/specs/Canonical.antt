@@ -1,17 +1,17 @@
 -- Trees of which equal ones are equal lists.
 use Rattle.std.specs.Prelude.{◌≡◌, ◌<◌, ℕ, List, length}
-use Rattle.safra_trees.specs.Step.{IsTree, names}
+use Rattle.safra_trees.specs.Step.{IsTree, names_where}
 use Rattle.safra_trees.specs.Trees.{Node, first_tree, holds, node_at}
 use Rattle.safra_trees.specs.declared.moves.Move.{Move}
 use Rattle.safra_laws.specs.Rounds.{next_tree}
 
 -- sets in the order of their states, and the root its own parent
-pub record IsCanonical (n : ℕ) (t : List Node) : Type 0 where
-  pub sets : (x : ℕ) → x < length t → (node_at t x).states ≡ names (holds t x) n
+pub record IsCanonicalTree (n : ℕ) (t : List Node) : Type 0 where
+  pub sets : (x : ℕ) → x < length t → (node_at t x).states ≡ names_where (holds t x) n
   pub root : (node_at t 0).parent ≡ 0
 
 abbrev pub FirstIsCanonical : Type 0
-FirstIsCanonical = (n : ℕ) (starts : List ℕ) → IsCanonical n (first_tree n starts)
+FirstIsCanonical = (n : ℕ) (starts : List ℕ) → IsCanonicalTree n (first_tree n starts)
 
 abbrev pub StepsKeepCanonical : Type 0
-StepsKeepCanonical = (n : ℕ) (ms : List Move) (t : List Node) → IsTree t → IsCanonical n t → IsCanonical n (next_tree n ms t)
+StepsKeepCanonical = (n : ℕ) (ms : List Move) (t : List Node) → IsTree t → IsCanonicalTree n t → IsCanonicalTree n (next_tree n ms t)

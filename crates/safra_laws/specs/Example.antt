@@ -4,7 +4,7 @@ use Rattle.std.specs.Prelude.{◌≡◌, false, true, List, [], ◌∷◌}
 use Rattle.safra_trees.specs.Step.{IsTree, grown, greens, reds}
 use Rattle.safra_trees.specs.Trees.{Node, first_tree, holds}
 use Rattle.safra_trees.specs.declared.moves.Move.{Move}
-use Rattle.safra_laws.specs.Canonical.{IsCanonical}
+use Rattle.safra_laws.specs.Canonical.{IsCanonicalTree}
 use Rattle.safra_laws.specs.Priorities.{IsOdd, least_priority, priorities}
 use Rattle.safra_laws.specs.Rounds.{GoalsBelow, HasGreenName, IsAccepted, IsMovePath, NamesAtMost, next_tree, tree_after}
 
@@ -54,7 +54,7 @@ pub record WorkedPriorities : Type 0 where
 -- All that the laws ask of a round is so of the round `a`: of the run that stays in state 1, and of the trees.
 pub record WorkedRound : Type 0 where
   pub is_tree : IsTree tree_with_child
-  pub canonical : IsCanonical 2 tree_with_child
+  pub canonical : IsCanonicalTree 2 tree_with_child
   pub rooted : holds tree_with_child 0 1 ≡ true
   pub goals : GoalsBelow 2 (letter_a ∷ [])
   pub path : IsMovePath 1 (letter_a ∷ []) (stays_in ∷ []) 1

@@ -29,7 +29,7 @@ GoalsBelow n [] = Unit {0}
 GoalsBelow n (ms ∷ w) = ((m : Move) → Contains ms m → m.to < n) × GoalsBelow n w
 
 -- a path from a start to the state takes one move of each letter
-pub record IsReached (starts : List ℕ) (w : List (List Move)) (state : ℕ) : Type 0 where
+pub record IsReachedByWord (starts : List ℕ) (w : List (List Move)) (state : ℕ) : Type 0 where
   pub start : ℕ
   pub path : List Move
   pub is_start : Contains starts start

@@ -4,7 +4,7 @@ use Rattle.safra_trees.specs.Step.{IsTree}
 use Rattle.safra_trees.specs.Trees.{Node, first_tree, holds}
 use Rattle.safra_trees.specs.declared.moves.Move.{Move}
 use Rattle.safra_laws.specs.Priorities.{priority}
-use Rattle.safra_laws.specs.Rounds.{GoalsBelow, IsReached, next_tree, tree_after}
+use Rattle.safra_laws.specs.Rounds.{GoalsBelow, IsReachedByWord, next_tree, tree_after}
 
 abbrev pub FirstIsTree : Type 0
 FirstIsTree = (n : ℕ) (starts : List ℕ) → IsTree (first_tree n starts)
@@ -15,7 +15,7 @@ StepsKeepTrees = (n : ℕ) (ms : List Move) (t : List Node) → IsTree t → IsT
 -- The root's states are those of the subset construction: where runs over the word may be.
 abbrev pub RootIsReached : Type 0
 RootIsReached = (n : ℕ) (starts : List ℕ) (w : List (List Move)) (q : ℕ) → ((s : ℕ) → Contains starts s → s < n) → GoalsBelow n w
-    → (holds (tree_after n (first_tree n starts) w) 0 q ≡ true) ↔ IsReached starts w q
+    → (holds (tree_after n (first_tree n starts) w) 0 q ≡ true) ↔ IsReachedByWord starts w q
 
 -- The trees that a word leads to have no more names than there are states.
 abbrev pub TreesAreFew : Type 0

@@ -5,8 +5,8 @@ pub mod Finish
 pub mod First
 pub mod Gathered
 pub mod Grown
-pub mod HomeSteps
-pub mod Homes
+pub mod OwnerSteps
+pub mod Owners
 pub mod Loops
 pub mod OrderSteps
 pub mod Orders

@@ -6,14 +6,14 @@ use Rattle.safra_trees.specs.declared.event.Event.{Event}
 use Rattle.safra_trees.specs.declared.moves.Move.{Move}
 
 -- both ends of the move are among the n states
-pub record IsWithin (n : ℕ) (move : Move) : Type 0 where
+pub record IsMoveInRange (n : ℕ) (move : Move) : Type 0 where
   pub from : move.from < n
   pub to : move.to < n
 
 -- an automaton of n states may have the states of the tree and the ends of the moves
 pub record AreStates (n : ℕ) (ms : List Move) (t : List Node) : Type 0 where
   pub states : All (λ s. s < n) (root_states t)
-  pub moves : All (IsWithin n) ms
+  pub moves : All (IsMoveInRange n) ms
 
 -- the first of rising numbers
 abbrev pub least : List ℕ → Option ℕ

@@ -15,8 +15,8 @@ pub record Forest : Type 0 where
 abbrev pub goes : List Move → List Node → ℕ → ℕ → Bool
 goes ms t x s = list_any (λ m. holds t x m.from && (m.to == s)) ms
 
-abbrev pub goes_well : List Move → List Node → ℕ → ℕ → Bool
-goes_well ms t x s = list_any (λ m. m.accepting && (holds t x m.from && (m.to == s))) ms
+abbrev pub goes_accepting : List Move → List Node → ℕ → ℕ → Bool
+goes_accepting ms t x s = list_any (λ m. m.accepting && (holds t x m.from && (m.to == s))) ms
 
 -- each node holds where the moves lead, and has one more child, which holds where its accepting ones lead
 abbrev pub grown : ℕ → List Move → List Node → Forest
@@ -24,7 +24,7 @@ grown n ms t = record {
   bound = n;
   size = length t + length t;
   parent = λ y. cond (nat_lt y (length t)) (node_at t y).parent (y - length t);
-  holds = λ y s. cond (nat_lt y (length t)) (goes ms t y s) (goes_well ms t (y - length t) s);
+  holds = λ y s. cond (nat_lt y (length t)) (goes ms t y s) (goes_accepting ms t (y - length t) s);
 }
 
 -- the proper ancestors, the nearest first
@@ -40,38 +40,38 @@ abbrev pub is_child : Forest → ℕ → ℕ → Bool
 is_child f x y = nat_lt 0 y && (f.parent y == x)
 
 -- an older sibling holds the state
-abbrev pub taken : Forest → ℕ → ℕ → Bool
-taken f s y = list_any (λ z. is_child f (f.parent y) z && f.holds z s) (range_with_len 0 y)
+abbrev pub held_by_older : Forest → ℕ → ℕ → Bool
+held_by_older f s y = list_any (λ z. is_child f (f.parent y) z && f.holds z s) (range_with_len 0 y)
 
 -- what a node keeps: no older sibling of it or of an ancestor holds it
-abbrev pub keeps : Forest → ℕ → ℕ → Bool
-keeps f y s = f.holds y s && not (list_any (taken f s) (y ∷ ancestors f y))
+abbrev pub retains : Forest → ℕ → ℕ → Bool
+retains f y s = f.holds y s && not (list_any (held_by_older f s) (y ∷ ancestors f y))
 
 -- the children together keep all that the node keeps
 abbrev pub covered : Forest → ℕ → Bool
-covered f x = list_all (λ s. list_any (λ z. is_child f x z && keeps f z s) (range_with_len 0 f.size)) (filter (keeps f x) (range_with_len 0 f.bound))
+covered f x = list_all (λ s. list_any (λ z. is_child f x z && retains f z s) (range_with_len 0 f.size)) (filter (retains f x) (range_with_len 0 f.bound))
 
-abbrev pub stays : Forest → ℕ → Bool
-stays f y = list_any (keeps f y) (range_with_len 0 f.bound) && not (list_any (covered f) (ancestors f y))
+abbrev pub survives : Forest → ℕ → Bool
+survives f y = list_any (retains f y) (range_with_len 0 f.bound) && not (list_any (covered f) (ancestors f y))
 
 -- the names that stay, and how many of them are below a name: its new name
-abbrev pub names : (ℕ → Bool) → ℕ → List ℕ
-names p k = filter p (range_with_len 0 k)
+abbrev pub names_where : (ℕ → Bool) → ℕ → List ℕ
+names_where p k = filter p (range_with_len 0 k)
 
 abbrev pub rank : (ℕ → Bool) → ℕ → ℕ
-rank p y = length (names p y)
+rank p y = length (names_where p y)
 
 abbrev pub renamed : Forest → ℕ → Node
-renamed f y = record { parent = rank (stays f) (f.parent y); states = filter (keeps f y) (range_with_len 0 f.bound) }
+renamed f y = record { parent = rank (survives f) (f.parent y); states = filter (retains f y) (range_with_len 0 f.bound) }
 
 abbrev pub pruned : Forest → List Node
-pruned f = map (renamed f) (names (stays f) f.size)
+pruned f = map (renamed f) (names_where (survives f) f.size)
 
 abbrev pub greens : Forest → List ℕ
-greens f = names (λ y. stays f y && covered f y) f.size
+greens f = names_where (λ y. survives f y && covered f y) f.size
 
 abbrev pub reds : Forest → ℕ → List ℕ
-reds f m = names (λ y. not (stays f y)) m
+reds f m = names_where (λ y. not (survives f y)) m
 
 -- a state of x that no child of it holds
 pub record Own (t : List Node) (x : ℕ) : Type 0 where

@@ -2,9 +2,9 @@
 
 ghost use Rattle.std.specs.Prelude.{◌≡◌, ◌+◌, ◌<◌, ◌≤◌, ℕ, All, IfOk, length};
 ghost use Rattle.aut_base.specs.declared.limit.TheConstants.{MOST_NODES};
-ghost use Rattle.safra_trees.specs.Events.{IsWithin};
+ghost use Rattle.safra_trees.specs.Events.{IsMoveInRange};
 ghost use Rattle.safra_trees.specs.Flat.{at};
-ghost use Rattle.safra_trees.specs.inner.Claims.{claim, claimant, first_of, key, place_of};
+ghost use Rattle.safra_trees.specs.inner.Claims.{claim, claimant, first_of, key, owner_in};
 
 use crate::Move;
 use std::alloc::AllocError;
@@ -22,7 +22,7 @@ pub(crate) fn places_by_state(
     requires places { All (λ x. x < none) places.now }
     ensures size { IfOk result (λ found. length found.items ≡ count) }
     ensures below { IfOk result (λ found. All (λ x. x ≤ none) found.items) }
-    ensures places { IfOk result (λ found. (s : ℕ) → s < count → at found.items s ≡ place_of none states.now places.now s) }
+    ensures places { IfOk result (λ found. (s : ℕ) → s < count → at found.items s ≡ owner_in none states.now places.now s) }
 {
     let mut found = room;
     found.clear();
@@ -44,7 +44,7 @@ pub(crate) fn claims(
     requires few { length order.now ≤ MOST_NODES }
     requires order { All (λ x. x < MOST_NODES) order.now }
     requires places { All (λ x. x ≤ length order.now) places.now }
-    requires moves { All (IsWithin (length places.now)) moves.now }
+    requires moves { All (IsMoveInRange (length places.now)) moves.now }
     ensures size { IfOk result (λ claims. length claims.items ≡ length places.now) }
     ensures below { IfOk result (λ claims. All (λ c. c ≤ length order.now + length order.now) claims.items) }
     ensures claims { IfOk result (λ claims. (s : ℕ) → s < length places.now → at claims.items s ≡ claim order.now (at places.now) s moves.now (length order.now + length order.now)) }

@@ -23,7 +23,7 @@ pub use law::{
     equal_trees_are_one_list, same_list_same_tree, stored_trees_are_trees, worked_steps,
 };
 pub use moves::{Move, Moves};
-pub use room::Room;
+pub use room::Scratch;
 pub use starting::start;
 pub use stepping::{step, step_in_room};
 pub use tree::SafraTree;

@@ -4,10 +4,10 @@ ghost use Rattle.std.specs.Prelude.{◌≡◌, ◌+◌, ◌^◌, ◌<◌, ◌≤
 ghost use Rattle.std.specs.List.{list_any, range_with_len};
 ghost use Rattle.aut_base.specs.declared.limit.TheConstants.{MOST_NODES};
 ghost use Rattle.safra_trees.specs.Flat.{at};
-ghost use Rattle.safra_trees.specs.Step.{names, rank};
+ghost use Rattle.safra_trees.specs.Step.{names_where, rank};
 ghost use Rattle.safra_trees.specs.Trees.{has};
 ghost use Rattle.safra_trees.specs.inner.Claims.{grown_parent};
-ghost use Rattle.safra_trees.specs.inner.Passes.{AreHomes, ends_at, flag, is_home};
+ghost use Rattle.safra_trees.specs.inner.Passes.{AreOwners, ends_at, flag, is_owner};
 ghost use Rattle.safra_trees.specs.Events.{least};
 
 use std::alloc::{AllocError, Global};
@@ -44,65 +44,65 @@ pub(crate) fn claiming(room: Vec<bool>, size: u32, claims: &[u32]) -> Result<Vec
 }
 
 /// For each name the node at which its states end up: an ancestor where that gives its children up, else the name itself.
-pub(crate) fn homes(room: Vec<u32>, parents: &[u32], own: &[bool]) -> Result<Vec<u32>, AllocError>
+pub(crate) fn owners(room: Vec<u32>, parents: &[u32], own: &[bool]) -> Result<Vec<u32>, AllocError>
     requires few { length parents.now ≤ MOST_NODES }
     requires lower { (x : ℕ) → 0 < x → x < length parents.now → at parents.now x < x }
     requires size { length own.now ≡ length parents.now + length parents.now }
-    ensures size { IfOk result (λ homes. length homes.items ≡ length own.now) }
-    ensures low { IfOk result (λ homes. (x : ℕ) → x < length own.now → at homes.items x ≤ x) }
-    ensures homes { IfOk result (λ homes. AreHomes own.now (grown_parent parents.now) (length own.now) homes.items) }
+    ensures size { IfOk result (λ owners. length owners.items ≡ length own.now) }
+    ensures low { IfOk result (λ owners. (x : ℕ) → x < length own.now → at owners.items x ≤ x) }
+    ensures owners { IfOk result (λ owners. AreOwners own.now (grown_parent parents.now) (length own.now) owners.items) }
 {
-    let mut homes = room;
-    homes.clear();
+    let mut owners = room;
+    owners.clear();
     'names: for name in 0..own.len() as u32 {
-        let home = home_of(parents, own, &homes, name);
-        homes.push(home)?;
+        let owner = owner_of(parents, own, &owners, name);
+        owners.push(owner)?;
     }
-    Ok(homes)
+    Ok(owners)
 }
 
 /// The home of a name by those of lower names.
-fn home_of(parents: &[u32], own: &[bool], homes: &[u32], name: u32) -> u32
+fn owner_of(parents: &[u32], own: &[bool], owners: &[u32], name: u32) -> u32
     requires few { length parents.now ≤ MOST_NODES }
     requires lower { (x : ℕ) → 0 < x → x < length parents.now → at parents.now x < x }
     requires size { length own.now ≡ length parents.now + length parents.now }
     requires name { name < length own.now }
-    requires homes { length homes.now ≡ name }
-    requires low { (x : ℕ) → x < name → at homes.now x ≤ x }
-    ensures home { result ≡ cond (is_home own.now (grown_parent parents.now) homes.now name) name (at homes.now (grown_parent parents.now name)) }
+    requires owners { length owners.now ≡ name }
+    requires low { (x : ℕ) → x < name → at owners.now x ≤ x }
+    ensures owner { result ≡ cond (is_owner own.now (grown_parent parents.now) owners.now name) name (at owners.now (grown_parent parents.now name)) }
     ensures low { result ≤ name }
 {
     if name == 0 {
         return name;
     }
     let parent = grown_parent(parents, name);
-    let home = homes[parent as usize];
-    if home == parent && own[parent as usize] {
+    let owner = owners[parent as usize];
+    if owner == parent && own[parent as usize] {
         return name;
     }
-    home
+    owner
 }
 
 /// For each of so many names whether the states of a claim end up at it.
-pub(crate) fn staying(
+pub(crate) fn surviving(
     room: Vec<bool>,
-    homes: &[u32],
+    owners: &[u32],
     claims: &[u32],
 ) -> Result<Vec<bool>, AllocError>
-    requires few { length homes.now < 2 ^ 32 }
-    requires low { All (λ x. x < length homes.now) homes.now }
-    ensures size { IfOk result (λ stay. length stay.items ≡ length homes.now) }
-    ensures stay { IfOk result (λ stay. (y : ℕ) → y < length homes.now → flag stay.items y ≡ list_any (ends_at homes.now y) claims.now) }
+    requires few { length owners.now < 2 ^ 32 }
+    requires low { All (λ x. x < length owners.now) owners.now }
+    ensures size { IfOk result (λ stay. length stay.items ≡ length owners.now) }
+    ensures stay { IfOk result (λ stay. (y : ℕ) → y < length owners.now → flag stay.items y ≡ list_any (ends_at owners.now y) claims.now) }
 {
-    let size = homes.len() as u32;
+    let size = owners.len() as u32;
     let mut stay = room;
     stay.clear();
-    stay.resize(homes.len(), false)?;
+    stay.resize(owners.len(), false)?;
     'claims: for claim in claims {
         if *claim >= size {
             continue;
         }
-        stay[homes[*claim as usize] as usize] = true;
+        stay[owners[*claim as usize] as usize] = true;
     }
     Ok(stay)
 }
@@ -147,7 +147,7 @@ pub(crate) fn new_parents(
     requires lower { (x : ℕ) → x < length parents.now → at parents.now x ≤ x }
     requires size { length stay.now ≡ length parents.now + length parents.now }
     requires ranks { length ranks.now ≡ length stay.now }
-    ensures { IfOk result (λ made. made.items ≡ map (λ y. at ranks.now (grown_parent parents.now y)) (names (flag stay.now) (length stay.now))) }
+    ensures { IfOk result (λ made. made.items ≡ map (λ y. at ranks.now (grown_parent parents.now y)) (names_where (flag stay.now) (length stay.now))) }
 {
     let mut made = Vec::with_capacity(alloc, count as usize)?;
     'names: for name in 0..stay.len() {
@@ -162,7 +162,7 @@ pub(crate) fn new_parents(
 /// The first of the names below a number that doesn't stay.
 pub(crate) fn least_gone(stay: &[bool], nodes: u32) -> Option<u32>
     requires { nodes ≤ length stay.now }
-    ensures { result ≡ least (names (λ y. not (flag stay.now y)) nodes) }
+    ensures { result ≡ least (names_where (λ y. not (flag stay.now y)) nodes) }
 {
     'names: for name in 0..nodes {
         if !stay[name as usize] {
@@ -176,7 +176,7 @@ pub(crate) fn least_gone(stay: &[bool], nodes: u32) -> Option<u32>
 pub(crate) fn least_covered(stay: &[bool], own: &[bool]) -> Option<u32>
     requires size { length stay.now ≡ length own.now }
     requires fit { length own.now < 2 ^ 32 }
-    ensures { result ≡ least (names (λ y. flag stay.now y && not (flag own.now y)) (length own.now)) }
+    ensures { result ≡ least (names_where (λ y. flag stay.now y && not (flag own.now y)) (length own.now)) }
 {
     'names: for name in 0..own.len() as u32 {
         if stay[name as usize] && !own[name as usize] {
@@ -197,25 +197,25 @@ pub(crate) struct NewPlaces {
 pub(crate) fn new_places(
     alloc: Global,
     claims: &[u32],
-    homes: &[u32],
+    owners: &[u32],
     ranks: &[u32],
 ) -> Result<NewPlaces, AllocError>
     requires few { length claims.now ≤ 2 ^ 32 }
-    requires size { length ranks.now ≡ length homes.now }
-    requires low { (x : ℕ) → x < length homes.now → at homes.now x ≤ x }
-    ensures states { IfOk result (λ made. made.states.items ≡ names (λ s. nat_lt (at claims.now s) (length homes.now)) (length claims.now)) }
-    ensures places { IfOk result (λ made. made.places.items ≡ map (λ s. at ranks.now (at homes.now (at claims.now s))) (names (λ s. nat_lt (at claims.now s) (length homes.now)) (length claims.now))) }
+    requires size { length ranks.now ≡ length owners.now }
+    requires low { (x : ℕ) → x < length owners.now → at owners.now x ≤ x }
+    ensures states { IfOk result (λ made. made.states.items ≡ names_where (λ s. nat_lt (at claims.now s) (length owners.now)) (length claims.now)) }
+    ensures places { IfOk result (λ made. made.places.items ≡ map (λ s. at ranks.now (at owners.now (at claims.now s))) (names_where (λ s. nat_lt (at claims.now s) (length owners.now)) (length claims.now))) }
 {
-    let room = claimed(claims, homes.len());
+    let room = claimed(claims, owners.len());
     let mut states = Vec::with_capacity(alloc, room)?;
     let mut places = Vec::with_capacity(alloc, room)?;
     'states: for state in 0..claims.len() {
         let claim = claims[state] as usize;
-        if claim >= homes.len() {
+        if claim >= owners.len() {
             continue;
         }
         states.push(state as u32)?;
-        places.push(ranks[homes[claim] as usize])?;
+        places.push(ranks[owners[claim] as usize])?;
     }
     Ok(NewPlaces { states, places })
 }

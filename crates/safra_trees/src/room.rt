@@ -6,7 +6,7 @@ use std::alloc::Global;
 /// The lists that a step fills on its way. Whoever takes many steps keeps them from one to the next, which then needs memory for
 /// the new tree alone. What stands in them before a step plays no part in it.
 #[derive(Drop)]
-pub struct Room {
+pub struct Scratch {
     /// For each name its number in the order in which nodes claim.
     pub(crate) order: Vec<u32>,
     /// For each state its place, or the number of nodes where it has none.
@@ -16,22 +16,22 @@ pub struct Room {
     /// For each name whether it claims a state.
     pub(crate) own: Vec<bool>,
     /// For each name the node at which its states end up.
-    pub(crate) homes: Vec<u32>,
+    pub(crate) owners: Vec<u32>,
     /// For each name whether it stays.
     pub(crate) stay: Vec<bool>,
     /// For each name the number of those before it that stay.
     pub(crate) ranks: Vec<u32>,
 }
 
-impl Room {
+impl Scratch {
     /// Empty lists. Takes no memory.
-    pub fn new(alloc: Global) -> Room {
-        Room {
+    pub fn new(alloc: Global) -> Scratch {
+        Scratch {
             order: Vec::new(alloc),
             places: Vec::new(alloc),
             claims: Vec::new(alloc),
             own: Vec::new(alloc),
-            homes: Vec::new(alloc),
+            owners: Vec::new(alloc),
             stay: Vec::new(alloc),
             ranks: Vec::new(alloc),
         }

@@ -2,7 +2,7 @@
 
 ghost use Rattle.std.specs.Prelude.{◌≡◌, ◌^◌, ◌++◌, ◌<◌, ◌≤◌, ℕ, All, Contains, IfOk, flat_map, length, map};
 ghost use Rattle.std.specs.List.Sorted.{IsStrictlyIncreasing};
-ghost use Rattle.safra_trees.specs.Events.{IsWithin};
+ghost use Rattle.safra_trees.specs.Events.{IsMoveInRange};
 ghost use Rattle.safra_trees.specs.Flat.{at};
 ghost use Rattle.safra_trees.specs.inner.Sight.{IsSeen, IsSight, move_by};
 
@@ -66,7 +66,7 @@ pub(crate) fn places_in(
 pub(crate) fn moves_in(alloc: Global, sight: &[u32], moves: &[Move]) -> Result<Moves, Memory>
     requires rises { IsStrictlyIncreasing sight.now }
     requires there { All (λ e. IsSeen sight.now e) moves.now }
-    ensures within { IfOk result (λ found. All (IsWithin (length sight.now)) found) }
+    ensures within { IfOk result (λ found. All (IsMoveInRange (length sight.now)) found) }
     ensures are { IfOk result (λ found. map (move_by (at sight.now)) found ≡ moves.now) }
 {
     let mut found = Moves::from_vec(Vec::with_capacity(alloc, moves.len())?);

@@ -3,7 +3,7 @@
 ghost use Rattle.std.specs.Prelude.{◌≡◌, ◌^◌, ◌<◌, ◌≤◌, ℕ, All, Contains, IfOk, IsErrOf, length, map};
 ghost use Rattle.std.specs.List.Sorted.{IsStrictlyIncreasing};
 ghost use Rattle.aut_base.specs.declared.limit.TheConstants.{MOST_NODES};
-ghost use Rattle.safra_trees.specs.Events.{AreStates, IsWithin, event_of};
+ghost use Rattle.safra_trees.specs.Events.{AreStates, IsMoveInRange, event_of};
 ghost use Rattle.safra_trees.specs.Flat.{at};
 ghost use Rattle.safra_trees.specs.Step.{grown, pruned};
 ghost use Rattle.safra_trees.specs.Trees.{root_states};
@@ -14,10 +14,10 @@ ghost use Rattle.safra_trees.specs.inner.Sight.{node_by};
 use crate::claims::{claims, places_by_state};
 use crate::order::claiming_order;
 use crate::passes::{
-    claiming, homes, least_covered, least_gone, new_names, new_parents, new_places, staying,
+    claiming, least_covered, least_gone, new_names, new_parents, new_places, owners, surviving,
 };
 use crate::sight::{count_of, in_sight, moves_in, places_in, states_at};
-use crate::{Event, Move, Moves, Room, SafraTree, TreeFault};
+use crate::{Event, Move, Moves, SafraTree, Scratch, TreeFault};
 use aut_base::{MOST_NODES, Numbers};
 use std::alloc::{AllocError, Global};
 use std::mem;
@@ -39,7 +39,7 @@ pub fn step(alloc: Global, tree: &SafraTree, moves: &Moves) -> Result<(SafraTree
     let seen = sight.as_slice();
     let small = small_tree(alloc, seen, tree)?;
     let few = moves_in(alloc, seen, moves.as_slice())?;
-    let mut room = Room::new(alloc);
+    let mut room = Scratch::new(alloc);
     let found = stepped(alloc, count_of(seen), &small, &few, &mut room)?;
     let named = named_tree(alloc, seen, &found.0)?;
     Ok((named, found.1))
@@ -87,10 +87,10 @@ pub fn step_in_room(
     states: u32,
     tree: &SafraTree,
     moves: &Moves,
-    room: &mut Room,
+    room: &mut Scratch,
 ) -> Result<(SafraTree, Event), TreeFault>
     requires states { All (λ s. s < states) (root_states (tree_of tree.now)) }
-    requires moves { All (IsWithin states) moves.now }
+    requires moves { All (IsMoveInRange states) moves.now }
     ensures tree { IfOk result (λ made. tree_of made.0 ≡ pruned (grown states moves.now (tree_of tree.now))) }
     ensures states { IfOk result (λ made. All (λ s. s < states) (root_states (tree_of made.0))) }
     ensures event { IfOk result (λ made. made.1 ≡ event_of states moves.now (tree_of tree.now)) }
@@ -106,18 +106,18 @@ fn stepped(
     states: usize,
     tree: &SafraTree,
     moves: &Moves,
-    room: &mut Room,
+    room: &mut Scratch,
 ) -> Result<(SafraTree, Event), TreeFault>
     requires numbers { states ≤ 2 ^ 32 }
     requires states { All (λ s. s < states) (root_states (tree_of tree.now)) }
-    requires moves { All (IsWithin states) moves.now }
+    requires moves { All (IsMoveInRange states) moves.now }
     ensures tree { IfOk result (λ made. tree_of made.0 ≡ pruned (grown states moves.now (tree_of tree.now))) }
     ensures states { IfOk result (λ made. All (λ s. s < states) (root_states (tree_of made.0))) }
     ensures event { IfOk result (λ made. made.1 ≡ event_of states moves.now (tree_of tree.now)) }
     ensures few { IfOk result (λ made. length (tree_of made.0) ≤ MOST_NODES) }
     ensures nodes { IsErrOf result TreeFault.Nodes → MOST_NODES < length (pruned (grown states moves.now (tree_of tree.now))) }
 {
-    let lists = mem::replace(room, Room::new(alloc));
+    let lists = mem::replace(room, Scratch::new(alloc));
     let found = passes(states, tree, moves.as_slice(), lists)?;
     let names = new_names(found.ranks, &found.stay)?;
     if names.count > MOST_NODES {
@@ -130,7 +130,7 @@ fn stepped(
         &names.ranks,
         names.count,
     )?;
-    let made = new_places(alloc, &found.claims, &found.homes, &names.ranks)?;
+    let made = new_places(alloc, &found.claims, &found.owners, &names.ranks)?;
     let event = Event {
         red: least_gone(&found.stay, tree.nodes()),
         green: least_covered(&found.stay, &found.own),
@@ -140,7 +140,7 @@ fn stepped(
         states: Numbers::from_vec(made.states),
         places: Numbers::from_vec(made.places),
     };
-    *room = Room {
+    *room = Scratch {
         ranks: names.ranks,
         ..found
     };
@@ -148,10 +148,15 @@ fn stepped(
 }
 
 /// Which names claim states, and which stay.
-fn passes(states: usize, tree: &SafraTree, moves: &[Move], room: Room) -> Result<Room, AllocError>
+fn passes(
+    states: usize,
+    tree: &SafraTree,
+    moves: &[Move],
+    room: Scratch,
+) -> Result<Scratch, AllocError>
     requires states { All (λ s. s < states) (root_states (tree_of tree.now)) }
-    requires moves { All (IsWithin states) moves.now }
-    ensures { IfOk result (λ found. ArePasses (grown states moves.now (tree_of tree.now)) found.claims.items found.own.items found.homes.items found.stay.items) }
+    requires moves { All (IsMoveInRange states) moves.now }
+    ensures { IfOk result (λ found. ArePasses (grown states moves.now (tree_of tree.now)) found.claims.items found.own.items found.owners.items found.stay.items) }
 {
     let parents = tree.parents.as_slice();
     let nodes = parents.len() as u32;
@@ -165,14 +170,14 @@ fn passes(states: usize, tree: &SafraTree, moves: &[Move], room: Room) -> Result
     )?;
     let claims = claims(room.claims, &order, &places, moves)?;
     let own = claiming(room.own, nodes + nodes, &claims)?;
-    let homes = homes(room.homes, parents, &own)?;
-    let stay = staying(room.stay, &homes, &claims)?;
-    Ok(Room {
+    let owners = owners(room.owners, parents, &own)?;
+    let stay = surviving(room.stay, &owners, &claims)?;
+    Ok(Scratch {
         order,
         places,
         claims,
         own,
-        homes,
+        owners,
         stay,
         ranks: room.ranks,
     })

@@ -1,14 +1,14 @@
 //! Trees beside plain ones.
 
 ghost use Rattle.std.specs.Prelude.{◌<◌, All, IsTrue};
-ghost use Rattle.safra_trees.specs.Events.{IsWithin};
+ghost use Rattle.safra_trees.specs.Events.{IsMoveInRange};
 
 use crate::automata::{every_letter, moves_by_chance};
 use crate::plain::{PlainNode, is_set, plain_start, plain_step};
 use crate::stored::is_stored;
 use aut_base::Numbers;
 use row_files::{Count, Fault, Sequence};
-use safra_trees::{Event, Move, Moves, Room, SafraTree, TreeFault, start, step, step_in_room};
+use safra_trees::{Event, Move, Moves, SafraTree, Scratch, TreeFault, start, step, step_in_room};
 use std::alloc::Global;
 
 /// More trees than three states can have.
@@ -127,7 +127,7 @@ fn next_tree(
     if !are_states(states, tree.root_states()) || !are_within(states, moves.as_slice()) {
         return Err(Fault::Failed);
     }
-    Ok(step_in_room(alloc, states, tree, moves, &mut Room::new(alloc)))
+    Ok(step_in_room(alloc, states, tree, moves, &mut Scratch::new(alloc)))
 }
 
 /// Whether all are states.
@@ -144,7 +144,7 @@ fn are_states(states: u32, listed: &[u32]) -> bool
 
 /// Whether both ends of all moves are states.
 fn are_within(states: u32, moves: &[Move]) -> bool
-    ensures { IsTrue result → All (IsWithin states) moves.now }
+    ensures { IsTrue result → All (IsMoveInRange states) moves.now }
 {
     'moves: for one in moves {
         if one.from >= states || one.to >= states {

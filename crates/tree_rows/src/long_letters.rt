@@ -1,7 +1,7 @@
 //! Letters by chance: almost all states stay, and few go on or elsewhere.
 
 ghost use Rattle.std.specs.Prelude.{◌≡◌, ◌<◌, All, IfOk, OnOk, length};
-ghost use Rattle.safra_trees.specs.Events.{IsWithin};
+ghost use Rattle.safra_trees.specs.Events.{IsMoveInRange};
 ghost use Rattle.tree_rows.specs.declared.long_letters.TheConstants.{LETTERS, STATES};
 
 use aut_base::Memory;
@@ -18,7 +18,7 @@ pub(crate) const LETTERS: u32 = 64;
 /// Letters by chance.
 pub(crate) fn letters(alloc: Global, sequence: &mut Sequence) -> Result<Vec<Moves>, Fault>
     ensures count { IfOk result (λ letters. length letters.items ≡ LETTERS) }
-    ensures within { IfOk result (λ letters. All (λ letter. All (IsWithin STATES) letter) letters.items) }
+    ensures within { IfOk result (λ letters. All (λ letter. All (IsMoveInRange STATES) letter) letters.items) }
 {
     let mut letters = Vec::new(alloc);
     'letters: for _ in 0..LETTERS {
@@ -29,7 +29,7 @@ pub(crate) fn letters(alloc: Global, sequence: &mut Sequence) -> Result<Vec<Move
 
 /// Each state stays with 97 chances in 100, goes on to the next by an accepting move with five, and with three to some state.
 fn letter_by_chance(alloc: Global, sequence: &mut Sequence) -> Result<Moves, Memory>
-    ensures { IfOk result (λ moves. All (IsWithin STATES) moves) }
+    ensures { IfOk result (λ moves. All (IsMoveInRange STATES) moves) }
 {
     let mut moves = Moves::new(alloc);
     'states: for from in 0..STATES {
@@ -50,7 +50,7 @@ fn letter_by_chance(alloc: Global, sequence: &mut Sequence) -> Result<Moves, Mem
 
 /// Each state stays, and all but the last go on to the next by an accepting move.
 pub(crate) fn growing_letter(alloc: Global) -> Result<Moves, Memory>
-    ensures { IfOk result (λ moves. All (IsWithin STATES) moves) }
+    ensures { IfOk result (λ moves. All (IsMoveInRange STATES) moves) }
 {
     let mut moves = Moves::new(alloc);
     'states: for from in 0..STATES - 1 {
@@ -64,8 +64,8 @@ pub(crate) fn growing_letter(alloc: Global) -> Result<Moves, Memory>
 fn add(moves: &mut Moves, from: u32, to: u32, accepting: bool) -> Result<(), Memory>
     requires from { from < STATES }
     requires to { to < STATES }
-    requires within { All (IsWithin STATES) moves.old }
-    ensures { OnOk result (All (IsWithin STATES) moves.new) }
+    requires within { All (IsMoveInRange STATES) moves.old }
+    ensures { OnOk result (All (IsMoveInRange STATES) moves.new) }
 {
     moves.push(Move {
         from,

@@ -1,7 +1,7 @@
 //! A long walk from tree to tree, to count what a step costs.
 
 ghost use Rattle.std.specs.Prelude.{◌≡◌, ◌<◌, All, length};
-ghost use Rattle.safra_trees.specs.Events.{IsWithin};
+ghost use Rattle.safra_trees.specs.Events.{IsMoveInRange};
 ghost use Rattle.safra_trees.specs.Trees.{root_states};
 ghost use Rattle.safra_trees.specs.View.{tree_of};
 ghost use Rattle.tree_rows.specs.declared.long_letters.TheConstants.{LETTERS, STATES};
@@ -9,7 +9,7 @@ ghost use Rattle.tree_rows.specs.declared.long_letters.TheConstants.{LETTERS, ST
 use crate::long_letters::{LETTERS, STATES, growing_letter};
 use aut_base::Numbers;
 use row_files::{Fault, Sequence};
-use safra_trees::{Event, Moves, Room, SafraTree, TreeFault, start, step_in_room};
+use safra_trees::{Event, Moves, SafraTree, Scratch, TreeFault, start, step_in_room};
 use std::alloc::Global;
 
 /// The sizes of the trees that are stepped.
@@ -52,10 +52,10 @@ pub(crate) fn long_walk(
     steps: u32,
 ) -> Result<Seen, Fault>
     requires count { length letters.now ≡ LETTERS }
-    requires within { All (λ letter. All (IsWithin STATES) letter) letters.now }
+    requires within { All (λ letter. All (IsMoveInRange STATES) letter) letters.now }
 {
     let mut standing = first(alloc)?;
-    let mut room = Room::new(alloc);
+    let mut room = Scratch::new(alloc);
     let mut seen = Seen {
         least: standing.tree.nodes(),
         most: standing.tree.nodes(),
@@ -77,7 +77,7 @@ pub(crate) fn long_walk(
 fn first(alloc: Global) -> Result<Standing, Fault> {
     let mut standing = one_node(alloc)?;
     let moves = growing_letter(alloc)?;
-    let mut room = Room::new(alloc);
+    let mut room = Scratch::new(alloc);
     'steps: for _ in 1..FIRST_NODES {
         standing = next(alloc, &standing, &moves, &mut room)?.0;
     }
@@ -98,10 +98,10 @@ fn next_by_chance(
     standing: &Standing,
     letters: &[Moves],
     sequence: &mut Sequence,
-    room: &mut Room,
+    room: &mut Scratch,
 ) -> Result<(Standing, Event), Fault>
     requires count { length letters.now ≡ LETTERS }
-    requires within { All (λ letter. All (IsWithin STATES) letter) letters.now }
+    requires within { All (λ letter. All (IsMoveInRange STATES) letter) letters.now }
 {
     let choice = sequence.next(LETTERS) as usize;
     next(alloc, standing, &letters[choice], room)
@@ -112,9 +112,9 @@ fn next(
     alloc: Global,
     standing: &Standing,
     moves: &Moves,
-    room: &mut Room,
+    room: &mut Scratch,
 ) -> Result<(Standing, Event), Fault>
-    requires { All (IsWithin STATES) moves.now }
+    requires { All (IsMoveInRange STATES) moves.now }
 {
     match step_in_room(alloc, STATES, &standing.tree, moves, room) {
         Ok((tree, event)) => Ok((Standing { tree }, event)),

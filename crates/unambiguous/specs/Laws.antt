@@ -1,8 +1,8 @@
 -- What holds of unambiguous automata.
 use Rattle.std.specs.Prelude.{◌≡◌, ◌↔◌, ℕ, ◌<◌, List, [], ◌∷◌, length}
 use Rattle.aut_base.specs.Acceptance.{Accepts}
-use Rattle.aut_base.specs.Automaton.{Automaton, TreeEdge}
-use Rattle.aut_core.specs.Core.{Core, IsCore, automaton_of}
+use Rattle.aut_base.specs.Automaton.{Automaton, LabelledEdge}
+use Rattle.aut_core.specs.SymbolicAutomata.{SymbolicAutomaton, IsWellFormedSymbolic, automaton_of}
 use Rattle.aut_base.specs.Formula.{FormulaTree}
 use Rattle.aut_base.specs.Label.{LabelTree}
 use Rattle.aut_base.specs.Word.{NameSet, nth}
@@ -13,18 +13,18 @@ use Rattle.unambiguous.specs.Parted.{IsParted}
 
 -- The square begun where two runs may have parted accepts no lasso word exactly where the automaton is unambiguous.
 abbrev pub PartedDecides : Type 0
-PartedDecides = (a : Core) (s : Automaton) → IsCore a → IsParted a s → AcceptsNothing s ↔ IsUnambiguous (automaton_of a)
+PartedDecides = (a : SymbolicAutomaton) (s : Automaton) → IsWellFormedSymbolic a → IsParted a s → AcceptsNothing s ↔ IsUnambiguous (automaton_of a)
 
 -- Deterministic automata are unambiguous.
 abbrev pub DeterministicIsUnambiguous : Type 0
 DeterministicIsUnambiguous = (a : Automaton) → IsDeterministic a → IsUnambiguous a
 
 -- one state, and one edge back to it, twice
-abbrev pub turn : TreeEdge
-turn = record { from = 0; label = LabelTree.True; to = 0; marks = [] }
+abbrev pub self_loop : LabelledEdge
+self_loop = record { from = 0; label = LabelTree.True; to = 0; marks = [] }
 
 abbrev pub twice : Automaton
-twice = record { names = []; starts = 0 ∷ []; states = 1; edges = turn ∷ turn ∷ []; sets = 0; formula = FormulaTree.True }
+twice = record { names = []; starts = 0 ∷ []; states = 1; edges = self_loop ∷ self_loop ∷ []; sets = 0; formula = FormulaTree.True }
 
 -- It isn't unambiguous.
 abbrev pub TwiceIsAmbiguous : Type 0

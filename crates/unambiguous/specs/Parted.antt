@@ -2,7 +2,7 @@
 use Rattle.std.specs.Prelude.{◌≡◌, ◌≢◌, ◌==◌, ◌<◌, ℕ, Bool, true, false, not, ◌&&◌, ◌||◌, List, AllPairs, Contains, Some, length, slice_get}
 use Rattle.std.specs.List.{list_any, slice_index_or}
 use Rattle.aut_base.specs.Automaton.{Automaton}
-use Rattle.aut_core.specs.Core.{Core, automaton_of}
+use Rattle.aut_core.specs.SymbolicAutomata.{SymbolicAutomaton, automaton_of}
 use Rattle.aut_core.specs.declared.link.Link.{Link}
 use Rattle.aut_ops.specs.Labels.{both_labels, is_never}
 use Rattle.aut_ops.specs.Languages.{ArePairwise}
@@ -21,7 +21,7 @@ abbrev pub is_doubled : List (ℕ × ℕ) → ℕ → Bool
 is_doubled pairs p = list_any (same_pair (p, p)) pairs
 
 -- the links at these places leave one state, which is paired with itself, and lead to q at one letter
-pub record AreTwins (a : Core) (pairs : List (ℕ × ℕ)) (m n q : ℕ) : Type 0 where
+pub record AreTwins (a : SymbolicAutomaton) (pairs : List (ℕ × ℕ)) (m n q : ℕ) : Type 0 where
   pub first : Link
   pub second : Link
   pub at : slice_get a.links m ≡ Some first
@@ -33,16 +33,16 @@ pub record AreTwins (a : Core) (pairs : List (ℕ × ℕ)) (m n q : ℕ) : Type 
   pub meet : do_meet a.store first second ≡ true
 
 -- the link at this place has a twin behind it
-abbrev pub HasTwin : Core → List (ℕ × ℕ) → ℕ → Type 0
+abbrev pub HasTwin : SymbolicAutomaton → List (ℕ × ℕ) → ℕ → Type 0
 HasTwin a pairs m = (n : ℕ) × (q : ℕ) × AreTwins a pairs m n q
 
 -- a flag for each state; those that are set are of ends of twins
-pub record AreEnds (a : Core) (pairs : List (ℕ × ℕ)) (flags : List Bool) : Type 0 where
+pub record AreEnds (a : SymbolicAutomaton) (pairs : List (ℕ × ℕ)) (flags : List Bool) : Type 0 where
   pub size : length flags ≡ a.states
   pub sound : (q : ℕ) → flag flags q ≡ true → (m : ℕ) × (n : ℕ) × AreTwins a pairs m n q
 
 -- the ends of twins are flagged of which the first stands before this place
-abbrev pub AreFlagged : Core → List (ℕ × ℕ) → List Bool → ℕ → Type 0
+abbrev pub AreFlagged : SymbolicAutomaton → List (ℕ × ℕ) → List Bool → ℕ → Type 0
 AreFlagged a pairs flags before = (m n q : ℕ) → m < before → AreTwins a pairs m n q → flag flags q ≡ true
 
 -- two different states, or a flagged one
@@ -56,7 +56,7 @@ pub record ArePartings (flags : List Bool) (pairs : List (ℕ × ℕ)) (before :
   pub whole : (k : ℕ) (pair : ℕ × ℕ) → k < before → slice_get pairs k ≡ Some pair → parts flags pair ≡ true → Contains starts k
 
 -- `s` goes along both of two paths of `a` at once, and begins where these may have parted
-pub record IsParted (a : Core) (s : Automaton) : Type 0 where
+pub record IsParted (a : SymbolicAutomaton) (s : Automaton) : Type 0 where
   pub pairs : List (ℕ × ℕ)
   pub listed : ArePairs (automaton_of a) (automaton_of a) pairs
   pub pairwise : ArePairwise s pairs (automaton_of a) (automaton_of a)

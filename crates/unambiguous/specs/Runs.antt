@@ -1,22 +1,22 @@
 -- Accepting runs over lasso words, as places in the list of edges, and unambiguous automata.
 use Rattle.std.specs.Prelude.{◌≡◌, ℕ, ◌<◌, true, List, [], ◌∷◌, ◌++◌, map, Contains, length, Some, slice_get}
 use Rattle.std.specs.Option.{option_map_or}
-use Rattle.aut_base.specs.Automaton.{TreeEdge, Automaton}
+use Rattle.aut_base.specs.Automaton.{LabelledEdge, Automaton}
 use Rattle.aut_base.specs.Formula.{met}
 use Rattle.aut_base.specs.Label.{truth, holds_at}
 use Rattle.aut_base.specs.Word.{NameSet, copies, nth}
 
 -- the marks of the edge at this place
-abbrev pub marks_at : Automaton → ℕ → List ℕ
-marks_at a m = option_map_or (λ (e : TreeEdge). e.marks) (slice_get a.edges m) []
+abbrev pub edge_marks : Automaton → ℕ → List ℕ
+edge_marks a m = option_map_or (λ (e : LabelledEdge). e.marks) (slice_get a.edges m) []
 
 -- a path from `p` to `q` along the edges at these places, which reads these letters
-abbrev pub IsTrack : Automaton → ℕ → List NameSet → List ℕ → ℕ → Type 0
-IsTrack a p [] [] q = p ≡ q
-IsTrack a p [] (m ∷ ms) q = ⊥
-IsTrack a p (x ∷ xs) [] q = ⊥
-IsTrack a p (x ∷ xs) (m ∷ ms) q =
-    (e : TreeEdge) × (slice_get a.edges m ≡ Some e) × (p ≡ e.from) × (truth (holds_at a.names x) e.label ≡ true) × IsTrack a e.to xs ms q
+abbrev pub IsEdgePath : Automaton → ℕ → List NameSet → List ℕ → ℕ → Type 0
+IsEdgePath a p [] [] q = p ≡ q
+IsEdgePath a p [] (m ∷ ms) q = ⊥
+IsEdgePath a p (x ∷ xs) [] q = ⊥
+IsEdgePath a p (x ∷ xs) (m ∷ ms) q =
+    (e : LabelledEdge) × (slice_get a.edges m ≡ Some e) × (p ≡ e.from) × (truth (holds_at a.names x) e.label ≡ true) × IsEdgePath a e.to xs ms q
 
 -- a path from a start that reads the stem and then the cycle `turns` times, and one from its end back to that end that reads
 -- the cycle `rounds` times and meets the acceptance condition
@@ -28,10 +28,10 @@ pub record AcceptingRun (a : Automaton) (u v : List NameSet) : Type 0 where
   pub way : List ℕ
   pub cycle : List ℕ
   pub is_start : Contains a.starts start
-  pub leads : IsTrack a start (u ++ copies turns v) way state
+  pub leads : IsEdgePath a start (u ++ copies turns v) way state
   pub positive : 0 < rounds
-  pub returns : IsTrack a state (copies rounds v) cycle state
-  pub meets : met (map (marks_at a) cycle) a.formula ≡ true
+  pub returns : IsEdgePath a state (copies rounds v) cycle state
+  pub meets : met (map (edge_marks a) cycle) a.formula ≡ true
 
 -- Two accepting runs over one lasso word go along the edges at the same places. Edges are told apart by their places: two equal
 -- edges at two places are two.

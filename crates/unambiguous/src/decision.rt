@@ -2,7 +2,7 @@
 
 ghost use Rattle.std.specs.Prelude.{◌≡◌, ◌↔◌, ◌+◌, ◌<◌, ◌^◌, IfOk, IsErrOf, IsTrue, OnOk};
 ghost use Rattle.aut_base.specs.declared.limit.TheConstants.{MOST_PAIRS};
-ghost use Rattle.aut_core.specs.Core.{automaton_of};
+ghost use Rattle.aut_core.specs.SymbolicAutomata.{automaton_of};
 ghost use Rattle.aut_ops.specs.Products.{HasMorePairs};
 ghost use Rattle.unambiguous.specs.Runs.{IsUnambiguous};
 ghost use Rattle.unambiguous.specs.declared.fault.SquareFault.{SquareFault};
@@ -22,7 +22,7 @@ pub fn is_unambiguous(alloc: Global, a: &Automaton) -> Result<bool, SquareFault>
     ensures few { OnOk result (HasMorePairs MOST_PAIRS (automaton_of a.now) (automaton_of a.now) → ⊥) }
     ensures many { IsErrOf result SquareFault.Pairs → HasMorePairs MOST_PAIRS (automaton_of a.now) (automaton_of a.now) }
 {
-    a.whole();
+    a.well_formed();
     let parted = parted_square(alloc, a)?;
     let is_ambiguous = accepts_some(alloc, &parted)?;
     Ok(!is_ambiguous)

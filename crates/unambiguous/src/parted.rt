@@ -2,7 +2,7 @@
 
 ghost use Rattle.std.specs.Prelude.{◌≡◌, ◌+◌, ◌<◌, ◌≤◌, ◌^◌, ℕ, All, IfOk, IsErrOf, OnOk, Some, length, slice_get};
 ghost use Rattle.aut_base.specs.declared.limit.TheConstants.{MOST_PAIRS};
-ghost use Rattle.aut_core.specs.Core.{automaton_of};
+ghost use Rattle.aut_core.specs.SymbolicAutomata.{automaton_of};
 ghost use Rattle.aut_ops.specs.Products.{HasMorePairs};
 ghost use Rattle.unambiguous.specs.Parted.{ArePartings, IsParted, parts};
 ghost use Rattle.unambiguous.specs.declared.fault.SquareFault.{SquareFault};
@@ -23,7 +23,7 @@ pub(crate) fn parted_square(alloc: Global, a: &Automaton) -> Result<Automaton, S
     ensures few { OnOk result (HasMorePairs MOST_PAIRS (automaton_of a.now) (automaton_of a.now) → ⊥) }
     ensures many { IsErrOf result SquareFault.Pairs → HasMorePairs MOST_PAIRS (automaton_of a.now) (automaton_of a.now) }
 {
-    a.whole();
+    a.well_formed();
     let made = square(alloc, a)?;
     let mut guards = made.guards;
     let flags = twin_ends(alloc, &mut guards, a, &made.pairs)?;

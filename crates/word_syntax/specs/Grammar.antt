@@ -33,14 +33,14 @@ mutual
     group : {names : List (List ℕ)} {room : ℕ} {w : List Token} {t : LabelTree} → IsLetter names room w t → IsOperand names (suc room) (token.LeftParen ∷ (w ++ token.RightParen ∷ [])) t
 
   -- (operand "&")*
-  pub data AreOperands : List (List ℕ) → ℕ → List Token → List LabelTree → Type 0 where
-    no_operand : {names : List (List ℕ)} {room : ℕ} → AreOperands names room [] []
-    operand : {names : List (List ℕ)} {room : ℕ} {v w u : List Token} {ts us : List LabelTree} {t : LabelTree} → AreOperands names room v ts → IsOperand names room w t
-        → u ≡ v ++ (w ++ token.And ∷ []) → us ≡ ts ++ t ∷ [] → AreOperands names room u us
+  pub data AreConjuncts : List (List ℕ) → ℕ → List Token → List LabelTree → Type 0 where
+    no_operand : {names : List (List ℕ)} {room : ℕ} → AreConjuncts names room [] []
+    operand : {names : List (List ℕ)} {room : ℕ} {v w u : List Token} {ts us : List LabelTree} {t : LabelTree} → AreConjuncts names room v ts → IsOperand names room w t
+        → u ≡ v ++ (w ++ token.And ∷ []) → us ≡ ts ++ t ∷ [] → AreConjuncts names room u us
 
   -- conjunction = (operand "&")* operand
   pub data IsConjunction : List (List ℕ) → ℕ → List Token → LabelTree → Type 0 where
-    joined : {names : List (List ℕ)} {room : ℕ} {v w u : List Token} {ts : List LabelTree} {t c : LabelTree} → AreOperands names room v ts → IsOperand names room w t → u ≡ v ++ w
+    joined : {names : List (List ℕ)} {room : ℕ} {v w u : List Token} {ts : List LabelTree} {t c : LabelTree} → AreConjuncts names room v ts → IsOperand names room w t → u ≡ v ++ w
         → c ≡ all_of (ts ++ t ∷ []) → IsConjunction names room u c
 
   -- (conjunction "|")*
@@ -61,10 +61,10 @@ pub data AreLetters (names : List (List ℕ)) (room : ℕ) : List Token → List
       → AreLetters names room u us
 
 -- the names among the tokens, in order
-abbrev pub names_of : List Token → List (List ℕ)
-names_of [] = []
-names_of (token.Name name ∷ ts) = name ∷ names_of ts
-names_of (_ ∷ ts) = names_of ts
+abbrev pub token_names : List Token → List (List ℕ)
+token_names [] = []
+token_names (token.Name name ∷ ts) = name ∷ token_names ts
+token_names (_ ∷ ts) = token_names ts
 
 -- each name once, where it first stands
 abbrev pub distinct : List (List ℕ) → List (List ℕ)
@@ -83,7 +83,7 @@ pub record IsWord (tokens : List Token) (p : WordPattern) : Type 0 where
   pub last_tokens : List Token
   pub first : List LabelTree
   pub last : LabelTree
-  pub names : p.names ≡ distinct (names_of tokens)
+  pub names : p.names ≡ distinct (token_names tokens)
   pub stem : AreLetters p.names most_open stem_tokens p.stem
   pub letters : AreLetters p.names most_open cycle_tokens first
   pub last_letter : IsLetter p.names most_open last_tokens last
@@ -91,7 +91,7 @@ pub record IsWord (tokens : List Token) (p : WordPattern) : Type 0 where
   pub spelled : tokens ≡ stem_tokens ++ (token.Cycle ∷ token.LeftBrace ∷ (cycle_tokens ++ (last_tokens ++ token.RightBrace ∷ [])))
 
 -- a word can begin with these tokens
-pub record Begins (tokens : List Token) : Type 0 where
+pub record IsPrefixOfWord (tokens : List Token) : Type 0 where
   pub more : List Token
   pub pattern : WordPattern
   pub word : IsWord (tokens ++ more) pattern

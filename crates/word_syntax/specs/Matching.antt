@@ -1,7 +1,7 @@
 -- Which lasso words match a pattern, and an automaton that says so.
 use Rattle.std.specs.Prelude.{◌≡◌, ℕ, ◌+◌, ◌<◌, ◌==◌, true, if◌then◌else◌, List, [], ◌∷◌, ◌++◌, length}
 use Rattle.aut_base.specs.Acceptance.{Accepts}
-use Rattle.aut_base.specs.Automaton.{Automaton, TreeEdge}
+use Rattle.aut_base.specs.Automaton.{Automaton, LabelledEdge}
 use Rattle.aut_base.specs.Formula as formula
 use Rattle.aut_base.specs.Label.{LabelTree, holds_at, truth}
 use Rattle.aut_base.specs.Word.{NameSet, copies}
@@ -42,7 +42,7 @@ abbrev pub next_state : ℕ → ℕ → ℕ → ℕ
 next_state back total place = if place + 1 == total then back else place + 1
 
 -- an edge for each label, from one state to the next
-abbrev pub edges_along : ℕ → ℕ → ℕ → List LabelTree → List TreeEdge
+abbrev pub edges_along : ℕ → ℕ → ℕ → List LabelTree → List LabelledEdge
 edges_along back total place [] = []
 edges_along back total place (t ∷ ts) = record { from = place; label = t; to = next_state back total place; marks = [] } ∷ edges_along back total (place + 1) ts
 

@@ -5,7 +5,7 @@ use Rattle.std.specs.List.{list_all}
 use Rattle.aut_base.specs.LabelText.{joined}
 use Rattle.aut_base.specs.Text.{same_text}
 use Rattle.aut_base.specs.Word.{NameSet}
-use Rattle.word_syntax.specs.Tokens.{is_word}
+use Rattle.word_syntax.specs.Tokens.{is_alphanumeric}
 
 -- `a` to `z` or `_`
 abbrev pub is_small : ℕ → Bool
@@ -21,7 +21,7 @@ is_keyword name = same_text name (codes "true") || (same_text name (codes "false
 
 -- the name needs no quotes: it is spelled as a bare name and begins with a small letter or `_`
 abbrev pub is_plain : List ℕ → Bool
-is_plain name = begins_small name && (list_all is_word name && not (is_keyword name))
+is_plain name = begins_small name && (list_all is_alphanumeric name && not (is_keyword name))
 
 -- `\` stands before a quote and before `\`
 abbrev pub escaped_byte : ℕ → List ℕ
@@ -31,13 +31,13 @@ abbrev pub name_text : List ℕ → List ℕ
 name_text name = if is_plain name then name else codes "\"" ++ (flat_map escaped_byte name ++ codes "\"")
 
 -- a name with `!` before it where it isn't in the letter
-abbrev pub literal_text : NameSet → List ℕ → List ℕ
-literal_text letter name = if contains letter name then name_text name else codes "!" ++ name_text name
+abbrev pub name_literal_text : NameSet → List ℕ → List ℕ
+name_literal_text letter name = if contains letter name then name_text name else codes "!" ++ name_text name
 
 -- the literals of all names, or `1` without names
 abbrev pub letter_text : List (List ℕ) → NameSet → List ℕ
 letter_text [] letter = codes "1"
-letter_text (name ∷ names) letter = joined (codes " & ") (map (literal_text letter) (name ∷ names))
+letter_text (name ∷ names) letter = joined (codes " & ") (map (name_literal_text letter) (name ∷ names))
 
 abbrev pub word_text : List (List ℕ) → List NameSet → List NameSet → List ℕ
 word_text names stem cycle =

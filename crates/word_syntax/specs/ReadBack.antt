@@ -5,7 +5,7 @@ use Rattle.aut_base.specs.Word.{NameSet, SpellsSame, copies}
 use Rattle.word_syntax.specs.Grammar.{WordPattern}
 use Rattle.word_syntax.specs.Matching.{Matches}
 use Rattle.word_syntax.specs.Printing.{word_text}
-use Rattle.word_syntax.specs.Writing.{Writes}
+use Rattle.word_syntax.specs.Writing.{WritesWord}
 
 -- both letters have the same of these names
 abbrev pub AgreesOn : List (List ℕ) → NameSet → NameSet → Type 0
@@ -32,7 +32,7 @@ pub record AgreesUnrolled (names : List (List ℕ)) (u v x y : List NameSet) : T
 -- lasso of the printed word's infinite word.
 pub record IsReadBack (names : List (List ℕ)) (u v : List NameSet) : Type 0 where
   pub pattern : WordPattern
-  pub writes : Writes (word_text names u v) pattern
+  pub writes : WritesWord (word_text names u v) pattern
   pub names_are : pattern.names ≡ names
   pub matches : (x y : List NameSet) → Matches pattern x y ↔ AgreesUnrolled names u v x y
 

@@ -13,13 +13,13 @@ abbrev pub is_letter : ℕ → Bool
 is_letter b = (nat_le 65 b && nat_le b 90) || ((nat_le 97 b && nat_le b 122) || (b == 95))
 
 -- a letter or a digit
-abbrev pub is_word : ℕ → Bool
-is_word b = is_letter b || (nat_le 48 b && nat_le b 57)
+abbrev pub is_alphanumeric : ℕ → Bool
+is_alphanumeric b = is_letter b || (nat_le 48 b && nat_le b 57)
 
 -- a letter, and then letters and digits
 abbrev pub IsBare : List ℕ → Type 0
 IsBare [] = ⊥
-IsBare (b ∷ bs) = (is_letter b ≡ true) × (list_all is_word bs ≡ true)
+IsBare (b ∷ bs) = (is_letter b ≡ true) × (list_all is_alphanumeric bs ≡ true)
 
 -- What stands between the quotes of a string, and the bytes that it means: `\` and a byte mean that byte, and any
 -- other byte but `"` means itself.
@@ -42,45 +42,45 @@ pub record IsQuotedName (name word : List ℕ) : Type 0 where
   pub is : word ≡ 34 ∷ (inner ++ 34 ∷ [])
 
 -- the bytes that spell a token
-abbrev pub Spells : Token → List ℕ → Type 0
-Spells True word = (word ≡ codes "1") ⊎ (word ≡ codes "true")
-Spells False word = (word ≡ codes "0") ⊎ (word ≡ codes "false")
-Spells (Name name) word = (IsBareName name × (word ≡ name)) ⊎ IsQuotedName name word
-Spells Not word = word ≡ codes "!"
-Spells And word = (word ≡ codes "&") ⊎ (word ≡ codes "&&")
-Spells Or word = (word ≡ codes "|") ⊎ (word ≡ codes "||")
-Spells LeftParen word = word ≡ codes "("
-Spells RightParen word = word ≡ codes ")"
-Spells Semicolon word = word ≡ codes ";"
-Spells Cycle word = word ≡ codes "cycle"
-Spells LeftBrace word = word ≡ codes "{"
-Spells RightBrace word = word ≡ codes "}"
+abbrev pub SpellsWordToken : Token → List ℕ → Type 0
+SpellsWordToken True word = (word ≡ codes "1") ⊎ (word ≡ codes "true")
+SpellsWordToken False word = (word ≡ codes "0") ⊎ (word ≡ codes "false")
+SpellsWordToken (Name name) word = (IsBareName name × (word ≡ name)) ⊎ IsQuotedName name word
+SpellsWordToken Not word = word ≡ codes "!"
+SpellsWordToken And word = (word ≡ codes "&") ⊎ (word ≡ codes "&&")
+SpellsWordToken Or word = (word ≡ codes "|") ⊎ (word ≡ codes "||")
+SpellsWordToken LeftParen word = word ≡ codes "("
+SpellsWordToken RightParen word = word ≡ codes ")"
+SpellsWordToken Semicolon word = word ≡ codes ";"
+SpellsWordToken Cycle word = word ≡ codes "cycle"
+SpellsWordToken LeftBrace word = word ≡ codes "{"
+SpellsWordToken RightBrace word = word ≡ codes "}"
 
 -- With this byte the word would be a longer token: a name or a word of the notation goes on, or `&` or `|` doubles.
 abbrev pub extends : List ℕ → ℕ → Bool
 extends [] c = false
-extends (b ∷ []) c = (is_letter b && is_word c) || (((b == 38) && (c == 38)) || ((b == 124) && (c == 124)))
-extends (b ∷ d ∷ ds) c = is_letter b && is_word c
+extends (b ∷ []) c = (is_letter b && is_alphanumeric c) || (((b == 38) && (c == 38)) || ((b == 124) && (c == 124)))
+extends (b ∷ d ∷ ds) c = is_letter b && is_alphanumeric c
 
 -- what follows makes the word no longer
-abbrev pub Ends : List ℕ → List ℕ → Type 0
-Ends word [] = Unit {0}
-Ends word (c ∷ rest) = extends word c ≡ false
+abbrev pub EndsWord : List ℕ → List ℕ → Type 0
+EndsWord word [] = Unit {0}
+EndsWord word (c ∷ rest) = extends word c ≡ false
 
 -- the token stands at the front of the bytes, and `rest` follows it
-pub record IsFront (bytes : List ℕ) (token : Token) (rest : List ℕ) : Type 0 where
+pub record IsWordFront (bytes : List ℕ) (token : Token) (rest : List ℕ) : Type 0 where
   pub word : List ℕ
   pub split : bytes ≡ word ++ rest
-  pub spells : Spells token word
-  pub ends : Ends word rest
+  pub spells : SpellsWordToken token word
+  pub ends : EndsWord word rest
 
 -- blanks, and then these bytes
-pub record AfterBlanks (input bytes : List ℕ) : Type 0 where
+pub record FollowsBlanks (input bytes : List ℕ) : Type 0 where
   pub before : List ℕ
   pub split : input ≡ before ++ bytes
   pub blank : list_all is_blank before ≡ true
 
 -- These tokens stand at the front of the text, with blanks before and between them, and `rest` follows.
-abbrev pub Lexes : List ℕ → List Token → List ℕ → Type 0
-Lexes text [] rest = text ≡ rest
-Lexes text (t ∷ ts) rest = (bytes : List ℕ) × (next : List ℕ) × AfterBlanks text bytes × IsFront bytes t next × Lexes next ts rest
+abbrev pub LexesWord : List ℕ → List Token → List ℕ → Type 0
+LexesWord text [] rest = text ≡ rest
+LexesWord text (t ∷ ts) rest = (bytes : List ℕ) × (next : List ℕ) × FollowsBlanks text bytes × IsWordFront bytes t next × LexesWord next ts rest

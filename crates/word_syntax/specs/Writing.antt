@@ -2,8 +2,8 @@
 use Rattle.std.specs.Prelude.{◌≡◌, ℕ, ◌+◌, ◌^◌, ◌<◌, ◌≤◌, ◌⊎◌, true, false, List, [], ◌∷◌, ◌++◌, length, map, drop, Result, Ok, Err}
 use Rattle.std.specs.List.{list_all}
 use Rattle.aut_base.specs.Label.{label_tree}
-use Rattle.word_syntax.specs.Grammar.{Begins, IsWord, WordPattern}
-use Rattle.word_syntax.specs.Tokens.{AfterBlanks, IsFront, Lexes, is_blank}
+use Rattle.word_syntax.specs.Grammar.{IsPrefixOfWord, IsWord, WordPattern}
+use Rattle.word_syntax.specs.Tokens.{FollowsBlanks, IsWordFront, LexesWord, is_blank}
 use Rattle.word_syntax.specs.declared.pattern.Pattern.{Pattern}
 use Rattle.word_syntax.specs.declared.pattern.WordFault.{WordFault}
 use Rattle.word_syntax.specs.declared.pattern.WordFault.TheVariants.{BadWord, Memory}
@@ -15,33 +15,33 @@ abbrev pub word_pattern : Pattern → WordPattern
 word_pattern p = record { names = p.names; stem = map label_tree p.stem; cycle = map label_tree p.cycle }
 
 -- The text writes the pattern: its tokens are a word, and only blanks follow. A text of 2^32 bytes or more writes none.
-pub record Writes (text : List ℕ) (p : WordPattern) : Type 0 where
+pub record WritesWord (text : List ℕ) (p : WordPattern) : Type 0 where
   pub short : length text < 2 ^ 32
   pub tokens : List Token
   pub rest : List ℕ
-  pub lexes : Lexes text tokens rest
+  pub lexes : LexesWord text tokens rest
   pub blank : list_all is_blank rest ≡ true
   pub word : IsWord tokens p
 
 -- Why a word that begins with these tokens can't go on at these bytes.
-pub data Stops (tokens : List Token) : List ℕ → Type 0 where
+pub data StopsWord (tokens : List Token) : List ℕ → Type 0 where
   -- a token can't stand there, or opens one `(` or `!` more than may be open
-  misplaced : {bytes rest : List ℕ} (t : Token) → IsFront bytes t rest → (Begins (tokens ++ t ∷ []) → ⊥) → Stops tokens bytes
+  misplaced : {bytes rest : List ℕ} (t : Token) → IsWordFront bytes t rest → (IsPrefixOfWord (tokens ++ t ∷ []) → ⊥) → StopsWord tokens bytes
   -- the bytes are no token
-  no_token : {b : ℕ} {bs : List ℕ} → is_blank b ≡ false → ((t : Token) (rest : List ℕ) → IsFront (b ∷ bs) t rest → ⊥) → Stops tokens (b ∷ bs)
+  no_token : {b : ℕ} {bs : List ℕ} → is_blank b ≡ false → ((t : Token) (rest : List ℕ) → IsWordFront (b ∷ bs) t rest → ⊥) → StopsWord tokens (b ∷ bs)
   -- the text ends too early
-  ended : ((p : WordPattern) → IsWord tokens p → ⊥) → Stops tokens []
+  ended : ((p : WordPattern) → IsWord tokens p → ⊥) → StopsWord tokens []
 
 -- A word can begin with the tokens up to offset k, and can't go on there.
 pub record IsStoppedAt (text : List ℕ) (k : ℕ) : Type 0 where
   pub tokens : List Token
   pub rest : List ℕ
   pub bytes : List ℕ
-  pub lexes : Lexes text tokens rest
-  pub begins : Begins tokens
-  pub after_blanks : AfterBlanks rest bytes
+  pub lexes : LexesWord text tokens rest
+  pub begins : IsPrefixOfWord tokens
+  pub after_blanks : FollowsBlanks rest bytes
   pub offset : k + length bytes ≡ length text
-  pub stops : Stops tokens bytes
+  pub stops : StopsWord tokens bytes
 
 -- The text writes no pattern, and k is the offset that is told: always 0 for a text of 2^32 bytes or more.
 abbrev pub IsBadAt : List ℕ → ℕ → Type 0
@@ -49,25 +49,25 @@ IsBadAt text k = ((2 ^ 32 ≤ length text) × (k ≡ 0)) ⊎ ((length text < 2 ^
 
 -- the text writes no pattern at all
 abbrev pub WritesNothing : List ℕ → Type 0
-WritesNothing text = (p : WordPattern) → Writes text p → ⊥
+WritesNothing text = (p : WordPattern) → WritesWord text p → ⊥
 
 -- What each answer to a text says of it.
 abbrev pub AnswersWord : Result Pattern WordFault → List ℕ → Type 0
-AnswersWord (Ok p) text = Writes text (word_pattern p)
+AnswersWord (Ok p) text = WritesWord text (word_pattern p)
 AnswersWord (Err (BadWord k)) text = IsBadAt text k × WritesNothing text
 AnswersWord (Err Memory) text = Unit {0}
 
 -- A text writes at most one pattern, and none if it is bad at some offset. There is at most one such offset.
 pub record OneReading (text : List ℕ) : Type 0 where
-  pub pattern : (p q : WordPattern) → Writes text p → Writes text q → p ≡ q
+  pub pattern : (p q : WordPattern) → WritesWord text p → WritesWord text q → p ≡ q
   pub offset : (j k : ℕ) → IsBadAt text j → IsBadAt text k → j ≡ k
-  pub either : (p : WordPattern) (k : ℕ) → Writes text p → IsBadAt text k → ⊥
+  pub either : (p : WordPattern) (k : ℕ) → WritesWord text p → IsBadAt text k → ⊥
 
 -- the name stands at the first byte of the text, and this many bytes spell it
 pub record IsNameAtFront (text name : List ℕ) (size : ℕ) : Type 0 where
   pub within : size ≤ length text
-  pub front : IsFront text (token.Name name) (drop size text)
+  pub front : IsWordFront text (token.Name name) (drop size text)
 
 -- no name stands at the first byte
 abbrev pub NoNameAtFront : List ℕ → Type 0
-NoNameAtFront text = (name rest : List ℕ) → IsFront text (token.Name name) rest → ⊥
+NoNameAtFront text = (name rest : List ℕ) → IsWordFront text (token.Name name) rest → ⊥

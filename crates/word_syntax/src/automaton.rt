@@ -1,11 +1,11 @@
 //! The automaton of a pattern.
 
 ghost use Rattle.std.specs.Prelude.{◌≡◌, ◌+◌, ◌<◌, ◌≤◌, ◌^◌, ◌↔◌, ◌++◌, IfOk, OnOk, IsErrOf, length, map};
-ghost use Rattle.aut_base.specs.Automaton.{Automaton as AutomatonTree, automaton, tree_edge};
+ghost use Rattle.aut_base.specs.Automaton.{Automaton as AutomatonTree, automaton, labelled_edge};
 ghost use Rattle.aut_base.specs.CanonicalLabel.{canonical};
 ghost use Rattle.aut_base.specs.Label.{label_tree};
 ghost use Rattle.aut_base.specs.declared.limit.TheConstants.{MOST_NAMES};
-ghost use Rattle.aut_core.specs.Core.{automaton_of};
+ghost use Rattle.aut_core.specs.SymbolicAutomata.{automaton_of};
 ghost use Rattle.word_syntax.specs.Matching.{AcceptTogether, AcceptsPattern, edges_along, next_state, word_automaton};
 ghost use Rattle.word_syntax.specs.Writing.{word_pattern};
 
@@ -60,7 +60,7 @@ fn push_edges(
     total: u32,
 ) -> Result<(), Memory>
     requires { length edges.old + length labels.now ≤ total }
-    ensures { OnOk result (map tree_edge edges.new ≡ map tree_edge edges.old ++ edges_along back total (length edges.old) (map label_tree labels.now)) }
+    ensures { OnOk result (map labelled_edge edges.new ≡ map labelled_edge edges.old ++ edges_along back total (length edges.old) (map label_tree labels.now)) }
 {
     'labels: for label in labels {
         let from = edges.len() as u32;

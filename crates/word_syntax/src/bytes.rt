@@ -21,7 +21,7 @@ pub(crate) fn is_letter(byte: u8) -> bool
 
 /// What a bare name goes on with.
 pub(crate) fn is_word(byte: u8) -> bool
-    ensures { result ≡ kinds.is_word byte }
+    ensures { result ≡ kinds.is_alphanumeric byte }
 {
     is_letter(byte) || (b'0' <= byte && byte <= b'9')
 }
@@ -35,7 +35,7 @@ pub(crate) fn blanks(bytes: &[u8]) -> usize
 
 /// How many letters and digits stand at the front.
 pub(crate) fn words(bytes: &[u8]) -> usize
-    ensures { result ≡ prefix_len kinds.is_word bytes.now }
+    ensures { result ≡ prefix_len kinds.is_alphanumeric bytes.now }
 {
     bytes.iter().take_while(|byte| is_word(**byte)).count()
 }
@@ -57,7 +57,7 @@ pub(crate) fn is_small(byte: u8) -> bool
 
 /// Whether all are letters and digits.
 pub(crate) fn are_words(bytes: &[u8]) -> bool
-    ensures { result ≡ list_all kinds.is_word bytes.now }
+    ensures { result ≡ list_all kinds.is_alphanumeric bytes.now }
 {
     bytes.iter().all(|byte| is_word(*byte))
 }

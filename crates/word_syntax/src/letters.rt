@@ -1,7 +1,7 @@
 //! Letters: whether two are the same, and copies.
 
 ghost use Rattle.std.specs.Prelude.{◌≡◌, ◌≤◌, length, take, drop, ◌↔◌, ◌++◌, IsTrue, IfOk, OnOk};
-ghost use Rattle.word_syntax.specs.inner.Periods.{IsWithin};
+ghost use Rattle.word_syntax.specs.inner.Periods.{IsSubset};
 
 use crate::over::holds_only;
 use aut_base::{Letter, Letters, Memory};
@@ -16,7 +16,7 @@ pub(crate) fn is_same(a: &Letter, b: &Letter) -> bool
 
 // Whether each proposition that holds at the first letter holds at the second.
 fn is_within(a: &Letter, b: &Letter) -> bool
-    ensures { IsTrue result ↔ IsWithin a.now b.now }
+    ensures { IsTrue result ↔ IsSubset a.now b.now }
 {
     holds_only(a, b.names())
 }

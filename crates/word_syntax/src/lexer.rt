@@ -2,7 +2,7 @@
 
 ghost use Rattle.std.specs.Prelude.{◌≡◌, ◌==◌, ◌<◌, IsTrue, length, ◌≤◌, slice_index, drop, IfOk, IfSome};
 ghost use Rattle.word_syntax.specs.Tokens.{is_letter};
-ghost use Rattle.word_syntax.specs.inner.Fronts.{bare_token, doubled, front_token, sign_token, unquoted};
+ghost use Rattle.word_syntax.specs.inner.Fronts.{bare_token, sign_count, front_token, sign_token, unquoted};
 
 use crate::bytes::{is_letter, words};
 use crate::token::Token;

@@ -1,14 +1,14 @@
 //! The places of names.
 
 ghost use Rattle.std.specs.Prelude.{◌<◌, ◌^◌, length, IfOk};
-ghost use Rattle.word_syntax.specs.inner.Chains.{IsPlaced};
+ghost use Rattle.word_syntax.specs.inner.Chains.{IsNamePlaced};
 
 use aut_base::{Memory, Names, Text};
 
 /// The place of the name in the list, to which it is added if it isn't there.
 pub(crate) fn place(names: &mut Names, name: Text) -> Result<u32, Memory>
     requires { length names.old < 2 ^ 32 }
-    ensures { IfOk result (λ place. IsPlaced names.old names.new name place) }
+    ensures { IfOk result (λ place. IsNamePlaced names.old names.new name place) }
 {
     match names.position(&name) {
         Some(place) => Ok(place),

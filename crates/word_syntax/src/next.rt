@@ -1,7 +1,7 @@
 //! The next token of a text.
 
 ghost use Rattle.std.specs.Prelude.{◌≤◌, length, IfOk};
-ghost use Rattle.word_syntax.specs.inner.Nexts.{StandsNext};
+ghost use Rattle.word_syntax.specs.inner.Nexts.{IsNextAnswer};
 
 use crate::bytes::{blanks, from};
 use crate::lexer::front_token;
@@ -21,7 +21,7 @@ pub(crate) enum Next {
 /// What stands next in the text from this place on.
 pub(crate) fn next_token(alloc: Global, bytes: &[u8], at: usize) -> Result<Next, Memory>
     requires { at ≤ length bytes.now }
-    ensures { IfOk result (λ next. StandsNext bytes.now at next) }
+    ensures { IfOk result (λ next. IsNextAnswer bytes.now at next) }
 {
     let start = at + blanks(from(bytes, at));
     match front_token(alloc, from(bytes, start))? {

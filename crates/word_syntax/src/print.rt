@@ -60,7 +60,7 @@ fn push_letter(text: &mut Text, letter: &Letter, names: &Names) -> Result<(), Me
 // The literals of some names.
 fn push_literals(text: &mut Text, letter: &Letter, names: &[Text]) -> Result<(), Memory>
     requires { 0 < length names.now }
-    ensures { OnOk result (text.new ≡ text.old ++ joined (codes " & ") (map (printing.literal_text letter.now) names.now)) }
+    ensures { OnOk result (text.new ≡ text.old ++ joined (codes " & ") (map (printing.name_literal_text letter.now) names.now)) }
 {
     push_literal(text, letter, &names[0])?;
     'names: for place in 1..names.len() {
@@ -72,7 +72,7 @@ fn push_literals(text: &mut Text, letter: &Letter, names: &[Text]) -> Result<(),
 
 // A name, with `!` before it where it isn't in the letter.
 fn push_literal(text: &mut Text, letter: &Letter, name: &Text) -> Result<(), Memory>
-    ensures { OnOk result (text.new ≡ text.old ++ printing.literal_text letter.now name.now) }
+    ensures { OnOk result (text.new ≡ text.old ++ printing.name_literal_text letter.now name.now) }
 {
     if !letter.has(name) {
         text.push(b'!')?;

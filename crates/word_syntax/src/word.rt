@@ -23,7 +23,7 @@ pub(crate) struct WordReader {
 }
 
 impl WordReader {
-    ghost use Rattle.word_syntax.specs.inner.Chains.{Takes, word_state};
+    ghost use Rattle.word_syntax.specs.inner.Chains.{TakesToken, word_state};
 
     /// Nothing is read yet.
     pub(crate) fn new(alloc: Global) -> WordReader
@@ -42,7 +42,7 @@ impl WordReader {
     /// Goes on with a token, or `None` where the token can't stand there.
     pub(crate) fn step(self, alloc: Global, token: Token) -> Result<Option<WordReader>, Memory>
         requires { length self.names < 2 ^ 32 }
-        ensures { IfOk result (λ next. Takes self token next) }
+        ensures { IfOk result (λ next. TakesToken self token next) }
     {
         match token {
             Token::Semicolon => self.end_letter(alloc),
@@ -57,7 +57,7 @@ impl WordReader {
     fn in_letter(self, alloc: Global, token: Token) -> Result<Option<WordReader>, Memory>
         requires few { length self.names < 2 ^ 32 }
         requires of_letter { machine.is_of_letter token ≡ true }
-        ensures { IfOk result (λ next. Takes self token next) }
+        ensures { IfOk result (λ next. TakesToken self token next) }
     {
         let WordReader {
             mut names,
@@ -83,7 +83,7 @@ impl WordReader {
 
     // `;`
     fn end_letter(mut self, alloc: Global) -> Result<Option<WordReader>, Memory>
-        ensures { IfOk result (λ next. Takes self Token.Semicolon next) }
+        ensures { IfOk result (λ next. TakesToken self Token.Semicolon next) }
     {
         let letter = mem::replace(&mut self.letter, LetterReader::new(alloc));
         let Some(label) = letter.whole(alloc)? else {
@@ -104,7 +104,7 @@ impl WordReader {
 
     // `}`
     fn end_word(mut self, alloc: Global) -> Result<Option<WordReader>, Memory>
-        ensures { IfOk result (λ next. Takes self Token.RightBrace next) }
+        ensures { IfOk result (λ next. TakesToken self Token.RightBrace next) }
     {
         let Some(label) = self.letter.whole(alloc)? else {
             return Ok(None);
@@ -124,7 +124,7 @@ impl WordReader {
 
     // `cycle`
     fn begin_cycle(self) -> Option<WordReader>
-        ensures { Takes self Token.Cycle result }
+        ensures { TakesToken self Token.Cycle result }
     {
         match self.stage {
             Stage::Stem => {
@@ -142,7 +142,7 @@ impl WordReader {
 
     // `{`
     fn open_cycle(self) -> Option<WordReader>
-        ensures { Takes self Token.LeftBrace result }
+        ensures { TakesToken self Token.LeftBrace result }
     {
         match self.stage {
             Stage::Brace => Some(WordReader {

@@ -2,14 +2,14 @@
 use Rattle.std.specs.Prelude.{Bool, true, false, List}
 use Rattle.std.specs.List.{list_all, list_any}
 use Rattle.aut_base.specs.Formula.{FormulaTree}
-use Rattle.acc_forms.specs.Joined.{conj, disj, conjuncts, disjuncts, all_of, some_of, is_true, is_false}
+use Rattle.acc_forms.specs.Joined.{conj, disj, conjuncts, disjuncts, and_of, some_of, is_true, is_false}
 use Rattle.acc_forms.specs.declared.join.Join.{Join}
 use Rattle.acc_forms.specs.declared.join.Join.TheVariants.{All, Any}
 
 -- the two, joined in this way
-abbrev pub joined : Join → FormulaTree → FormulaTree → FormulaTree
-joined All = conj
-joined Any = disj
+abbrev pub joined_by : Join → FormulaTree → FormulaTree → FormulaTree
+joined_by All = conj
+joined_by Any = disj
 
 -- whether it stays as it is when it is joined with any other
 abbrev pub outweighs : Join → FormulaTree → Bool
@@ -28,7 +28,7 @@ parts_under Any = disjuncts
 
 -- the condition of these parts
 abbrev pub node : Join → List FormulaTree → FormulaTree
-node All = all_of
+node All = and_of
 node Any = some_of
 
 -- whether all parts are joined, and not one of them

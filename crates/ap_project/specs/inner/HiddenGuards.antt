@@ -4,8 +4,8 @@ use Rattle.std.specs.List.{slice_index_or}
 use Rattle.std.specs.Map.{lookup}
 use Rattle.ap_project.specs.Hiding.{hidden_label, hidden_value}
 use Rattle.ap_project.specs.declared.hide.Hide.{Hide}
-use Rattle.aut_base.specs.Automaton.{TreeEdge}
-use Rattle.aut_core.specs.Core.{Core, edge_of}
+use Rattle.aut_base.specs.Automaton.{LabelledEdge}
+use Rattle.aut_core.specs.SymbolicAutomata.{SymbolicAutomaton, edge_of}
 use Rattle.aut_core.specs.declared.link.Link.{Link}
 use Rattle.label_guards.specs.Guards.{truth_in, with_prop}
 use Rattle.label_guards.specs.Store.{Has, Store, label_in}
@@ -22,13 +22,13 @@ pub record IsHiddenGuard (s t : Store) (how : Hide) (prop : ℕ) (to : List ℕ)
   pub truth : (on : ℕ → Bool) → truth_in t h on ≡ hidden_in s how prop g (λ k. on (slice_index_or to k 0))
 
 -- places in a list of so many items, if it has any
-abbrev pub AreWithin : ℕ → List ℕ → Type 0
-AreWithin count places = 0 < count → All (λ place. place < count) places
+abbrev pub ArePlacesWithin : ℕ → List ℕ → Type 0
+ArePlacesWithin count places = 0 < count → All (λ place. place < count) places
 
 -- the place of each name of the first list in the second, for those that the second has
-pub record ArePlaces (names others : List (List ℕ)) (to : List ℕ) : Type 0 where
+pub record ArePlacesOfNames (names others : List (List ℕ)) (to : List ℕ) : Type 0 where
   pub count : length to ≡ length names
-  pub within : AreWithin (length others) to
+  pub within : ArePlacesWithin (length others) to
   pub places : (k : ℕ) (name : List ℕ) → slice_get names k ≡ Some name → Contains others name → slice_get others (slice_index_or to k 0) ≡ Some name
 
 -- the name at a place
@@ -36,7 +36,7 @@ abbrev pub name_at : List (List ℕ) → ℕ → List ℕ
 name_at names k = slice_index_or names k []
 
 -- the edge of a link, with its label after the proposition is hidden
-abbrev pub hidden_link : Hide → ℕ → Core → Link → TreeEdge
+abbrev pub hidden_link : Hide → ℕ → SymbolicAutomaton → Link → LabelledEdge
 hidden_link how prop a l = record (edge_of a.store l) { label = hidden_label how (name_at a.names prop) a.names (label_in a.store l.guard) }
 
 -- whether the guards have the same number
@@ -44,8 +44,8 @@ abbrev pub same_guard : Guard → Guard → Bool
 same_guard g h = nat_eq g.place h.place
 
 -- the table with one guard more
-abbrev pub IsPut : (old new : List (Guard × Guard)) (g found : Guard) → Type 0
-IsPut old new g found = (q : Guard) → lookup (same_guard q) new ≡ cond (same_guard g q) (Some found) (lookup (same_guard q) old)
+abbrev pub IsGuardInserted : (old new : List (Guard × Guard)) (g found : Guard) → Type 0
+IsGuardInserted old new g found = (q : Guard) → lookup (same_guard q) new ≡ cond (same_guard g q) (Some found) (lookup (same_guard q) old)
 
 -- each guard of the table is the one under which it stands, with the proposition hidden
 abbrev pub AreHidden : Store → Store → Hide → ℕ → List ℕ → List (Guard × Guard) → Type 0

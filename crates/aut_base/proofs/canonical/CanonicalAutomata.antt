@@ -6,7 +6,7 @@ use Rattle.std.specs.FinSet.{contains}
 use Rattle.std.specs.List.Sorted.{IsNonDecreasing}
 use Rattle.std.specs.Option.{option_map_or}
 use Rattle.aut_base.specs.Acceptance.{Accepts}
-use Rattle.aut_base.specs.Automaton.{TreeEdge, Automaton, IsEdgeOf, IsWellFormed}
+use Rattle.aut_base.specs.Automaton.{LabelledEdge, Automaton, IsEdgeOf, IsWellFormed}
 use Rattle.aut_base.specs.CanonicalLabel.{canonical, canonical_label}
 use Rattle.aut_base.specs.Label.{AllBelow, LabelTree, holds_at}
 use Rattle.aut_base.specs.LabelLaws.{LabelsBelow}
@@ -18,7 +18,7 @@ use Rattle.aut_base.proofs.runs.OtherEdges.{other_labels_accept, relabelled_acce
 use Rattle.aut_base.proofs.lists.Lists.{slice_get-append_left}
 
 -- the edge with its label in canonical form, in an automaton of this many names
-abbrev pub relabelled : ℕ → TreeEdge → TreeEdge
+abbrev pub relabelled : ℕ → LabelledEdge → LabelledEdge
 relabelled n e = record e { label = canonical_label n e.label }
 
 pub labels_below : (a : Automaton) → IsWellFormed a → LabelsBelow a
@@ -31,7 +31,7 @@ canonical_accepts_the_same a below = other_labels_accept a a.names (λ e. canoni
 pub other_names_play_no_part : (a : Automaton) (others : List (List ℕ)) → LabelsBelow a → (u v : List NameSet) → Accepts (record a { names = a.names ++ others }) u v ↔ Accepts a u v
 other_names_play_no_part a others below =
     relabelled_accepts a (record a { names = a.names ++ others }) (λ e. e) (record {
-      edges = sym (map_fixed (λ (e : TreeEdge). e) a.edges (λ k d within. refl));
+      edges = sym (map_fixed (λ (e : LabelledEdge). e) a.edges (λ k d within. refl));
       starts = refl;
       formula = refl;
       from = λ e. refl;
@@ -53,11 +53,11 @@ canonical_is_well_formed a formed = record {
   formula = formed.formula;
 }
   where
-    froms : (n : ℕ) (es : List TreeEdge) → map (λ (e : TreeEdge). e.from) es ≡ map (λ (e : TreeEdge). e.from) (map (relabelled n) es)
+    froms : (n : ℕ) (es : List LabelledEdge) → map (λ (e : LabelledEdge). e.from) es ≡ map (λ (e : LabelledEdge). e.from) (map (relabelled n) es)
     froms n [] = refl
     froms n (e ∷ es) = ap (λ xs. e.from ∷ xs) (froms n es)
 
-twice : (n : ℕ) (es : List TreeEdge) → map (relabelled n) (map (relabelled n) es) ≡ map (relabelled n) es
+twice : (n : ℕ) (es : List LabelledEdge) → map (relabelled n) (map (relabelled n) es) ≡ map (relabelled n) es
 twice n [] = refl
 twice n (e ∷ es) =
     let first : relabelled n (relabelled n e) ≡ relabelled n e = ap (λ (l : LabelTree). record e { label = l }) (canonical_label-twice n e.label) in
@@ -65,4 +65,4 @@ twice n (e ∷ es) =
     cc
 
 pub canonical-twice : (a : Automaton) → canonical (canonical a) ≡ canonical a
-canonical-twice a = ap (λ (es : List TreeEdge). record a { edges = es }) (twice (length a.names) a.edges)
+canonical-twice a = ap (λ (es : List LabelledEdge). record a { edges = es }) (twice (length a.names) a.edges)

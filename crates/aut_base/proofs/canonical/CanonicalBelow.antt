@@ -1,7 +1,7 @@
 -- The propositions of a canonical label are among those of its truth function.
 use Rattle.std.proofs.Common.{◌<◌, ◌≤◌, ◌+◌, ℕ, zero, suc, Bool, true, false, cond, List, [], ◌∷◌, ◌++◌, map, arith}
 use Rattle.std.specs.List.{AllByRecursion}
-use Rattle.aut_base.specs.CanonicalLabel.{Literal, all_of, canonical_label, cubes, is_independent, label_of, literal_tree, one_of}
+use Rattle.aut_base.specs.CanonicalLabel.{Literal, all_of, canonical_label, cubes, is_independent, label_of_truth, literal_tree, one_of}
 use Rattle.aut_base.specs.Label.{AllBelow, EachBelow, LabelTree, Prop, Not, trees}
 use Rattle.aut_base.specs.Valuation.{truth_on}
 
@@ -57,7 +57,7 @@ cube_trees_below n [] all = tt
 cube_trees_below n (c ∷ cs) all =
     (all_of_below n (map literal_tree c) (literals_below n c all.0), cube_trees_below n cs all.1)
 
-pub label_of_below : (n : ℕ) (g : List Bool → Bool) → AllBelow n (label_of n g)
+pub label_of_below : (n : ℕ) (g : List Bool → Bool) → AllBelow n (label_of_truth n g)
 label_of_below n g =
     one_of_below n (map (λ cube. all_of (map literal_tree cube)) (cubes 0 n g)) (cube_trees_below n (cubes 0 n g) (cubes_below n 0 n g (omega arith)))
 

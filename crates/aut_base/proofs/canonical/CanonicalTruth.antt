@@ -3,7 +3,7 @@ use Rattle.std.proofs.Common.{◌≡◌, ◌∙◌, ℕ, zero, suc, ◌+◌, ◌
 use Rattle.std.proofs.lemmas.List.Folds.{list_any-append}
 use Rattle.std.specs.Bool.{beq}
 use Rattle.std.specs.List.{list_all, list_any, range_with_len}
-use Rattle.aut_base.specs.CanonicalLabel.{Literal, all_of, canonical_label, cubes, cubes_tree, is_independent, label_of, literal_tree, one_of}
+use Rattle.aut_base.specs.CanonicalLabel.{Literal, all_of, canonical_label, cubes, cubes_tree, is_independent, label_of_truth, literal_tree, one_of}
 use Rattle.aut_base.specs.Label.{AllBelow, EachBelow, LabelTree, LabelTrees, True, False, Prop, Not, And, Or, none, more, all_true, some_true, trees, truth}
 use Rattle.aut_base.specs.Valuation.{holds_in, truth_on, valuation_of}
 use Rattle.aut_base.proofs.canonical.ValuationLists.{all_same, holds_in-valuation_of, independent_agrees, length-map_range, valuation_of-same}
@@ -93,11 +93,11 @@ cubes_hold holds i (suc n) g =
     go (is_independent n g) refl
 
 -- the label of a truth function, wherever one asks for its truth
-pub truth-label_of : (holds : ℕ → Bool) (n : ℕ) (g : List Bool → Bool) → truth holds (label_of n g) ≡ g (valuation_of n holds)
+pub truth-label_of : (holds : ℕ → Bool) (n : ℕ) (g : List Bool → Bool) → truth holds (label_of_truth n g) ≡ g (valuation_of n holds)
 truth-label_of holds n g = truth-cubes_tree holds (cubes 0 n g) ∙ cubes_hold holds 0 n g
 
 -- and under a valuation
-pub truth_on-label_of : (n : ℕ) (g : List Bool → Bool) (v : List Bool) → length v ≡ n → truth_on (label_of n g) v ≡ g v
+pub truth_on-label_of : (n : ℕ) (g : List Bool → Bool) (v : List Bool) → length v ≡ n → truth_on (label_of_truth n g) v ≡ g v
 truth_on-label_of n g v long =
     truth-label_of (holds_in v) n g ∙ ap g (valuation_of-same n (holds_in v) v long (λ k less. refl))
 
@@ -116,7 +116,7 @@ cubes_same i (suc n) g h same =
     (λ v long. let f = same (false ∷ v) (ap suc long) in let t = same (true ∷ v) (ap suc long) in cc) in
     same_branch i (is_independent n g) (is_independent n h) _ _ _ _ alone low high
 
-pub label_of-same : (n : ℕ) (g h : List Bool → Bool) → ((v : List Bool) → length v ≡ n → g v ≡ h v) → label_of n g ≡ label_of n h
+pub label_of-same : (n : ℕ) (g h : List Bool → Bool) → ((v : List Bool) → length v ≡ n → g v ≡ h v) → label_of_truth n g ≡ label_of_truth n h
 label_of-same n g h same = ap cubes_tree (cubes_same 0 n g h same)
 
 -- the truth of a label speaks of its own propositions

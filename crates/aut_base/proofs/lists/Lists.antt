@@ -158,12 +158,12 @@ flat_map-range_more f n =
 
 pub map-filter : {X Y : Type 0} (f : X → Y) (p : Y → Bool) (xs : List X) → map f (filter (λ x. p (f x)) xs) ≡ filter p (map f xs)
 map-filter f p [] = refl
-map-filter f p (x ∷ xs) = by (p (f x)) (map-filter f p xs)
+map-filter f p (x ∷ xs) = by_cases (p (f x)) (map-filter f p xs)
   where
-    by : (b : Bool) → map f (filter (λ y. p (f y)) xs) ≡ filter p (map f xs)
+    by_cases : (b : Bool) → map f (filter (λ y. p (f y)) xs) ≡ filter p (map f xs)
         → map f (cond b (x ∷ filter (λ y. p (f y)) xs) (filter (λ y. p (f y)) xs)) ≡ cond b (f x ∷ filter p (map f xs)) (filter p (map f xs))
-    by true rest = ap (λ ys. f x ∷ ys) rest
-    by false rest = rest
+    by_cases true rest = ap (λ ys. f x ∷ ys) rest
+    by_cases false rest = rest
 
 pub map-flat_map : {X Y Z : Type 0} (g : Y → Z) (f : X → List Y) (xs : List X) → map g (flat_map f xs) ≡ flat_map (λ x. map g (f x)) xs
 map-flat_map g f [] = refl

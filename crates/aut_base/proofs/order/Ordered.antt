@@ -61,20 +61,20 @@ At key n = filter (λ x. key x == n)
 none_under : {X : Type 0} (key : X → ℕ) (n : ℕ) (x : X) (xs : List X) → n ≤ key x → AllByRecursion (λ y. key x ≤ key y) xs → Under key n xs ≡ []
 none_under key n x xs l h = none_kept (λ y. nat_lt (key y) n) xs (AllByRecursion-weaker (λ y. key x ≤ key y) (λ y. nat_lt (key y) n ≡ false) xs (λ y k. le-ltb (key y) n (omega (arith, k))) h)
 
-one_more : {X : Type 0} (key : X → ℕ) (n : ℕ) (x : X) (xs : List X) (b c : Bool) → nat_lt (key x) n ≡ b → (key x == n) ≡ c → AllByRecursion (λ y. key x ≤ key y) xs
+counted_up_to_next : {X : Type 0} (key : X → ℕ) (n : ℕ) (x : X) (xs : List X) (b c : Bool) → nat_lt (key x) n ≡ b → (key x == n) ≡ c → AllByRecursion (λ y. key x ≤ key y) xs
     → Under key n xs ++ At key n xs ≡ Under key (suc n) xs
     → cond b (x ∷ Under key n xs) (Under key n xs) ++ cond c (x ∷ At key n xs) (At key n xs) ≡ cond (b || c) (x ∷ Under key (suc n) xs) (Under key (suc n) xs)
-one_more key n x xs true true p q h ih = absurd (omega (arith, ltb-true (key x) n p, eqb-true (key x) n q))
-one_more key n x xs true false p q h ih = ap (λ ys. x ∷ ys) ih
-one_more key n x xs false true p q h ih =
+counted_up_to_next key n x xs true true p q h ih = absurd (omega (arith, ltb-true (key x) n p, eqb-true (key x) n q))
+counted_up_to_next key n x xs true false p q h ih = ap (λ ys. x ∷ ys) ih
+counted_up_to_next key n x xs false true p q h ih =
     let none : Under key n xs ≡ [] = none_under key n x xs (ltb-false (key x) n p) h in
     ap (λ ys. ys ++ (x ∷ At key n xs)) none ∙ ap (λ ys. x ∷ ys) (sym (ap (λ ys. ys ++ At key n xs) none) ∙ ih)
-one_more key n x xs false false p q h ih = ih
+counted_up_to_next key n x xs false false p q h ih = ih
 
 pub under_more : {X : Type 0} (key : X → ℕ) (n : ℕ) (xs : List X) → Pairs (λ x y. key x ≤ key y) xs → Under key n xs ++ At key n xs ≡ Under key (suc n) xs
 under_more key n [] h = refl
 under_more key n (x ∷ xs) h =
-    one_more key n x xs (nat_lt (key x) n) (key x == n) refl refl h.0 (under_more key n xs h.1)
+    counted_up_to_next key n x xs (nat_lt (key x) n) (key x == n) refl refl h.0 (under_more key n xs h.1)
     ∙ ap (λ b. cond b (x ∷ Under key (suc n) xs) (Under key (suc n) xs)) (sym (lt_more (key x) n (nat_lt (key x) n) (key x == n) refl refl))
 
 pub under_zero : {X : Type 0} (key : X → ℕ) (xs : List X) → Under key zero xs ≡ []

@@ -4,7 +4,7 @@ use Rattle.std.proofs.lemmas.List.{get_or-map, length-map}
 use Rattle.std.proofs.lemmas.List.Sorted.{IsNonDecreasingBy-from_all_adjacent}
 use Rattle.std.specs.List.{AllAdjacentBelow}
 use Rattle.std.specs.List.Sorted.{IsNonDecreasing}
-use Rattle.aut_base.specs.Automaton.{TreeEdge, tree_edge, automaton, IsWellFormed, IsEdgeOf}
+use Rattle.aut_base.specs.Automaton.{LabelledEdge, labelled_edge, automaton, IsWellFormed, IsEdgeOf}
 use Rattle.aut_base.specs.Formula.{SetsBelow}
 use Rattle.aut_base.specs.declared.description.Description.{Description}
 use Rattle.aut_base.specs.declared.description.Edge.{Edge}
@@ -21,35 +21,35 @@ well_formed d names states starts order edges formula = record {
 }
 
 -- the edge at a place
-tree_edge_at : (edges : List Edge) (i : ℕ) (e : Edge) → i < length edges → e ≡ get_or edges i e → get_or (map tree_edge edges) i (tree_edge e) ≡ tree_edge e
-tree_edge_at edges i e within is = get_or-map tree_edge edges i e (tree_edge e) within ∙ ap tree_edge (sym is)
+tree_edge_at : (edges : List Edge) (i : ℕ) (e : Edge) → i < length edges → e ≡ get_or edges i e → get_or (map labelled_edge edges) i (labelled_edge e) ≡ labelled_edge e
+tree_edge_at edges i e within is = get_or-map labelled_edge edges i e (labelled_edge e) within ∙ ap labelled_edge (sym is)
 
 -- the state that it leaves
-from_at : (edges : List Edge) (i : ℕ) (e : Edge) (d : ℕ) → i < length edges → e ≡ get_or edges i e → get_or (map (λ a. a.from) (map tree_edge edges)) i d ≡ e.from
+from_at : (edges : List Edge) (i : ℕ) (e : Edge) (d : ℕ) → i < length edges → e ≡ get_or edges i e → get_or (map (λ a. a.from) (map labelled_edge edges)) i d ≡ e.from
 from_at edges i e d within is =
-    let size = length-map edges tree_edge in
-    get_or-map (λ (a : TreeEdge). a.from) (map tree_edge edges) i (tree_edge e) d (omega arith) ∙ ap (λ (a : TreeEdge). a.from) (tree_edge_at edges i e within is)
+    let size = length-map edges labelled_edge in
+    get_or-map (λ (a : LabelledEdge). a.from) (map labelled_edge edges) i (labelled_edge e) d (omega arith) ∙ ap (λ (a : LabelledEdge). a.from) (tree_edge_at edges i e within is)
 
-pub in_order : (edges : List Edge) (n : ℕ) → length edges ≤ n → AllAdjacentBelow (λ x y. x.from ≤ y.from) edges n → IsNonDecreasing (map (λ a. a.from) (map tree_edge edges))
+pub in_order : (edges : List Edge) (n : ℕ) → length edges ≤ n → AllAdjacentBelow (λ x y. x.from ≤ y.from) edges n → IsNonDecreasing (map (λ a. a.from) (map labelled_edge edges))
 in_order [] n all h i j d order near = absurd (omega arith)
 in_order (e ∷ es) n all h i j d order near =
     let edges : List Edge = e ∷ es in
-    let size = length-map edges tree_edge in
-    let froms = length-map (map tree_edge edges) (λ (a : TreeEdge). a.from) in
+    let size = length-map edges labelled_edge in
+    let froms = length-map (map labelled_edge edges) (λ (a : LabelledEdge). a.from) in
     let fits : j < length edges = omega arith in
     let here : AllAdjacentBelow (λ (x y : Edge). x.from ≤ y.from) edges (length edges) = λ k x low. h k x (omega arith) in
     let rises = IsNonDecreasingBy-from_all_adjacent (λ (x : Edge). x.from) edges here i j e order fits in
-    let first = ap (λ a. a.from) (get_or-map tree_edge edges i e (tree_edge e) (omega arith)) in
-    let second = ap (λ a. a.from) (get_or-map tree_edge edges j e (tree_edge e) fits) in
-    let from_first = get_or-map (λ (a : TreeEdge). a.from) (map tree_edge edges) i (tree_edge e) d (omega arith) in
-    let from_second = get_or-map (λ (a : TreeEdge). a.from) (map tree_edge edges) j (tree_edge e) d (omega arith) in
+    let first = ap (λ a. a.from) (get_or-map labelled_edge edges i e (labelled_edge e) (omega arith)) in
+    let second = ap (λ a. a.from) (get_or-map labelled_edge edges j e (labelled_edge e) fits) in
+    let from_first = get_or-map (λ (a : LabelledEdge). a.from) (map labelled_edge edges) i (labelled_edge e) d (omega arith) in
+    let from_second = get_or-map (λ (a : LabelledEdge). a.from) (map labelled_edge edges) j (labelled_edge e) d (omega arith) in
     omega arith
 
 pub out_of_order : (edges : List Edge) (i : ℕ) (x y : Edge) → 0 < i → i < length edges → x ≡ get_or edges i x → y ≡ get_or edges (i - 1) y
-    → (get_or edges i x).from < (get_or edges (i - 1) y).from → IsNonDecreasing (map (λ a. a.from) (map tree_edge edges)) → ⊥
+    → (get_or edges i x).from < (get_or edges (i - 1) y).from → IsNonDecreasing (map (λ a. a.from) (map labelled_edge edges)) → ⊥
 out_of_order edges i x y some within at_x at_y less order =
-    let size = length-map edges tree_edge in
-    let froms = length-map (map tree_edge edges) (λ (a : TreeEdge). a.from) in
+    let size = length-map edges labelled_edge in
+    let froms = length-map (map labelled_edge edges) (λ (a : LabelledEdge). a.from) in
     let rises = order (i - 1) i 0 (omega arith) (omega arith) in
     let first = from_at edges (i - 1) y 0 (omega arith) at_y in
     let second = from_at edges i x 0 within at_x in
@@ -58,7 +58,7 @@ out_of_order edges i x y some within at_x at_y less order =
     absurd (omega arith)
 
 -- an edge that all edges are like
-pub one_of_all : (P : TreeEdge → Type 0) (edges : List Edge) (i : ℕ) (e : Edge) → i < length edges → e ≡ get_or edges i e → All P (map tree_edge edges) → P (tree_edge e)
+pub one_of_all : (P : LabelledEdge → Type 0) (edges : List Edge) (i : ℕ) (e : Edge) → i < length edges → e ≡ get_or edges i e → All P (map labelled_edge edges) → P (labelled_edge e)
 one_of_all P edges i e within is all =
-    let size = length-map edges tree_edge in
-    subst P (tree_edge_at edges i e within is) (all i (tree_edge e) (omega arith))
+    let size = length-map edges labelled_edge in
+    subst P (tree_edge_at edges i e within is) (all i (labelled_edge e) (omega arith))

@@ -8,7 +8,7 @@ use Rattle.std.proofs.lemmas.Bool.{false≢true, cases_eq, and_left, or_from}
 use Rattle.std.proofs.lemmas.Cmp.{nat_list_cmp_total}
 use Rattle.aut_base.proofs.lists.Members.{one_of_two}
 use Rattle.aut_base.specs.Acceptance.{Accepts, IsPath}
-use Rattle.aut_base.specs.Automaton.{TreeEdge}
+use Rattle.aut_base.specs.Automaton.{LabelledEdge}
 use Rattle.aut_base.specs.Examples.{name_a, name_b, on, off, on_and_foreign, foreign, edge, a, again, one_state, either_way, ever_after, never, barred, WorkedExamples}
 use Rattle.aut_base.specs.Formula.{FormulaTree, met}
 use Rattle.aut_base.specs.Label.{truth, holds_at, LabelTree}
@@ -63,7 +63,7 @@ AllOn : List NameSet → Type 0
 AllOn [] = Unit {0}
 AllOn (x ∷ xs) = (set.contains x name_a ≡ true) × AllOn xs
 
-one_of_three : (P : TreeEdge → Type 0) (d e f x : TreeEdge) → Contains (d ∷ e ∷ f ∷ []) x → P d → P e → P f → P x
+one_of_three : (P : LabelledEdge → Type 0) (d e f x : LabelledEdge) → Contains (d ∷ e ∷ f ∷ []) x → P d → P e → P f → P x
 one_of_three P d e f x there first second third = go there.0 there.1 there.2
   where
     go : (k : ℕ) → k < 3 → get_or (d ∷ e ∷ f ∷ []) k x ≡ x → P x
@@ -72,16 +72,16 @@ one_of_three P d e f x there first second third = go there.0 there.1 there.2
     go (suc (suc zero)) within is = subst P is third
     go (suc (suc (suc k))) within is = absurd (omega arith)
 
-record StaysOn (x : NameSet) (e : TreeEdge) : Type 0 where
+record StaysOn (x : NameSet) (e : LabelledEdge) : Type 0 where
   reads : set.contains x name_a ≡ true
   stays : e.to ≡ 1
 
-stays_on : (x : NameSet) (p : ℕ) (e : TreeEdge) → p ≡ 1 → p ≡ e.from → Contains ever_after.edges e → truth (holds_at (name_a ∷ []) x) e.label ≡ true → StaysOn x e
+stays_on : (x : NameSet) (p : ℕ) (e : LabelledEdge) → p ≡ 1 → p ≡ e.from → Contains ever_after.edges e → truth (holds_at (name_a ∷ []) x) e.label ≡ true → StaysOn x e
 stays_on x p e at from there =
     one_of_three (λ d. p ≡ d.from → truth (holds_at (name_a ∷ []) x) d.label ≡ true → StaysOn x d) (edge 0 LabelTree.True 0 []) (edge 0 a 1 []) (edge 1 a 1 (0 ∷ [])) e there
     (λ is h. absurd (omega arith)) (λ is h. absurd (omega arith)) (λ is h. record { reads = h; stays = refl }) from
 
-stays : (p : ℕ) (xs : List NameSet) (es : List TreeEdge) (q : ℕ) → p ≡ 1 → IsPath ever_after p xs es q → (q ≡ 1) × AllOn xs
+stays : (p : ℕ) (xs : List NameSet) (es : List LabelledEdge) (q : ℕ) → p ≡ 1 → IsPath ever_after p xs es q → (q ≡ 1) × AllOn xs
 unfolding AllOn
 stays p [] [] q at path = (sym path ∙ at, tt)
 stays p [] (e ∷ es) q at path = absurd path
@@ -92,12 +92,12 @@ stays p (x ∷ xs) (e ∷ es) q at path =
     (rest.0, (s.reads, rest.1))
 
 -- elsewhere it has no mark
-unmarked : (e : TreeEdge) → Contains ever_after.edges e → (e.to ≡ 1 → ⊥) → is_in 0 e.marks ≡ false
+unmarked : (e : LabelledEdge) → Contains ever_after.edges e → (e.to ≡ 1 → ⊥) → is_in 0 e.marks ≡ false
 unmarked e there =
     one_of_three (λ d. (d.to ≡ 1 → ⊥) → is_in 0 d.marks ≡ false) (edge 0 LabelTree.True 0 []) (edge 0 a 1 []) (edge 1 a 1 (0 ∷ [])) e there
     (λ h. refl) (λ h. refl) (λ h. absurd (h refl))
 
-no_mark : (p : ℕ) (xs : List NameSet) (es : List TreeEdge) (q : ℕ) → (q ≡ 1 → ⊥) → IsPath ever_after p xs es q → list_any (is_in 0) (map (λ e. e.marks) es) ≡ false
+no_mark : (p : ℕ) (xs : List NameSet) (es : List LabelledEdge) (q : ℕ) → (q ≡ 1 → ⊥) → IsPath ever_after p xs es q → list_any (is_in 0) (map (λ e. e.marks) es) ≡ false
 no_mark p [] [] q away path = refl
 no_mark p [] (e ∷ es) q away path = absurd path
 no_mark p (x ∷ xs) [] q away path = absurd path
@@ -124,11 +124,11 @@ foreign_a : set.contains foreign name_a ≡ false
 foreign_a = set.contains-insert nat_list_cmp_total set.empty name_b name_a ∙ off_a
 
 -- Each edge of `either_way` is a loop: for letters with `a` at state 0, for those without at state 1.
-record IsLoop (x : NameSet) (e : TreeEdge) : Type 0 where
+record IsLoop (x : NameSet) (e : LabelledEdge) : Type 0 where
   stays : e.to ≡ e.from
   reads : e.from ≡ (if set.contains x name_a then 0 else 1)
 
-is_loop : (starts : List ℕ) (x : NameSet) (e : TreeEdge) → Contains (either_way starts).edges e → truth (holds_at (name_a ∷ []) x) e.label ≡ true → IsLoop x e
+is_loop : (starts : List ℕ) (x : NameSet) (e : LabelledEdge) → Contains (either_way starts).edges e → truth (holds_at (name_a ∷ []) x) e.label ≡ true → IsLoop x e
 is_loop starts x e there =
     one_of_two (λ d. truth (holds_at (name_a ∷ []) x) d.label ≡ true → IsLoop x d) (edge 0 a 0 []) (edge 1 (LabelTree.Not a) 1 []) e there
     (λ h. record { stays = refl; reads = ap (λ b. if b then 0 else 1) (sym h) }) (λ h. record { stays = refl; reads = ap (λ b. if b then 0 else 1) (sym (is_off (set.contains x name_a) h)) })
@@ -137,7 +137,7 @@ is_loop starts x e there =
     is_off false h = refl
     is_off true h = sym h
 
-stays_there : (starts : List ℕ) (p : ℕ) (xs : List NameSet) (es : List TreeEdge) (q : ℕ) → IsPath (either_way starts) p xs es q → q ≡ p
+stays_there : (starts : List ℕ) (p : ℕ) (xs : List NameSet) (es : List LabelledEdge) (q : ℕ) → IsPath (either_way starts) p xs es q → q ≡ p
 stays_there starts p [] [] q path = sym path
 stays_there starts p [] (e ∷ es) q path = absurd path
 stays_there starts p (x ∷ xs) [] q path = absurd path
@@ -145,11 +145,11 @@ stays_there starts p (x ∷ xs) (e ∷ es) q path =
     stays_there starts e.to xs es q path.3 ∙ ((is_loop starts x e path.1 path.2).stays ∙ sym path.0)
 
 -- where a path that begins with this letter stands
-stands : (starts : List ℕ) (p : ℕ) (x : NameSet) (xs : List NameSet) (es : List TreeEdge) (q : ℕ) → IsPath (either_way starts) p (x ∷ xs) es q → p ≡ (if set.contains x name_a then 0 else 1)
+stands : (starts : List ℕ) (p : ℕ) (x : NameSet) (xs : List NameSet) (es : List LabelledEdge) (q : ℕ) → IsPath (either_way starts) p (x ∷ xs) es q → p ≡ (if set.contains x name_a then 0 else 1)
 stands starts p x xs [] q path = absurd path
 stands starts p x xs (e ∷ es) q path = path.0 ∙ (is_loop starts x e path.1 path.2).reads
 
-stands_second : (starts : List ℕ) (p : ℕ) (x y : NameSet) (xs : List NameSet) (es : List TreeEdge) (q : ℕ) → IsPath (either_way starts) p (x ∷ y ∷ xs) es q
+stands_second : (starts : List ℕ) (p : ℕ) (x y : NameSet) (xs : List NameSet) (es : List LabelledEdge) (q : ℕ) → IsPath (either_way starts) p (x ∷ y ∷ xs) es q
     → p ≡ (if set.contains y name_a then 0 else 1)
 stands_second starts p x y xs [] q path = absurd path
 stands_second starts p x y xs (e ∷ es) q path =

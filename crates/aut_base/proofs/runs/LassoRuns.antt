@@ -9,13 +9,13 @@ use Rattle.aut_base.proofs.runs.Paths.{path_copies, path_join, path_split}
 use Rattle.aut_base.proofs.words.SameEdges.{Alike, gone_alike, met_alike}
 use Rattle.aut_base.proofs.numbers.Truth.{and_comm, or_comm}
 use Rattle.aut_base.specs.Acceptance.{Accepts, IsPath}
-use Rattle.aut_base.specs.Automaton.{Automaton, TreeEdge}
+use Rattle.aut_base.specs.Automaton.{Automaton, LabelledEdge}
 use Rattle.aut_base.specs.Formula.{FormulaTree, met}
 use Rattle.aut_base.specs.Word.{NameSet, copies}
 use Rattle.aut_base.specs.Runs.{LassoRun}
 
 -- the cycle as conditions see it
-abbrev pub marks_of : List TreeEdge → List (List ℕ)
+abbrev pub marks_of : List LabelledEdge → List (List ℕ)
 marks_of = map (λ e. e.marks)
 
 abbrev pub run_of : (a : Automaton) (u v : List NameSet) (r : Accepts a u v) → LassoRun a u v r.turns r.rounds
@@ -45,7 +45,7 @@ accepts_too a b u v r is_start leads returns meets =
     accepts_of b u v r.turns r.rounds (record { start = r.start; state = r.state; way = r.way; cycle = r.cycle; is_start = is_start; leads = leads; returns = returns }) r.endless r.positive meets
 
 -- a run whose cycle meets the same conditions
-pub record Likewise (a : Automaton) (u v : List NameSet) (turns rounds : ℕ) (cycle : List TreeEdge) : Type 0 where
+pub record Likewise (a : Automaton) (u v : List NameSet) (turns rounds : ℕ) (cycle : List LabelledEdge) : Type 0 where
   pub run : LassoRun a u v turns rounds
   pub alike : (f : FormulaTree) → met (marks_of run.cycle) f ≡ met (marks_of cycle) f
 
@@ -55,11 +55,11 @@ swapped_alike xs ys = record {
   each = λ p. list_all-append p ys xs ∙ (and_comm (list_all p ys) (list_all p xs) ∙ sym (list_all-append p xs ys));
 }
 
-swapped : (xs ys es : List TreeEdge) → es ≡ xs ++ ys → (f : FormulaTree) → met (marks_of (ys ++ xs)) f ≡ met (marks_of es) f
+swapped : (xs ys es : List LabelledEdge) → es ≡ xs ++ ys → (f : FormulaTree) → met (marks_of (ys ++ xs)) f ≡ met (marks_of es) f
 swapped xs ys es parts f =
-    ap (λ cs. met cs f) (map-append (λ (e : TreeEdge). e.marks) ys xs)
+    ap (λ cs. met cs f) (map-append (λ (e : LabelledEdge). e.marks) ys xs)
     ∙ (met_alike (marks_of ys ++ marks_of xs) (marks_of xs ++ marks_of ys) (swapped_alike (marks_of xs) (marks_of ys)) f
-    ∙ ap (λ cs. met cs f) (sym (map-append (λ (e : TreeEdge). e.marks) xs ys) ∙ ap marks_of (sym parts)))
+    ∙ ap (λ cs. met cs f) (sym (map-append (λ (e : LabelledEdge). e.marks) xs ys) ∙ ap marks_of (sym parts)))
 
 -- the cycle is read once more before the run closes
 one_turn : (a : Automaton) (u v : List NameSet) (turns rounds : ℕ) (r : LassoRun a u v turns rounds) → 0 < rounds → Likewise a u v (suc turns) rounds r.cycle
@@ -107,7 +107,7 @@ more_rounds a u v turns rounds k r some =
         leads = r.leads;
         returns = subst P (copies-copies k rounds v) (path_copies a r.state k (copies rounds v) r.cycle r.returns);
       };
-      alike = met_alike (marks_of (copies k r.cycle)) (marks_of r.cycle) (gone_alike (λ (e : TreeEdge). e.marks) k r.cycle some);
+      alike = met_alike (marks_of (copies k r.cycle)) (marks_of r.cycle) (gone_alike (λ (e : LabelledEdge). e.marks) k r.cycle some);
     }
 
 -- k more turns before the run closes, and m times the rounds

@@ -3,7 +3,7 @@ use Rattle.std.proofs.Common.{◌≡◌, ◌∙◌, ◌↔◌, ℕ, ◌<◌, Boo
 use Rattle.std.specs.FinSet.{contains}
 use Rattle.aut_base.proofs.lists.Members.{one_of_two}
 use Rattle.aut_base.specs.Acceptance.{Accepts, IsPath}
-use Rattle.aut_base.specs.Automaton.{TreeEdge}
+use Rattle.aut_base.specs.Automaton.{LabelledEdge}
 use Rattle.aut_base.specs.Examples.{name_a, edge, a, one_state}
 use Rattle.aut_base.specs.Formula.{FormulaTree, met}
 use Rattle.aut_base.specs.Label.{truth, holds_at, LabelTree}
@@ -11,7 +11,7 @@ use Rattle.aut_base.specs.Word.{NameSet, copies}
 use Rattle.aut_base.proofs.words.SameEdges.{met_alike, gone_alike}
 
 -- the loop for a letter, by whether `a` holds at it
-abbrev loop_if : List ℕ → List ℕ → Bool → TreeEdge
+abbrev loop_if : List ℕ → List ℕ → Bool → LabelledEdge
 loop_if at_on at_off true = edge 0 a 0 at_on
 loop_if at_on at_off false = edge 0 (LabelTree.Not a) 0 at_off
 
@@ -20,13 +20,13 @@ abbrev pub marks_if : List ℕ → List ℕ → Bool → List ℕ
 marks_if at_on at_off true = at_on
 marks_if at_on at_off false = at_off
 
-abbrev loop_at : List ℕ → List ℕ → NameSet → TreeEdge
+abbrev loop_at : List ℕ → List ℕ → NameSet → LabelledEdge
 loop_at at_on at_off x = loop_if at_on at_off (contains x name_a)
 
 abbrev pub marks_at : List ℕ → List ℕ → NameSet → List ℕ
 marks_at at_on at_off x = marks_if at_on at_off (contains x name_a)
 
-IsStep : List ℕ → List ℕ → ℕ → FormulaTree → NameSet → TreeEdge → Type 0
+IsStep : List ℕ → List ℕ → ℕ → FormulaTree → NameSet → LabelledEdge → Type 0
 IsStep at_on at_off sets f x e =
     (0 ≡ e.from) × Contains (one_state at_on at_off sets f).edges e × (truth (holds_at (name_a ∷ []) x) e.label ≡ true) × (0 ≡ e.to)
 
@@ -43,7 +43,7 @@ goes at_on at_off sets f (x ∷ xs) =
     let P : ℕ → Type 0 = λ p. IsPath (one_state at_on at_off sets f) p xs (map (loop_at at_on at_off) xs) 0 in
     (step.0, step.1, step.2, subst P step.3 (goes at_on at_off sets f xs))
 
-forced : (at_on at_off : List ℕ) (sets : ℕ) (f : FormulaTree) (x : NameSet) (e : TreeEdge) → Contains (one_state at_on at_off sets f).edges e
+forced : (at_on at_off : List ℕ) (sets : ℕ) (f : FormulaTree) (x : NameSet) (e : LabelledEdge) → Contains (one_state at_on at_off sets f).edges e
     → truth (holds_at (name_a ∷ []) x) e.label ≡ true → e.marks ≡ marks_at at_on at_off x
 forced at_on at_off sets f x e there =
     one_of_two (λ d. truth (holds_at (name_a ∷ []) x) d.label ≡ true → d.marks ≡ marks_at at_on at_off x) (edge 0 a 0 at_on) (edge 0 (LabelTree.Not a) 0 at_off) e there
@@ -53,7 +53,7 @@ forced at_on at_off sets f x e there =
     is_off false h = refl
     is_off true h = sym h
 
-marks_along : (at_on at_off : List ℕ) (sets : ℕ) (f : FormulaTree) (p : ℕ) (xs : List NameSet) (es : List TreeEdge) (q : ℕ) → IsPath (one_state at_on at_off sets f) p xs es q
+marks_along : (at_on at_off : List ℕ) (sets : ℕ) (f : FormulaTree) (p : ℕ) (xs : List NameSet) (es : List LabelledEdge) (q : ℕ) → IsPath (one_state at_on at_off sets f) p xs es q
     → map (λ e. e.marks) es ≡ map (marks_at at_on at_off) xs
 marks_along at_on at_off sets f p [] [] q path = refl
 marks_along at_on at_off sets f p [] (e ∷ es) q path = absurd path
@@ -66,7 +66,8 @@ pub one_state_accepts : (at_on at_off : List ℕ) (sets : ℕ) (f : FormulaTree)
 one_state_accepts at_on at_off sets f u v endless = (from, to)
   where
     -- however often the cycle is gone, the marks are the same
-    same_marks : (k p q : ℕ) (cycle : List TreeEdge) → 0 < k → IsPath (one_state at_on at_off sets f) p (copies k v) cycle q → met (map (λ e. e.marks) cycle) f ≡ met (map (marks_at at_on at_off) v) f
+    same_marks : (k p q : ℕ) (cycle : List LabelledEdge) → 0 < k → IsPath (one_state at_on at_off sets f) p (copies k v) cycle q
+        → met (map (λ e. e.marks) cycle) f ≡ met (map (marks_at at_on at_off) v) f
     same_marks k p q cycle some path =
         ap (λ marks. met marks f) (marks_along at_on at_off sets f p (copies k v) cycle q path) ∙ met_alike _ _ (gone_alike (marks_at at_on at_off) k v some) f
 

@@ -1,6 +1,6 @@
 -- The tree of a formula, constructor by constructor.
 use Rattle.std.proofs.Common.{◌≡◌, ℕ, Bool, ◌∙◌, sym, ap, map, ◌∷◌}
-use Rattle.aut_base.specs.Formula.{FormulaTree, FormulaParts, tree_step, formula_tree, formula_parts, formula_list, trees}
+use Rattle.aut_base.specs.Formula.{FormulaTree, FormulaParts, formula_step, formula_tree, formula_parts, formula_list, trees}
 use Rattle.aut_base.specs.declared.formula.Formula.TheVariants.{True, False, Inf, Fin, And, Or, rolls-True, rolls-False, rolls-Inf, rolls-Fin, rolls-And, rolls-Or}
 use Rattle.aut_base.specs.declared.formula.Formula.TheOpen.{Formula-F, Formulas-F}
 use Rattle.aut_base.specs.declared.formula.Formula.TheFolds.{fold-roll-Formula, fold_out-Formulas}
@@ -11,26 +11,26 @@ abbrev parts_step : Formulas-F FormulaTree FormulaParts → FormulaParts
 parts_step ls = record { first = ls.first.value; second = ls.second.value; others = ls.others.items }
 
 pub formula_tree-True : formula_tree True ≡ FormulaTree.True
-formula_tree-True = ap formula_tree (sym rolls-True) ∙ fold-roll-Formula FormulaTree FormulaParts tree_step parts_step Formula-F.True
+formula_tree-True = ap formula_tree (sym rolls-True) ∙ fold-roll-Formula FormulaTree FormulaParts formula_step parts_step Formula-F.True
 
 pub formula_tree-False : formula_tree False ≡ FormulaTree.False
-formula_tree-False = ap formula_tree (sym rolls-False) ∙ fold-roll-Formula FormulaTree FormulaParts tree_step parts_step Formula-F.False
+formula_tree-False = ap formula_tree (sym rolls-False) ∙ fold-roll-Formula FormulaTree FormulaParts formula_step parts_step Formula-F.False
 
 pub formula_tree-Inf : (set : ℕ) (neg : Bool) → formula_tree (Inf set neg) ≡ FormulaTree.Inf set neg
-formula_tree-Inf set neg = ap formula_tree (sym (rolls-Inf set neg)) ∙ fold-roll-Formula FormulaTree FormulaParts tree_step parts_step (Formula-F.Inf set neg)
+formula_tree-Inf set neg = ap formula_tree (sym (rolls-Inf set neg)) ∙ fold-roll-Formula FormulaTree FormulaParts formula_step parts_step (Formula-F.Inf set neg)
 
 pub formula_tree-Fin : (set : ℕ) (neg : Bool) → formula_tree (Fin set neg) ≡ FormulaTree.Fin set neg
-formula_tree-Fin set neg = ap formula_tree (sym (rolls-Fin set neg)) ∙ fold-roll-Formula FormulaTree FormulaParts tree_step parts_step (Formula-F.Fin set neg)
+formula_tree-Fin set neg = ap formula_tree (sym (rolls-Fin set neg)) ∙ fold-roll-Formula FormulaTree FormulaParts formula_step parts_step (Formula-F.Fin set neg)
 
 pub formula_tree-And : (p : Formulas) → formula_tree (And p) ≡ FormulaTree.And (formula_parts p).first (formula_parts p).second (trees (formula_parts p).others)
-formula_tree-And p = ap formula_tree (sym (rolls-And p)) ∙ fold-roll-Formula FormulaTree FormulaParts tree_step parts_step (Formula-F.And p)
+formula_tree-And p = ap formula_tree (sym (rolls-And p)) ∙ fold-roll-Formula FormulaTree FormulaParts formula_step parts_step (Formula-F.And p)
 
 pub formula_tree-Or : (p : Formulas) → formula_tree (Or p) ≡ FormulaTree.Or (formula_parts p).first (formula_parts p).second (trees (formula_parts p).others)
-formula_tree-Or p = ap formula_tree (sym (rolls-Or p)) ∙ fold-roll-Formula FormulaTree FormulaParts tree_step parts_step (Formula-F.Or p)
+formula_tree-Or p = ap formula_tree (sym (rolls-Or p)) ∙ fold-roll-Formula FormulaTree FormulaParts formula_step parts_step (Formula-F.Or p)
 
 -- the parts, by what the fields hold
 pub formula_parts-fields : (p : Formulas) → formula_parts p ≡ record { first = formula_tree p.first.value; second = formula_tree p.second.value; others = map formula_tree p.others.items }
-formula_parts-fields p = fold_out-Formulas FormulaTree FormulaParts tree_step parts_step p
+formula_parts-fields p = fold_out-Formulas FormulaTree FormulaParts formula_step parts_step p
 
 -- the list of parts, by what the fields hold
 pub formula_list-fields : (p : Formulas) → formula_list p ≡ formula_tree p.first.value ∷ formula_tree p.second.value ∷ map formula_tree p.others.items

@@ -5,7 +5,7 @@ use Rattle.std.proofs.Common.{◌≡◌, ◌∙◌, ℕ, ◌+◌, ◌-◌, ◌*�
 use Rattle.std.proofs.Math.Nat.{le-mul_of_pos_right}
 use Rattle.std.proofs.lemmas.List.{length-append, length-drop, length-take-le, take-append-drop}
 use Rattle.aut_base.specs.Acceptance.{Accepts, SameWordSameVerdict}
-use Rattle.aut_base.specs.Automaton.{TreeEdge, Automaton}
+use Rattle.aut_base.specs.Automaton.{LabelledEdge, Automaton}
 use Rattle.aut_base.specs.Word.{NameSet, copies, letter_at, SpellsSame}
 use Rattle.aut_base.proofs.lists.Copies.{length-copies}
 use Rattle.aut_base.proofs.words.SameEdges.{met_alike, turned_alike}
@@ -59,19 +59,20 @@ moment o size x y some_size some_y =
     }
 
 -- A closed path, gone on with for `wait` steps, and gone from there.
-record Turned (a : Automaton) (w : ℕ → Option NameSet) (n q wait : ℕ) (all : List TreeEdge) : Type 0 where
+record Turned (a : Automaton) (w : ℕ → Option NameSet) (n q wait : ℕ) (all : List LabelledEdge) : Type 0 where
   here : ℕ
   on : Reads a w n q (take wait all) here
   round : Reads a w (n + wait) here (drop wait all ++ take wait all) here
 
-turn : (a : Automaton) (w : ℕ → Option NameSet) (n m q wait : ℕ) (all : List TreeEdge) → wait ≤ length all → m ≡ n + length all → Reads a w n q all q → Reads a w m q all q → Turned a w n q wait all
+turn : (a : Automaton) (w : ℕ → Option NameSet) (n m q wait : ℕ) (all : List LabelledEdge) → wait ≤ length all → m ≡ n + length all → Reads a w n q all q → Reads a w m q all q
+    → Turned a w n q wait all
 turn a w n m q wait all enough at first again =
     let front = take wait all in
     let back = drop wait all in
     let parts : front ++ back ≡ all = take-append-drop wait all in
     let long : length front ≡ wait = length-take-le wait all enough in
     let left : length back ≡ length all - wait = length-drop wait all in
-    let P : ℕ → List TreeEdge → Type 0 = λ t es. Reads a w t q es q in
+    let P : ℕ → List LabelledEdge → Type 0 = λ t es. Reads a w t q es q in
     let first' : Reads a w n q (front ++ back) q = subst (P n) (sym parts) first in
     let again' : Reads a w m q (front ++ back) q = subst (P m) (sym parts) again in
     record {

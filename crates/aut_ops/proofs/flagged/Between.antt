@@ -6,57 +6,58 @@ use Rattle.std.proofs.lemmas.List.Kept.{AllPairs-filter}
 use Rattle.aut_base.proofs.order.Climbing.{Climbs, climbs_in_order, climbs_lower, in_order_climbs}
 use Rattle.aut_base.proofs.lists.Members.{from_filter, there_filter, there_map}
 use Rattle.aut_base.specs.Acceptance.{Accepts, IsPath}
-use Rattle.aut_base.specs.Automaton.{Automaton, IsEdgeOf, IsWellFormed, TreeEdge}
+use Rattle.aut_base.specs.Automaton.{Automaton, IsEdgeOf, IsWellFormed, LabelledEdge}
 use Rattle.aut_base.specs.Label.{holds_at, truth}
 use Rattle.aut_base.specs.Word.{NameSet, copies}
 use Rattle.aut_core.specs.OtherNames.{AcceptTheSame}
 use Rattle.aut_ops.proofs.links.Labels.{not_never}
 use Rattle.aut_base.proofs.runs.LassoRuns.{accepts_too}
 use Rattle.aut_base.proofs.runs.OtherEdges.{accepts_wider}
-use Rattle.aut_ops.specs.Passable.{arc_of, between, is_flagged, is_passable, passable_arcs, passable_edges, stays}
+use Rattle.aut_ops.specs.Satisfiable.{arc_of, between, is_flagged, is_satisfiable, passable_arcs, satisfiable_edges, is_kept_edge}
 use Rattle.graph_walk.proofs.WalkLemmas.{reach_none, reach_then}
-use Rattle.graph_walk.specs.Reach.{AreReached}
+use Rattle.graph_walk.specs.Reach.{AreReachFlags}
 use Rattle.graph_walk.specs.Walk.{HasNodes, Reaches}
 
-pub climbs_filter : (p : TreeEdge → Bool) (low : ℕ) (es : List TreeEdge) → Climbs low es → Climbs low (filter p es)
+pub climbs_filter : (p : LabelledEdge → Bool) (low : ℕ) (es : List LabelledEdge) → Climbs low es → Climbs low (filter p es)
 climbs_filter p low [] climbs = tt
-climbs_filter p low (e ∷ es) climbs = by (p e) (climbs_filter p e.from es climbs.1)
+climbs_filter p low (e ∷ es) climbs = by_cases (p e) (climbs_filter p e.from es climbs.1)
   where
-    by : (b : Bool) → Climbs e.from (filter p es) → Climbs low (cond b (e ∷ filter p es) (filter p es))
-    by true rest = (climbs.0, rest)
-    by false rest = climbs_lower low e.from (filter p es) climbs.0 rest
+    by_cases : (b : Bool) → Climbs e.from (filter p es) → Climbs low (cond b (e ∷ filter p es) (filter p es))
+    by_cases true rest = (climbs.0, rest)
+    by_cases false rest = climbs_lower low e.from (filter p es) climbs.0 rest
 
 module _ (a : Automaton) (formed : IsWellFormed a) where
-  edge_within : (e : TreeEdge) → Contains a.edges e → IsEdgeOf a e
+  edge_within : (e : LabelledEdge) → Contains a.edges e → IsEdgeOf a e
   edge_within e there = All-contains (IsEdgeOf a) a.edges e formed.edges there
 
   -- an edge that is gone at a letter
-  pub passable_met : (e : TreeEdge) (x : NameSet) → Contains a.edges e → truth (holds_at a.names x) e.label ≡ true → is_passable (length a.names) e ≡ true
+  pub passable_met : (e : LabelledEdge) (x : NameSet) → Contains a.edges e → truth (holds_at a.names x) e.label ≡ true → is_satisfiable (length a.names) e ≡ true
   passable_met e x there holds = ap not (not_never (length a.names) (holds_at a.names x) e.label (edge_within e there).label holds)
 
-  pub passable_there : (e : TreeEdge) (x : NameSet) → Contains a.edges e → truth (holds_at a.names x) e.label ≡ true → Contains (passable_edges a) e
-  passable_there e x there holds = there_filter (is_passable (length a.names)) a.edges e there (passable_met e x there holds)
+  pub passable_there : (e : LabelledEdge) (x : NameSet) → Contains a.edges e → truth (holds_at a.names x) e.label ≡ true → Contains (satisfiable_edges a) e
+  passable_there e x there holds = there_filter (is_satisfiable (length a.names)) a.edges e there (passable_met e x there holds)
 
-  pub edge_reaches : (e : TreeEdge) → Contains (passable_edges a) e → Reaches (passable_arcs a) e.from e.to
-  edge_reaches e there = record { walk = arc_of e ∷ []; leads = (there_map arc_of (passable_edges a) e there, refl, refl) }
+  pub edge_reaches : (e : LabelledEdge) → Contains (satisfiable_edges a) e → Reaches (passable_arcs a) e.from e.to
+  edge_reaches e there = record { walk = arc_of e ∷ []; leads = (there_map arc_of (satisfiable_edges a) e there, refl, refl) }
 
   passable_nodes : HasNodes a.states (passable_arcs a)
   passable_nodes =
-      All-map (λ (arc : ℕ × ℕ). (arc.0 < a.states) × (arc.1 < a.states)) arc_of (passable_edges a)
-      (All-filter (is_passable (length a.names)) (λ (e : TreeEdge). (e.from < a.states) × (e.to < a.states)) a.edges
-      (All-weaker (IsEdgeOf a) (λ (e : TreeEdge). (e.from < a.states) × (e.to < a.states)) (λ e edge. (edge.from, edge.to)) a.edges formed.edges))
+      All-map (λ (arc : ℕ × ℕ). (arc.0 < a.states) × (arc.1 < a.states)) arc_of (satisfiable_edges a)
+      (All-filter (is_satisfiable (length a.names)) (λ (e : LabelledEdge). (e.from < a.states) × (e.to < a.states)) a.edges
+      (All-weaker (IsEdgeOf a) (λ (e : LabelledEdge). (e.from < a.states) × (e.to < a.states)) (λ e edge. (edge.from, edge.to)) a.edges formed.edges))
 
   -- a graph that was made of these edges
   pub graph_nodes : (nodes : ℕ) (arcs : List (ℕ × ℕ)) → nodes ≡ a.states → arcs ≡ passable_arcs a → HasNodes nodes arcs
   graph_nodes nodes arcs nodes_are arcs_are = subst (HasNodes nodes) (sym arcs_are) (subst (λ n. HasNodes n (passable_arcs a)) (sym nodes_are) passable_nodes)
 
   pub graph_reached : (nodes : ℕ) (arcs : List (ℕ × ℕ)) (starts : List ℕ) (flags : List Bool) → nodes ≡ a.states → arcs ≡ passable_arcs a → starts ≡ a.starts
-      → AreReached nodes arcs starts flags → AreReached a.states (passable_arcs a) a.starts flags
+      → AreReachFlags nodes arcs starts flags → AreReachFlags a.states (passable_arcs a) a.starts flags
   graph_reached nodes arcs starts flags nodes_are arcs_are starts_are reached =
-      subst (λ s. AreReached a.states (passable_arcs a) s flags) starts_are (subst (λ ls. AreReached a.states ls starts flags) arcs_are (subst (λ n. AreReached n arcs starts flags) nodes_are reached))
+      subst (λ s. AreReachFlags a.states (passable_arcs a) s flags) starts_are
+      (subst (λ ls. AreReachFlags a.states ls starts flags) arcs_are (subst (λ n. AreReachFlags n arcs starts flags) nodes_are reached))
 
   -- a path leads along edges whose labels aren't false
-  pub path_reaches : (p q : ℕ) (xs : List NameSet) (es : List TreeEdge) → IsPath a p xs es q → Reaches (passable_arcs a) p q
+  pub path_reaches : (p q : ℕ) (xs : List NameSet) (es : List LabelledEdge) → IsPath a p xs es q → Reaches (passable_arcs a) p q
   path_reaches p q [] [] path = record { walk = []; leads = path }
   path_reaches p q [] (e ∷ es) path = absurd path
   path_reaches p q (x ∷ xs) [] path = absurd path
@@ -64,7 +65,7 @@ module _ (a : Automaton) (formed : IsWellFormed a) where
       let rest = path_reaches e.to q xs es path.3 in
       record {
         walk = arc_of e ∷ rest.walk;
-        leads = (there_map arc_of (passable_edges a) e (passable_there e x path.1 path.2), sym path.0, rest.leads);
+        leads = (there_map arc_of (satisfiable_edges a) e (passable_there e x path.1 path.2), sym path.0, rest.leads);
       }
 
   module _ (flags : List Bool) where
@@ -72,7 +73,7 @@ module _ (a : Automaton) (formed : IsWellFormed a) where
     abbrev pub AreFlagged : ℕ → ℕ → Type 0
     AreFlagged s t = (r : ℕ) → r < a.states → Reaches (passable_arcs a) s r → Reaches (passable_arcs a) r t → is_flagged flags r ≡ true
 
-    pub path_between : (s t : ℕ) → AreFlagged s t → (p q : ℕ) (xs : List NameSet) (es : List TreeEdge) → Reaches (passable_arcs a) s p → Reaches (passable_arcs a) q t → IsPath a p xs es q
+    pub path_between : (s t : ℕ) → AreFlagged s t → (p q : ℕ) (xs : List NameSet) (es : List LabelledEdge) → Reaches (passable_arcs a) s p → Reaches (passable_arcs a) q t → IsPath a p xs es q
         → IsPath (between flags a) p xs es q
     path_between s t on p q [] [] before after path = path
     path_between s t on p q [] (e ∷ es) before after path = absurd path
@@ -85,8 +86,8 @@ module _ (a : Automaton) (formed : IsWellFormed a) where
         let begins = on e.from (edge_within e path.1).from from (reach_then (passable_arcs a) e.from e.to t step onwards) in
         let ends = on e.to (edge_within e path.1).to to onwards in
         let both = and_from (is_flagged flags e.from) (is_flagged flags e.to) begins ends in
-        let stay = and_from (is_passable (length a.names) e) (is_flagged flags e.from && is_flagged flags e.to) (passable_met e x path.1 path.2) both in
-        (path.0, there_filter (stays (length a.names) flags) a.edges e path.1 stay, path.2, path_between s t on e.to q xs es to after path.3)
+        let stay = and_from (is_satisfiable (length a.names) e) (is_flagged flags e.from && is_flagged flags e.to) (passable_met e x path.1 path.2) both in
+        (path.0, there_filter (is_kept_edge (length a.names) flags) a.edges e path.1 stay, path.2, path_between s t on e.to q xs es to after path.3)
 
     -- Where each accepting run stays at flagged states, the language is the same.
     pub between_accepts : ((u v : List NameSet) (r : Accepts a u v) → AreFlagged r.start r.state) → AcceptTheSame (between flags a) a
@@ -94,7 +95,7 @@ module _ (a : Automaton) (formed : IsWellFormed a) where
       where
         wider : Accepts (between flags a) u v → Accepts a u v
         wider r =
-            let has : (e : TreeEdge) → Contains (between flags a).edges e → Contains a.edges e = λ e there. (from_filter (stays (length a.names) flags) a.edges e there).0 in
+            let has : (e : LabelledEdge) → Contains (between flags a).edges e → Contains a.edges e = λ e there. (from_filter (is_kept_edge (length a.names) flags) a.edges e there).0 in
             accepts_wider (between flags a) a refl has u v r (from_filter (is_flagged flags) a.starts r.start r.is_start).0 r.meets
 
         narrower : Accepts a u v → Accepts (between flags a) u v
@@ -112,8 +113,8 @@ module _ (a : Automaton) (formed : IsWellFormed a) where
       names_differ = formed.names_differ;
       starts_differ = AllPairs-filter (λ p q. p ≢ q) (is_flagged flags) a.starts formed.starts_differ;
       starts = All-filter (is_flagged flags) (λ p. p < a.states) a.starts formed.starts;
-      in_order = climbs_in_order 0 (between flags a).edges (climbs_filter (stays (length a.names) flags) 0 a.edges (in_order_climbs 0 a.edges (λ k d within. omega arith) formed.in_order));
-      edges = All-filter (stays (length a.names) flags) (IsEdgeOf (between flags a)) a.edges
+      in_order = climbs_in_order 0 (between flags a).edges (climbs_filter (is_kept_edge (length a.names) flags) 0 a.edges (in_order_climbs 0 a.edges (λ k d within. omega arith) formed.in_order));
+      edges = All-filter (is_kept_edge (length a.names) flags) (IsEdgeOf (between flags a)) a.edges
           (All-weaker (IsEdgeOf a) (IsEdgeOf (between flags a)) (λ e edge. record { from = edge.from; to = edge.to; label = edge.label; marks = edge.marks; marks_rise = edge.marks_rise })
           a.edges formed.edges);
       formula = formed.formula;

@@ -1,7 +1,7 @@
 -- Flags that are exact are determined, and so is what is made by them.
 use Rattle.std.proofs.Common.{◌≡◌, ◌∙◌, ◌↔◌, ◌<◌, ℕ, zero, suc, Bool, true, false, IsTrue, List, [], ◌∷◌, ap, arith, length, refl, sym}
 use Rattle.aut_ops.specs.Laws.{PrunedIsDetermined, TrimmedIsDetermined}
-use Rattle.aut_ops.specs.Passable.{between, is_flagged}
+use Rattle.aut_ops.specs.Satisfiable.{between, is_flagged}
 use Rattle.aut_ops.specs.Trimming.{renumbered}
 
 same_flag : (p q : Bool) → (IsTrue p → IsTrue q) → (IsTrue q → IsTrue p) → p ≡ q

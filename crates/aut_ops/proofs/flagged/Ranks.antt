@@ -5,10 +5,10 @@ use Rattle.std.proofs.lemmas.List.{length-map}
 use Rattle.std.proofs.lemmas.List.Filters.{length-filter_more}
 use Rattle.std.proofs.lemmas.List.FromFn.{length-range_with_len}
 use Rattle.std.specs.List.{range_with_len}
-use Rattle.aut_ops.specs.Passable.{is_flagged}
-use Rattle.aut_ops.specs.Trimming.{rank}
+use Rattle.aut_ops.specs.Satisfiable.{is_flagged}
+use Rattle.aut_ops.specs.Trimming.{flagged_before}
 
-pub rank_rises : (flags : List Bool) (p q : ℕ) → p ≤ q → rank flags p ≤ rank flags q
+pub rank_rises : (flags : List Bool) (p q : ℕ) → p ≤ q → flagged_before flags p ≤ flagged_before flags q
 rank_rises flags zero q le = omega arith
 rank_rises flags (suc p) zero le = absurd (omega (arith, le))
 rank_rises [] (suc p) (suc q) le = omega arith
@@ -16,7 +16,7 @@ rank_rises (true ∷ flags) (suc p) (suc q) le = let rest = rank_rises flags p q
 rank_rises (false ∷ flags) (suc p) (suc q) le = rank_rises flags p q (omega (arith, le))
 
 -- behind a flagged state it is greater
-pub rank_less : (flags : List Bool) (p q : ℕ) → is_flagged flags p ≡ true → p < q → rank flags p < rank flags q
+pub rank_less : (flags : List Bool) (p q : ℕ) → is_flagged flags p ≡ true → p < q → flagged_before flags p < flagged_before flags q
 rank_less flags p zero flagged less = absurd (omega (arith, less))
 rank_less [] zero (suc q) flagged less = absurd (false≢true flagged)
 rank_less [] (suc p) (suc q) flagged less = absurd (false≢true flagged)
@@ -26,7 +26,7 @@ rank_less (true ∷ flags) (suc p) (suc q) flagged less = let rest = rank_less f
 rank_less (false ∷ flags) (suc p) (suc q) flagged less = rank_less flags p q flagged (omega (arith, less))
 
 -- flagged states have different ones
-pub rank_one : (flags : List Bool) (p q : ℕ) → is_flagged flags p ≡ true → is_flagged flags q ≡ true → rank flags p ≡ rank flags q → p ≡ q
+pub rank_one : (flags : List Bool) (p q : ℕ) → is_flagged flags p ≡ true → is_flagged flags q ≡ true → flagged_before flags p ≡ flagged_before flags q → p ≡ q
 rank_one flags p q first second same = elim (cases_lt p q) [
   | inl before ↦ absurd (let less = rank_less flags p q first before in omega (arith, less, same))
   | inr later ↦ elim (cases_lt q p) [
@@ -35,7 +35,7 @@ rank_one flags p q first second same = elim (cases_lt p q) [
   ]
 ]
 
-pub rank_within : (flags : List Bool) (q : ℕ) → rank flags q ≤ q
+pub rank_within : (flags : List Bool) (q : ℕ) → flagged_before flags q ≤ q
 rank_within flags zero = omega arith
 rank_within [] (suc q) = omega arith
 rank_within (true ∷ flags) (suc q) = let rest = rank_within flags q in omega (arith, rest)
@@ -43,16 +43,16 @@ rank_within (false ∷ flags) (suc q) = let rest = rank_within flags q in omega 
 
 -- the number so far, with one flag more
 
-rank_push : (flags : List Bool) (i : ℕ) → i < length flags → rank flags (i + 1) ≡ rank flags i + cond (is_flagged flags i) 1 0
+rank_push : (flags : List Bool) (i : ℕ) → i < length flags → flagged_before flags (i + 1) ≡ flagged_before flags i + cond (is_flagged flags i) 1 0
 rank_push flags i within = length-filter_more (λ flag. flag) flags i false within
 
-pub rank_set : (flags : List Bool) (i count : ℕ) → i < length flags → count ≡ rank flags i → is_flagged flags i ≡ true → count + 1 ≡ rank flags (i + 1)
-rank_set flags i count within so_far set = ap (λ n. n + 1) so_far ∙ sym (rank_push flags i within ∙ ap (λ f. rank flags i + cond f 1 0) set)
+pub rank_set : (flags : List Bool) (i count : ℕ) → i < length flags → count ≡ flagged_before flags i → is_flagged flags i ≡ true → count + 1 ≡ flagged_before flags (i + 1)
+rank_set flags i count within so_far set = ap (λ n. n + 1) so_far ∙ sym (rank_push flags i within ∙ ap (λ f. flagged_before flags i + cond f 1 0) set)
 
-pub rank_unset : (flags : List Bool) (i count : ℕ) → i < length flags → count ≡ rank flags i → is_flagged flags i ≡ false → count ≡ rank flags (i + 1)
+pub rank_unset : (flags : List Bool) (i count : ℕ) → i < length flags → count ≡ flagged_before flags i → is_flagged flags i ≡ false → count ≡ flagged_before flags (i + 1)
 rank_unset flags i count within so_far unset =
-    let pushed : rank flags (i + 1) ≡ rank flags i + 0 = rank_push flags i within ∙ ap (λ f. rank flags i + cond f 1 0) unset in
+    let pushed : flagged_before flags (i + 1) ≡ flagged_before flags i + 0 = rank_push flags i within ∙ ap (λ f. flagged_before flags i + cond f 1 0) unset in
     omega (arith, so_far, pushed)
 
-pub ranks_count : (flags : List Bool) (ranks : List ℕ) → ranks ≡ map (rank flags) (range_with_len 0 (length flags)) → length ranks ≡ length flags
-ranks_count flags ranks is = ap (λ (ns : List ℕ). length ns) is ∙ (length-map (range_with_len 0 (length flags)) (rank flags) ∙ length-range_with_len 0 (length flags))
+pub ranks_count : (flags : List Bool) (ranks : List ℕ) → ranks ≡ map (flagged_before flags) (range_with_len 0 (length flags)) → length ranks ≡ length flags
+ranks_count flags ranks is = ap (λ (ns : List ℕ). length ns) is ∙ (length-map (range_with_len 0 (length flags)) (flagged_before flags) ∙ length-range_with_len 0 (length flags))

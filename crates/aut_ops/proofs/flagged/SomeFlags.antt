@@ -3,9 +3,9 @@ use Rattle.std.proofs.Common.{◌≡◌, ◌∙◌, ◌↔◌, ◌+◌, ◌<◌,
 use Rattle.std.proofs.lemmas.Bool.{cases_lt, false≢true}
 use Rattle.std.proofs.lemmas.List.{get_or_append_left, get_or_push}
 use Rattle.aut_ops.specs.Laws.{PrunedExists, TrimmedExists}
-use Rattle.aut_ops.specs.Passable.{between, is_flagged}
+use Rattle.aut_ops.specs.Satisfiable.{between, is_flagged}
 use Rattle.aut_ops.specs.Pruning.{IsUseful}
-use Rattle.aut_ops.specs.Passable.{passable_arcs}
+use Rattle.aut_ops.specs.Satisfiable.{passable_arcs}
 use Rattle.aut_ops.specs.Trimming.{renumbered}
 use Rattle.graph_walk.specs.Reach.{ReachedFrom}
 

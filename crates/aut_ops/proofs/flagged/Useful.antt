@@ -7,53 +7,54 @@ use Rattle.std.proofs.lemmas.List.FromFn.{get_or-map-range_with_len, length-rang
 use Rattle.std.specs.List.{list_any, range_with_len}
 use Rattle.aut_base.proofs.lists.Members.{from_filter, from_map, there_filter, there_map}
 use Rattle.aut_base.specs.Acceptance.{Accepts, IsPath}
-use Rattle.aut_base.specs.Automaton.{Automaton, IsWellFormed, TreeEdge}
+use Rattle.aut_base.specs.Automaton.{Automaton, IsWellFormed, LabelledEdge}
 use Rattle.aut_base.specs.Formula.{Inf, met}
 use Rattle.aut_base.specs.Marks.{is_in}
 use Rattle.aut_base.specs.Word.{NameSet, copies}
-use Rattle.aut_core.specs.Core.{Core, IsCore, IsLinkOf, automaton_of, edge_of}
+use Rattle.aut_core.specs.SymbolicAutomata.{SymbolicAutomaton, IsWellFormedSymbolic, IsLinkOf, automaton_of, edge_of}
 use Rattle.aut_core.specs.OtherNames.{AcceptTheSame}
 use Rattle.aut_core.specs.declared.link.Link.{Link}
 use Rattle.aut_ops.proofs.flagged.Between.{between_accepts, edge_reaches, passable_there, path_reaches}
 use Rattle.aut_base.proofs.runs.LassoRuns.{marks_of}
-use Rattle.aut_ops.specs.Passable.{arc_of, between, is_flagged, is_passable, passable_arcs, passable_edges}
+use Rattle.aut_ops.specs.Satisfiable.{arc_of, between, is_flagged, is_satisfiable, passable_arcs, satisfiable_edges}
 use Rattle.aut_ops.specs.Pruning.{AreUseful, IsMarkedOnCycle, IsUseful}
-use Rattle.aut_ops.specs.inner.Renumbering.{both_flagged, link_closes, link_passable, new_number, turned_arc}
+use Rattle.aut_ops.specs.inner.Renumbering.{both_flagged, link_closes, link_passable, new_number, reversed_arc}
 use Rattle.graph_walk.proofs.WalkLemmas.{reach_then}
 use Rattle.graph_walk.specs.Components.{AreComponents}
-use Rattle.graph_walk.specs.Reach.{AreReached}
+use Rattle.graph_walk.specs.Reach.{AreReachFlags}
 use Rattle.graph_walk.specs.Walk.{IsWalk, Reaches}
 
 -- walks gone the other way
 
-pub turned_reaches : (arcs : List (ℕ × ℕ)) (p q : ℕ) → Reaches arcs p q → Reaches (map turned_arc arcs) q p
-turned_reaches arcs p q reaches = by p reaches.walk reaches.leads
+pub turned_reaches : (arcs : List (ℕ × ℕ)) (p q : ℕ) → Reaches arcs p q → Reaches (map reversed_arc arcs) q p
+turned_reaches arcs p q reaches = by_cases p reaches.walk reaches.leads
   where
-    by : (p : ℕ) (walk : List (ℕ × ℕ)) → IsWalk arcs p walk q → Reaches (map turned_arc arcs) q p
-    by p [] leads = record { walk = []; leads = sym leads }
-    by p (a ∷ walk) leads = reach_then (map turned_arc arcs) q a.1 p (by a.1 walk leads.2) (record { walk = turned_arc a ∷ []; leads = (there_map turned_arc arcs a leads.0, refl, leads.1) })
+    by_cases : (p : ℕ) (walk : List (ℕ × ℕ)) → IsWalk arcs p walk q → Reaches (map reversed_arc arcs) q p
+    by_cases p [] leads = record { walk = []; leads = sym leads }
+    by_cases p (a ∷ walk) leads = reach_then (map reversed_arc arcs) q a.1 p (by_cases a.1 walk leads.2)
+        (record { walk = reversed_arc a ∷ []; leads = (there_map reversed_arc arcs a leads.0, refl, leads.1) })
 
-turned_twice : (arcs : List (ℕ × ℕ)) → map turned_arc (map turned_arc arcs) ≡ arcs
+turned_twice : (arcs : List (ℕ × ℕ)) → map reversed_arc (map reversed_arc arcs) ≡ arcs
 turned_twice [] = refl
 turned_twice (a ∷ arcs) = ap (λ rest. a ∷ rest) (turned_twice arcs)
 
-pub turned_back : (arcs : List (ℕ × ℕ)) (p q : ℕ) → Reaches (map turned_arc arcs) q p → Reaches arcs p q
-turned_back arcs p q reaches = subst (λ ls. Reaches ls p q) (turned_twice arcs) (turned_reaches (map turned_arc arcs) q p reaches)
+pub turned_back : (arcs : List (ℕ × ℕ)) (p q : ℕ) → Reaches (map reversed_arc arcs) q p → Reaches arcs p q
+turned_back arcs p q reaches = subst (λ ls. Reaches ls p q) (turned_twice arcs) (turned_reaches (map reversed_arc arcs) q p reaches)
 
 -- both ends of the arcs stay nodes
-pub turned_nodes : (nodes : ℕ) (arcs : List (ℕ × ℕ)) → All (λ a. (a.0 < nodes) × (a.1 < nodes)) arcs → All (λ a. (a.0 < nodes) × (a.1 < nodes)) (map turned_arc arcs)
-turned_nodes nodes arcs within = All-map (λ (a : ℕ × ℕ). (a.0 < nodes) × (a.1 < nodes)) turned_arc arcs
+pub turned_nodes : (nodes : ℕ) (arcs : List (ℕ × ℕ)) → All (λ a. (a.0 < nodes) × (a.1 < nodes)) arcs → All (λ a. (a.0 < nodes) × (a.1 < nodes)) (map reversed_arc arcs)
+turned_nodes nodes arcs within = All-map (λ (a : ℕ × ℕ). (a.0 < nodes) × (a.1 < nodes)) reversed_arc arcs
     (All-weaker (λ (a : ℕ × ℕ). (a.0 < nodes) × (a.1 < nodes)) (λ (a : ℕ × ℕ). (a.1 < nodes) × (a.0 < nodes)) (λ a both. (both.1, both.0)) arcs within)
 
 -- an edge in set 0 that a path goes
 pub record GoesMarked (a : Automaton) (p q : ℕ) : Type 0 where
-  pub edge : TreeEdge
-  pub is_edge : Contains (passable_edges a) edge
+  pub edge : LabelledEdge
+  pub is_edge : Contains (satisfiable_edges a) edge
   pub marked : is_in 0 edge.marks ≡ true
   pub before : Reaches (passable_arcs a) p edge.from
   pub after : Reaches (passable_arcs a) edge.to q
 
-pub goes_marked : (a : Automaton) → IsWellFormed a → (p q : ℕ) (xs : List NameSet) (es : List TreeEdge) → IsPath a p xs es q → list_any (is_in 0) (marks_of es) ≡ true → GoesMarked a p q
+pub goes_marked : (a : Automaton) → IsWellFormed a → (p q : ℕ) (xs : List NameSet) (es : List LabelledEdge) → IsPath a p xs es q → list_any (is_in 0) (marks_of es) ≡ true → GoesMarked a p q
 goes_marked a formed p q [] [] path some = absurd (false≢true some)
 goes_marked a formed p q [] (e ∷ es) path some = absurd path
 goes_marked a formed p q (x ∷ xs) [] path some = absurd path
@@ -64,12 +65,12 @@ goes_marked a formed p q (x ∷ xs) (e ∷ es) path some = elim (cases_Bool (is_
         edge = rest.edge;
         is_edge = rest.is_edge;
         marked = rest.marked;
-        before = reach_then (passable_arcs a) p e.to rest.edge.from (record { walk = arc_of e ∷ []; leads = (there_map arc_of (passable_edges a) e there, sym path.0, refl) }) rest.before;
+        before = reach_then (passable_arcs a) p e.to rest.edge.from (record { walk = arc_of e ∷ []; leads = (there_map arc_of (satisfiable_edges a) e there, sym path.0, refl) }) rest.before;
         after = rest.after;
       })
 ]
   where
-    there : Contains (passable_edges a) e
+    there : Contains (satisfiable_edges a) e
     there = passable_there a formed e x path.1 path.2
 
 -- the states of an accepting run are useful
@@ -86,7 +87,7 @@ useful_accepts a formed flags are condition = between_accepts a formed flags (λ
           leads = reach_then (passable_arcs a) q r.state found.edge.from after found.before;
         }
 
-module _ (c : Core) (core : IsCore c) (numbers : List ℕ) (are : AreComponents c.states (passable_arcs (automaton_of c)) numbers) where
+module _ (c : SymbolicAutomaton) (core : IsWellFormedSymbolic c) (numbers : List ℕ) (are : AreComponents c.states (passable_arcs (automaton_of c)) numbers) where
   abbrev a : Automaton
   a = automaton_of c
 
@@ -97,25 +98,25 @@ module _ (c : Core) (core : IsCore c) (numbers : List ℕ) (are : AreComponents 
       let second = and_parts (is_in 0 l.marks) (nat_eq (new_number numbers l.from) (new_number numbers l.to)) first.1 in
       let link = All-contains (IsLinkOf c) c.links l core.parts.links there in
       record {
-        is_edge = there_filter (is_passable (length c.names)) a.edges (edge_of c.store l) (there_map (edge_of c.store) c.links l there) first.0;
+        is_edge = there_filter (is_satisfiable (length c.names)) a.edges (edge_of c.store l) (there_map (edge_of c.store) c.links l there) first.0;
         marked = second.0;
         closes = ((are.same l.from l.to link.from link.to).0 (eqb-true (new_number numbers l.from) (new_number numbers l.to) second.1)).1;
       }
 
   -- and each such edge is that of such a link
-  pub on_cycle_closes : (e : TreeEdge) → IsMarkedOnCycle a e → Contains (map (λ (l : Link). l.from) (filter (link_closes c numbers) c.links)) e.from
+  pub on_cycle_closes : (e : LabelledEdge) → IsMarkedOnCycle a e → Contains (map (λ (l : Link). l.from) (filter (link_closes c numbers) c.links)) e.from
   on_cycle_closes e on =
-      let passes = from_filter (is_passable (length c.names)) a.edges e on.is_edge in
+      let passes = from_filter (is_satisfiable (length c.names)) a.edges e on.is_edge in
       let found = from_map (edge_of c.store) c.links e passes.0 in
       let l = found.0 in
-      let from : l.from ≡ e.from = ap (λ (d : TreeEdge). d.from) found.2 in
-      let to : l.to ≡ e.to = ap (λ (d : TreeEdge). d.to) found.2 in
+      let from : l.from ≡ e.from = ap (λ (d : LabelledEdge). d.from) found.2 in
+      let to : l.to ≡ e.to = ap (λ (d : LabelledEdge). d.to) found.2 in
       let link = All-contains (IsLinkOf c) c.links l core.parts.links found.1 in
       let forth = subst (λ p. Reaches (passable_arcs a) p l.to) (sym from) (subst (λ q. Reaches (passable_arcs a) e.from q) (sym to) (edge_reaches a core.well_formed e on.is_edge)) in
       let back = subst (λ p. Reaches (passable_arcs a) p l.from) (sym to) (subst (λ q. Reaches (passable_arcs a) e.to q) (sym from) on.closes) in
       let same = eq-eqb (new_number numbers l.from) (new_number numbers l.to) ((are.same l.from l.to link.from link.to).1 (forth, back)) in
-      let marked : is_in 0 l.marks ≡ true = ap (λ (d : TreeEdge). is_in 0 d.marks) found.2 ∙ on.marked in
-      let passable : link_passable c l ≡ true = ap (is_passable (length c.names)) found.2 ∙ passes.1 in
+      let marked : is_in 0 l.marks ≡ true = ap (λ (d : LabelledEdge). is_in 0 d.marks) found.2 ∙ on.marked in
+      let passable : link_passable c l ≡ true = ap (is_satisfiable (length c.names)) found.2 ∙ passes.1 in
       let closes = and_from (link_passable c l) (is_in 0 l.marks && nat_eq (new_number numbers l.from) (new_number numbers l.to)) passable
       (and_from (is_in 0 l.marks) (nat_eq (new_number numbers l.from) (new_number numbers l.to)) marked same) in
       subst (Contains (map (λ (m : Link). m.from) (filter (link_closes c numbers) c.links))) from
@@ -123,7 +124,8 @@ module _ (c : Core) (core : IsCore c) (numbers : List ℕ) (are : AreComponents 
 
   -- the states found by both searches are the useful ones
   pub found_useful : (sources : List ℕ) (reached leading flags : List Bool) → sources ≡ map (λ (l : Link). l.from) (filter (link_closes c numbers) c.links)
-      → AreReached c.states (passable_arcs a) c.starts reached → AreReached c.states (map turned_arc (passable_arcs a)) sources leading → flags ≡ both_flagged reached leading → AreUseful a flags
+      → AreReachFlags c.states (passable_arcs a) c.starts reached → AreReachFlags c.states (map reversed_arc (passable_arcs a)) sources leading → flags ≡ both_flagged reached leading
+      → AreUseful a flags
   found_useful sources reached leading flags sources_are first second is = record {
     size = ap (λ (fs : List Bool). length fs) is
         ∙ (length-map (range_with_len 0 (length reached)) (λ k. is_flagged reached k && is_flagged leading k) ∙ (length-range_with_len 0 (length reached) ∙ first.size));

@@ -2,7 +2,7 @@
 use Rattle.std.proofs.Common.{◌≡◌, ℕ, true, List, [], ◌∷◌, ◌++◌, Contains, refl, subst}
 use Rattle.std.specs.List.{AllZip}
 use Rattle.aut_base.specs.Acceptance.{IsPath}
-use Rattle.aut_base.specs.Automaton.{Automaton, TreeEdge}
+use Rattle.aut_base.specs.Automaton.{Automaton, LabelledEdge}
 use Rattle.aut_base.specs.Label.{holds_at, truth}
 use Rattle.aut_base.specs.Word.{NameSet, copies}
 use Rattle.aut_base.proofs.runs.LassoRuns.{marks_of}
@@ -10,8 +10,8 @@ use Rattle.aut_base.specs.Runs.{LassoRun}
 use Rattle.aut_ops.specs.Languages.{begun}
 
 -- an edge of the automaton that answers this one: it leaves the state q, and can be gone at the letter
-pub record Answer (b : Automaton) (Stands : ℕ → ℕ → Type 0) (Marked : List ℕ → List ℕ → Type 0) (x : NameSet) (q : ℕ) (e : TreeEdge) : Type 0 where
-  pub edge : TreeEdge
+pub record Answer (b : Automaton) (Stands : ℕ → ℕ → Type 0) (Marked : List ℕ → List ℕ → Type 0) (x : NameSet) (q : ℕ) (e : LabelledEdge) : Type 0 where
+  pub edge : LabelledEdge
   pub from : q ≡ edge.from
   pub there : Contains b.edges edge
   pub holds : truth (holds_at b.names x) edge.label ≡ true
@@ -22,17 +22,17 @@ pub record Answer (b : Automaton) (Stands : ℕ → ℕ → Type 0) (Marked : Li
 -- A state stands for at most one.
 pub record Simulates (a b : Automaton) (Stands : ℕ → ℕ → Type 0) (Marked : List ℕ → List ℕ → Type 0) : Type 0 where
   pub one : (p q r : ℕ) → Stands p q → Stands p r → q ≡ r
-  pub step : (p q : ℕ) (e : TreeEdge) (x : NameSet) → Stands p q → p ≡ e.from → Contains a.edges e → truth (holds_at a.names x) e.label ≡ true → Answer b Stands Marked x q e
+  pub step : (p q : ℕ) (e : LabelledEdge) (x : NameSet) → Stands p q → p ≡ e.from → Contains a.edges e → truth (holds_at a.names x) e.label ≡ true → Answer b Stands Marked x q e
 
 -- the path of the second that answers one of the first
-pub record Image (b : Automaton) (Stands : ℕ → ℕ → Type 0) (Marked : List ℕ → List ℕ → Type 0) (q : ℕ) (xs : List NameSet) (es : List TreeEdge) (p' : ℕ) : Type 0 where
+pub record Image (b : Automaton) (Stands : ℕ → ℕ → Type 0) (Marked : List ℕ → List ℕ → Type 0) (q : ℕ) (xs : List NameSet) (es : List LabelledEdge) (p' : ℕ) : Type 0 where
   pub state : ℕ
-  pub edges : List TreeEdge
+  pub edges : List LabelledEdge
   pub goes : IsPath b q xs edges state
   pub to : Stands p' state
   pub marks : AllZip Marked (marks_of es) (marks_of edges)
 
-pub image : (a b : Automaton) (Stands : ℕ → ℕ → Type 0) (Marked : List ℕ → List ℕ → Type 0) → Simulates a b Stands Marked → (p q p' : ℕ) (xs : List NameSet) (es : List TreeEdge) → Stands p q
+pub image : (a b : Automaton) (Stands : ℕ → ℕ → Type 0) (Marked : List ℕ → List ℕ → Type 0) → Simulates a b Stands Marked → (p q p' : ℕ) (xs : List NameSet) (es : List LabelledEdge) → Stands p q
     → IsPath a p xs es p' → Image b Stands Marked q xs es p'
 image a b Stands Marked sim p q p' [] [] stands path = record { state = q; edges = []; goes = refl; to = subst (λ s. Stands s q) path stands; marks = tt }
 image a b Stands Marked sim p q p' [] (e ∷ es) stands path = absurd path
@@ -49,7 +49,7 @@ image a b Stands Marked sim p q p' (x ∷ xs) (e ∷ es) stands path =
     }
 
 -- the run of the second that answers one of the first
-pub record RunImage (b : Automaton) (Marked : List ℕ → List ℕ → Type 0) (u v : List NameSet) (turns rounds : ℕ) (cycle : List TreeEdge) : Type 0 where
+pub record RunImage (b : Automaton) (Marked : List ℕ → List ℕ → Type 0) (u v : List NameSet) (turns rounds : ℕ) (cycle : List LabelledEdge) : Type 0 where
   pub run : LassoRun b u v turns rounds
   pub marks : AllZip Marked (marks_of cycle) (marks_of run.cycle)
 

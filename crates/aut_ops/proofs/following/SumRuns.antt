@@ -14,7 +14,7 @@ use Rattle.aut_base.proofs.order.Climbing.{Climbs, climbs_append, climbs_in_orde
 use Rattle.aut_base.proofs.lists.Members.{from_map, there_map}
 use Rattle.aut_base.proofs.numbers.Truth.{and-true, and_comm, or-false, or_comm}
 use Rattle.aut_base.specs.Acceptance.{Accepts, IsPath}
-use Rattle.aut_base.specs.Automaton.{Automaton, IsEdgeOf, IsWellFormed, TreeEdge}
+use Rattle.aut_base.specs.Automaton.{Automaton, IsEdgeOf, IsWellFormed, LabelledEdge}
 use Rattle.aut_base.specs.Formula.{Fin, Inf, met}
 use Rattle.aut_base.specs.Label.{AllBelow, holds_at, truth}
 use Rattle.aut_base.specs.Marks.{is_in}
@@ -34,20 +34,20 @@ module _ (a b : Automaton) (names : b.names ≡ a.names) (first : IsWellFormed a
   abbrev fresh : ℕ
   fresh = a.sets + b.sets
 
-  abbrev moved : TreeEdge → TreeEdge
+  abbrev moved : LabelledEdge → LabelledEdge
   moved = moved_edge a.states a.sets fresh
 
   -- an edge of the first, or one of the second
-  edge_cases : (e : TreeEdge) → Contains both.edges e → Contains a.edges e ⊎ ((d : TreeEdge) × Contains b.edges d × (moved d ≡ e))
+  edge_cases : (e : LabelledEdge) → Contains both.edges e → Contains a.edges e ⊎ ((d : LabelledEdge) × Contains b.edges d × (moved d ≡ e))
   edge_cases e there = elim (Contains-append_cases a.edges (map moved b.edges) e there) [
     | inl old ↦ inl old
     | inr new ↦ inr (from_map moved b.edges e new)
   ]
 
-  edge_of_first : (e : TreeEdge) → Contains a.edges e → IsEdgeOf a e
+  edge_of_first : (e : LabelledEdge) → Contains a.edges e → IsEdgeOf a e
   edge_of_first e there = All-contains (IsEdgeOf a) a.edges e first.edges there
 
-  edge_of_second : (e : TreeEdge) → Contains b.edges e → IsEdgeOf b e
+  edge_of_second : (e : LabelledEdge) → Contains b.edges e → IsEdgeOf b e
   edge_of_second e there = All-contains (IsEdgeOf b) b.edges e second.edges there
 
   -- conditions
@@ -119,13 +119,13 @@ module _ (a b : Automaton) (names : b.names ≡ a.names) (first : IsWellFormed a
   sum_in_first : Simulates both a (λ p q. (p ≡ q) × (p < a.states)) (λ c d. d ≡ c)
   sum_in_first = record {
     one = λ p q r s t. sym s.0 ∙ t.0;
-    step = λ p q e x stands at there holds. by p q e x stands at holds (edge_cases e there);
+    step = λ p q e x stands at there holds. by_cases p q e x stands at holds (edge_cases e there);
   }
     where
-      by : (p q : ℕ) (e : TreeEdge) (x : NameSet) → (p ≡ q) × (p < a.states) → p ≡ e.from → truth (holds_at a.names x) e.label ≡ true
-          → Contains a.edges e ⊎ ((d : TreeEdge) × Contains b.edges d × (moved d ≡ e)) → Answer a (λ p q. (p ≡ q) × (p < a.states)) (λ c d. d ≡ c) x q e
-      by p q e x stands at holds (inl old) = record { edge = e; from = sym stands.0 ∙ at; there = old; holds = holds; to = (refl, (edge_of_first e old).to); marks = refl }
-      by p q e x stands at holds (inr new) = let from = ap (λ (d : TreeEdge). d.from) new.2 in absurd (omega (arith, from, at, stands.1))
+      by_cases : (p q : ℕ) (e : LabelledEdge) (x : NameSet) → (p ≡ q) × (p < a.states) → p ≡ e.from → truth (holds_at a.names x) e.label ≡ true
+          → Contains a.edges e ⊎ ((d : LabelledEdge) × Contains b.edges d × (moved d ≡ e)) → Answer a (λ p q. (p ≡ q) × (p < a.states)) (λ c d. d ≡ c) x q e
+      by_cases p q e x stands at holds (inl old) = record { edge = e; from = sym stands.0 ∙ at; there = old; holds = holds; to = (refl, (edge_of_first e old).to); marks = refl }
+      by_cases p q e x stands at holds (inr new) = let from = ap (λ (d : LabelledEdge). d.from) new.2 in absurd (omega (arith, from, at, stands.1))
 
   second_in_sum : Simulates b both (λ p q. q ≡ p + a.states) (λ c d. Moved d c)
   second_in_sum = record {
@@ -143,24 +143,24 @@ module _ (a b : Automaton) (names : b.names ≡ a.names) (first : IsWellFormed a
   sum_in_second : Simulates both b (λ p q. p ≡ q + a.states) Moved
   sum_in_second = record {
     one = λ p q r s t. omega (arith, s, t);
-    step = λ p q e x stands at there holds. by p q e x stands at holds (edge_cases e there);
+    step = λ p q e x stands at there holds. by_cases p q e x stands at holds (edge_cases e there);
   }
     where
-      by : (p q : ℕ) (e : TreeEdge) (x : NameSet) → p ≡ q + a.states → p ≡ e.from → truth (holds_at a.names x) e.label ≡ true
-          → Contains a.edges e ⊎ ((d : TreeEdge) × Contains b.edges d × (moved d ≡ e)) → Answer b (λ p q. p ≡ q + a.states) Moved x q e
-      by p q e x stands at holds (inl old) = let edge = edge_of_first e old in absurd (omega (arith, edge.from, at, stands))
-      by p q e x stands at holds (inr new) =
-          let from : new.0.from + a.states ≡ e.from = ap (λ (d : TreeEdge). d.from) new.2 in
+      by_cases : (p q : ℕ) (e : LabelledEdge) (x : NameSet) → p ≡ q + a.states → p ≡ e.from → truth (holds_at a.names x) e.label ≡ true
+          → Contains a.edges e ⊎ ((d : LabelledEdge) × Contains b.edges d × (moved d ≡ e)) → Answer b (λ p q. p ≡ q + a.states) Moved x q e
+      by_cases p q e x stands at holds (inl old) = let edge = edge_of_first e old in absurd (omega (arith, edge.from, at, stands))
+      by_cases p q e x stands at holds (inr new) =
+          let from : new.0.from + a.states ≡ e.from = ap (λ (d : LabelledEdge). d.from) new.2 in
           record {
             edge = new.0;
             from = omega (arith, from, at, stands);
             there = new.1;
-            holds = subst (λ ns. truth (holds_at ns x) new.0.label ≡ true) (sym names) (ap (λ (d : TreeEdge). truth (holds_at a.names x) d.label) new.2 ∙ holds);
-            to = sym (ap (λ (d : TreeEdge). d.to) new.2);
-            marks = sym (ap (λ (d : TreeEdge). d.marks) new.2);
+            holds = subst (λ ns. truth (holds_at ns x) new.0.label ≡ true) (sym names) (ap (λ (d : LabelledEdge). truth (holds_at a.names x) d.label) new.2 ∙ holds);
+            to = sym (ap (λ (d : LabelledEdge). d.to) new.2);
+            marks = sym (ap (λ (d : LabelledEdge). d.marks) new.2);
           }
 
-  within_first : (p q : ℕ) (xs : List NameSet) (es : List TreeEdge) → IsPath a p xs es q → All (λ marks. All (λ m. m < a.sets) marks) (marks_of es)
+  within_first : (p q : ℕ) (xs : List NameSet) (es : List LabelledEdge) → IsPath a p xs es q → All (λ marks. All (λ m. m < a.sets) marks) (marks_of es)
   within_first = path_marks a (All (λ m. m < a.sets)) (λ e there. (edge_of_first e there).marks)
 
   -- the language
@@ -211,11 +211,11 @@ module _ (a b : Automaton) (names : b.names ≡ a.names) (first : IsWellFormed a
 
   -- well-formedness
 
-  climbs_moved : (low : ℕ) (es : List TreeEdge) → Climbs low es → Climbs (low + a.states) (map moved es)
+  climbs_moved : (low : ℕ) (es : List LabelledEdge) → Climbs low es → Climbs (low + a.states) (map moved es)
   climbs_moved low [] climbs = tt
   climbs_moved low (e ∷ es) climbs = (omega (arith, climbs.0), climbs_moved e.from es climbs.1)
 
-  moved_formed : (e : TreeEdge) → IsEdgeOf b e → IsEdgeOf both (moved e)
+  moved_formed : (e : LabelledEdge) → IsEdgeOf b e → IsEdgeOf both (moved e)
   moved_formed e edge = record {
     from = omega (arith, edge.from);
     to = omega (arith, edge.to);
@@ -227,7 +227,7 @@ module _ (a b : Automaton) (names : b.names ≡ a.names) (first : IsWellFormed a
         (All-map (λ m. m < fresh) (λ m. m + a.sets) e.marks (All-weaker (λ m. m < b.sets) (λ m. m + a.sets < fresh) (λ m low. omega (arith, low)) e.marks edge.marks));
   }
 
-  first_formed : (e : TreeEdge) → IsEdgeOf a e → IsEdgeOf both e
+  first_formed : (e : LabelledEdge) → IsEdgeOf a e → IsEdgeOf both e
   first_formed e edge = record {
     from = omega (arith, edge.from);
     to = omega (arith, edge.to);

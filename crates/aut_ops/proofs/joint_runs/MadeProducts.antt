@@ -4,10 +4,10 @@ use Rattle.std.specs.List.{AllZip, position_or_len}
 use Rattle.std.specs.Prelude.{flat_map}
 use Rattle.acc_forms.specs.Shift.{shift}
 use Rattle.aut_base.proofs.canonical.CanonicalAutomata.{labels_below}
-use Rattle.aut_base.specs.Automaton.{Automaton, IsWellFormed, TreeEdge}
+use Rattle.aut_base.specs.Automaton.{Automaton, IsWellFormed, LabelledEdge}
 use Rattle.aut_base.specs.Formula.{FormulaTree, SetsBelow, True}
 use Rattle.aut_core.proofs.OtherNames.{AreAmong, over_accepts}
-use Rattle.aut_core.specs.Core.{Core, IsCore, automaton_of, edge_of}
+use Rattle.aut_core.specs.SymbolicAutomata.{SymbolicAutomaton, IsWellFormedSymbolic, automaton_of, edge_of}
 use Rattle.aut_core.specs.OtherNames.{AcceptTheSame, over_names}
 use Rattle.aut_core.specs.declared.link.Link.{Link}
 use Rattle.label_guards.specs.Store.{Keeps, Store}
@@ -24,8 +24,8 @@ use Rattle.aut_base.proofs.runs.OtherEdges.{run_wider}
 use Rattle.aut_ops.specs.Products.{ArePairs, JointEdge, joint_edges, numbered, product_on, same_pair, start_pairs}
 use Rattle.aut_ops.specs.declared.join.Join.{Join}
 use Rattle.aut_ops.specs.declared.join.Join.TheVariants as join
-use Rattle.aut_ops.specs.inner.Joins.{IsMade, JoinAccepts, join_of}
-use Rattle.aut_ops.specs.inner.Pairings.{AreEdges, ArePlaces, IsNumbered, Stage}
+use Rattle.aut_ops.specs.inner.Joins.{IsProductCore, JoinAccepts, join_of}
+use Rattle.aut_ops.specs.inner.Pairings.{AreJointEdges, ArePlacesOfPairs, IsJointEdgeAt, PairingStage}
 use Rattle.aut_base.specs.Runs.{HasRuns}
 
 sets_join : (j : Join) (n : ℕ) (f g : FormulaTree) → SetsBelow n f → SetsBelow n g → SetsBelow n (join_of j f g)
@@ -33,7 +33,7 @@ sets_join join.All n f g one two = sets_conj n f g one two
 sets_join join.Any n f g one two = sets_disj n f g one two
 
 module _ (pairs : List (ℕ × ℕ)) (differ : AllPairs (λ p q. p ≢ q) pairs) where
-  edges_are : (es : List TreeEdge) (js : List JointEdge) → AllZip (IsNumbered pairs) es js → es ≡ map (numbered pairs) js
+  edges_are : (es : List LabelledEdge) (js : List JointEdge) → AllZip (IsJointEdgeAt pairs) es js → es ≡ map (numbered pairs) js
   edges_are [] [] zip = refl
   edges_are [] (j ∷ js) zip = absurd zip
   edges_are (e ∷ es) [] zip = absurd zip
@@ -44,7 +44,7 @@ module _ (pairs : List (ℕ × ℕ)) (differ : AllPairs (λ p q. p ≢ q) pairs)
       let rest = edges_are es js zip.1 in
       λ i. here i ∷ rest i
 
-  places_are : (ks : List ℕ) (xs : List (ℕ × ℕ)) → ArePlaces pairs ks xs → ks ≡ map (λ x. position_or_len (same_pair x) pairs) xs
+  places_are : (ks : List ℕ) (xs : List (ℕ × ℕ)) → ArePlacesOfPairs pairs ks xs → ks ≡ map (λ x. position_or_len (same_pair x) pairs) xs
   places_are [] [] zip = refl
   places_are [] (x ∷ xs) zip = absurd zip
   places_are (k ∷ ks) [] zip = absurd zip
@@ -58,18 +58,19 @@ accepts_by : (j : Join) (a b : Automaton) (names : b.names ≡ a.names) (formed 
 accepts_by join.All a b names formed also pairs listed = product_accepts a b names formed also pairs listed
 accepts_by join.Any a b names formed also pairs listed = λ runs others. product_or_accepts a b names formed also pairs listed runs others
 
-pub made : (j : Join) (a b : Core) (stage : Stage) (begun : List (ℕ × ℕ)) (names : List (List ℕ)) (starts : List ℕ) (sets seconds : ℕ) (formula f g : FormulaTree) (store : Store)
-    (links : List Link) → IsCore a → IsCore b → b.names ≡ a.names → Keeps b.store stage.store
-    → ArePairs (automaton_of a) (automaton_of b) stage.pairs → AreEdges stage (flat_map (joint_edges (automaton_of a) (automaton_of b)) stage.pairs)
-    → (rest : List (ℕ × ℕ)) × (stage.pairs ≡ begun ++ rest) → ArePlaces begun starts (start_pairs (automaton_of a) (automaton_of b))
+pub made_is_product : (j : Join) (a b : SymbolicAutomaton) (stage : PairingStage) (begun : List (ℕ × ℕ)) (names : List (List ℕ)) (starts : List ℕ) (sets seconds : ℕ)
+    (formula f g : FormulaTree) (store : Store)
+    (links : List Link) → IsWellFormedSymbolic a → IsWellFormedSymbolic b → b.names ≡ a.names → Keeps b.store stage.store
+    → ArePairs (automaton_of a) (automaton_of b) stage.pairs → AreJointEdges stage (flat_map (joint_edges (automaton_of a) (automaton_of b)) stage.pairs)
+    → (rest : List (ℕ × ℕ)) × (stage.pairs ≡ begun ++ rest) → ArePlacesOfPairs begun starts (start_pairs (automaton_of a) (automaton_of b))
     → names ≡ a.names → sets ≡ a.sets → seconds ≡ b.sets → f ≡ a.formula → g ≡ b.formula → formula ≡ join_of j f (shift sets g)
     → store ≡ stage.store → links ≡ stage.links
-    → IsMade j a b stage.pairs (record { names = names; starts = starts; states = length stage.pairs; links = links; sets = sets + seconds; formula = formula; store = store })
-made j a b stage begun names starts sets seconds formula f g store links core_a core_b same keeps listed edges longer places same_names at at_b f_is g_is joined store_is links_are =
+    → IsProductCore j a b stage.pairs (record { names = names; starts = starts; states = length stage.pairs; links = links; sets = sets + seconds; formula = formula; store = store })
+made_is_product j a b stage begun names starts sets seconds formula f g store links core_a core_b same keeps listed edges longer places same_names at at_b f_is g_is joined store_is links_are =
     let x = automaton_of a in
     let y = automaton_of b in
     let differ = pairs_differ x y stage.pairs listed in
-    let core : Core = record { names = names; starts = starts; states = length stage.pairs; links = stage.links; sets = sets + seconds; formula = formula; store = stage.store } in
+    let core : SymbolicAutomaton = record { names = names; starts = starts; states = length stage.pairs; links = stage.links; sets = sets + seconds; formula = formula; store = stage.store } in
     let is : automaton_of core ≡ product_on (join_of j) stage.pairs x y = λ i. record {
       names = same_names i;
       starts = places_are stage.pairs differ starts (start_pairs x y) (places_longer begun stage.pairs longer.0 starts (start_pairs x y) longer.1 places) i;
@@ -78,9 +79,9 @@ made j a b stage begun names starts sets seconds formula f g store links core_a 
       sets = at i + at_b i;
       formula = (joined ∙ (λ k. join_of j (f_is k) (shift (at k) (g_is k)))) i;
     } in
-    let last : Core = record { names = names; starts = starts; states = length stage.pairs; links = links; sets = sets + seconds; formula = formula; store = store } in
+    let last : SymbolicAutomaton = record { names = names; starts = starts; states = length stage.pairs; links = links; sets = sets + seconds; formula = formula; store = store } in
     let whole : core ≡ last = λ i. record { names = names; starts = starts; states = length stage.pairs; links = sym links_are i; sets = sets + seconds; formula = formula; store = sym store_is i } in
-    subst (IsMade j a b stage.pairs) whole (record {
+    subst (IsProductCore j a b stage.pairs) whole (record {
       shape = is;
       accepts = subst (λ (m : Automaton). JoinAccepts j m x y) (sym is) (accepts_by j x y same core_a.well_formed core_b.well_formed stage.pairs listed);
       parts = parts_for core (product_on (join_of j) stage.pairs x y) is (product_formed (join_of j) x y same core_a.well_formed core_b.well_formed stage.pairs listed (sets_join j)) core_a.parts.few

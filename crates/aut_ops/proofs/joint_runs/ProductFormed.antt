@@ -10,7 +10,7 @@ use Rattle.aut_base.proofs.order.AllPairsOf.{pairs_append, pairs_first, pairs_ma
 use Rattle.aut_base.proofs.canonical.CanonicalBelow.{label_of_below}
 use Rattle.aut_base.proofs.order.Climbing.{AllFrom, Climbs, climbs_in_order, climbs_lower, climbs_row}
 use Rattle.aut_base.proofs.lists.Members.{each_there, from_flat_map, from_map}
-use Rattle.aut_base.specs.Automaton.{Automaton, IsEdgeOf, IsWellFormed, TreeEdge}
+use Rattle.aut_base.specs.Automaton.{Automaton, IsEdgeOf, IsWellFormed, LabelledEdge}
 use Rattle.aut_base.specs.Formula.{FormulaTree, SetsBelow}
 use Rattle.aut_base.specs.Label.{AllBelow}
 use Rattle.aut_base.specs.Valuation.{truth_on}
@@ -61,7 +61,7 @@ module _ (join : FormulaTree → FormulaTree → FormulaTree) (a b : Automaton) 
       let two = place_of (get_or xs j d) (all j d within) in
       differ i j d less within (same_Some (get_or xs i d) (get_or xs j d) (sym one ∙ (ap (slice_get pairs) e ∙ two)))
 
-  edge_formed : (e : TreeEdge) → Contains p.edges e → IsEdgeOf p e
+  edge_formed : (e : LabelledEdge) → Contains p.edges e → IsEdgeOf p e
   edge_formed e there =
       let of = edge_of a b pairs listed e there in
       let first = All-contains (IsEdgeOf a) a.edges of.first formed.edges of.in_first in
@@ -82,11 +82,11 @@ module _ (join : FormulaTree → FormulaTree → FormulaTree) (a b : Automaton) 
 
   -- the edges of a pair leave its place
   row_from : (x : ℕ × ℕ) → AllFrom (place x) (map (numbered pairs) (joint_edges a b x))
-  row_from x = each_there (λ (e : TreeEdge). e.from ≡ place x) (map (numbered pairs) (joint_edges a b x)) (λ e there.
+  row_from x = each_there (λ (e : LabelledEdge). e.from ≡ place x) (map (numbered pairs) (joint_edges a b x)) (λ e there.
       let j = from_map (numbered pairs) (joint_edges a b x) e there in
       let of = made_of a b x j.0 j.1 in
       let from : j.0.from ≡ x = sym (ap (λ (i : JointEdge). i.from) of.is) ∙ (λ i. (of.first_from i, of.second_from i)) in
-      sym (ap (λ (d : TreeEdge). d.from) j.2) ∙ ap place from)
+      sym (ap (λ (d : LabelledEdge). d.from) j.2) ∙ ap place from)
 
   climbs_pairs : (k : ℕ) (xs : List (ℕ × ℕ)) → ((i : ℕ) (x : ℕ × ℕ) → slice_get xs i ≡ Some x → place x ≡ k + i) → Climbs k (map (numbered pairs) (flat_map (joint_edges a b) xs))
   climbs_pairs k [] at = tt

@@ -9,7 +9,7 @@ use Rattle.acc_forms.specs.Shift.{shift}
 use Rattle.aut_base.proofs.canonical.CanonicalBelow.{label_of_below}
 use Rattle.aut_base.proofs.lists.Members.{from_map, there_map}
 use Rattle.aut_base.specs.Acceptance.{IsPath}
-use Rattle.aut_base.specs.Automaton.{Automaton, IsEdgeOf, IsWellFormed, TreeEdge}
+use Rattle.aut_base.specs.Automaton.{Automaton, IsEdgeOf, IsWellFormed, LabelledEdge}
 use Rattle.aut_base.specs.Formula.{FormulaTree, SetsBelow, met}
 use Rattle.aut_base.specs.Label.{AllBelow, LabelTree, holds_at, truth}
 use Rattle.aut_base.specs.Valuation.{truth_on}
@@ -25,7 +25,7 @@ use Rattle.aut_ops.specs.Labels.{both_labels}
 use Rattle.aut_ops.specs.Products.{ArePairs, numbered, product_on, same_pair, start_pairs}
 
 -- a run of the product, with runs of both whose cycles it goes round
-pub record JointRun (a b p : Automaton) (u v : List NameSet) (turns rounds : ℕ) (firsts seconds : List TreeEdge) : Type 0 where
+pub record JointRun (a b p : Automaton) (u v : List NameSet) (turns rounds : ℕ) (firsts seconds : List LabelledEdge) : Type 0 where
   pub run : LassoRun p u v turns rounds
   pub first : (f : FormulaTree) → SetsBelow a.sets f → met (marks_of run.cycle) f ≡ met (marks_of firsts) f
   pub second : (f : FormulaTree) → SetsBelow b.sets f → met (marks_of run.cycle) (shift a.sets f) ≡ met (marks_of seconds) f
@@ -35,17 +35,17 @@ module _ (join : FormulaTree → FormulaTree → FormulaTree) (a b : Automaton) 
   abbrev p : Automaton
   p = product_on join pairs a b
 
-  edge_of_first : (e : TreeEdge) → Contains a.edges e → IsEdgeOf a e
+  edge_of_first : (e : LabelledEdge) → Contains a.edges e → IsEdgeOf a e
   edge_of_first e there = All-contains (IsEdgeOf a) a.edges e formed.edges there
 
-  edge_of_second : (e : TreeEdge) → Contains b.edges e → IsEdgeOf b e
+  edge_of_second : (e : LabelledEdge) → Contains b.edges e → IsEdgeOf b e
   edge_of_second e there = All-contains (IsEdgeOf b) b.edges e also.edges there
 
-  second_below : (e : TreeEdge) → Contains b.edges e → AllBelow (length a.names) e.label
+  second_below : (e : LabelledEdge) → Contains b.edges e → AllBelow (length a.names) e.label
   second_below e there = subst (λ (ns : List (List ℕ)). AllBelow (length ns) e.label) names (edge_of_second e there).label
 
   -- both labels hold
-  both_hold : (x : NameSet) (d e : TreeEdge) → Contains a.edges d → Contains b.edges e
+  both_hold : (x : NameSet) (d e : LabelledEdge) → Contains a.edges d → Contains b.edges e
       → truth (holds_at a.names x) (both_labels (length a.names) d.label e.label) ≡ (truth (holds_at a.names x) d.label && truth (holds_at b.names x) e.label)
   both_hold x d e one two =
       truth_both (length a.names) (holds_at a.names x) d.label e.label (edge_of_first d one).label (second_below e two)
@@ -60,14 +60,14 @@ module _ (join : FormulaTree → FormulaTree → FormulaTree) (a b : Automaton) 
   SecondOf k q = (r : ℕ) × (slice_get pairs k ≡ Some (r, q))
 
   -- an edge of the product that is gone from a pair is one of each, and both are gone
-  record Gone (e : TreeEdge) (x : NameSet) (s t : ℕ) : Type 0 where
+  record Gone (e : LabelledEdge) (x : NameSet) (s t : ℕ) : Type 0 where
     of : EdgeOf a b pairs listed e
     first_from : s ≡ of.first.from
     second_from : t ≡ of.second.from
     first_holds : truth (holds_at a.names x) of.first.label ≡ true
     second_holds : truth (holds_at b.names x) of.second.label ≡ true
 
-  gone : (k s t : ℕ) (e : TreeEdge) (x : NameSet) → slice_get pairs k ≡ Some (s, t) → k ≡ e.from → Contains p.edges e → truth (holds_at p.names x) e.label ≡ true → Gone e x s t
+  gone : (k s t : ℕ) (e : LabelledEdge) (x : NameSet) → slice_get pairs k ≡ Some (s, t) → k ≡ e.from → Contains p.edges e → truth (holds_at p.names x) e.label ≡ true → Gone e x s t
   gone k s t e x stands at there holds =
       let of = edge_of a b pairs listed e there in
       let both = and_parts (truth (holds_at a.names x) of.first.label) (truth (holds_at b.names x) of.second.label) (sym (both_hold x of.first of.second of.in_first of.in_second)
@@ -115,9 +115,9 @@ module _ (join : FormulaTree → FormulaTree → FormulaTree) (a b : Automaton) 
 
   -- and two paths that read the same are one of the product
 
-  pub record PairPath (k : ℕ) (xs : List NameSet) (es fs : List TreeEdge) (s t : ℕ) : Type 0 where
+  pub record PairPath (k : ℕ) (xs : List NameSet) (es fs : List LabelledEdge) (s t : ℕ) : Type 0 where
     pub state : ℕ
-    pub edges : List TreeEdge
+    pub edges : List LabelledEdge
     pub goes : IsPath p k xs edges state
     pub to : slice_get pairs state ≡ Some (s, t)
     pub firsts : AllZip (AgreeBelow a.sets) (marks_of edges) (marks_of es)
@@ -126,7 +126,7 @@ module _ (join : FormulaTree → FormulaTree → FormulaTree) (a b : Automaton) 
   there_at : (k : ℕ) (x : ℕ × ℕ) → slice_get pairs k ≡ Some x → Contains pairs x
   there_at k x at = (k, slice_get_within pairs k x at, get_or_from_slice_get pairs k x x at)
 
-  pub pair_path : (k s t s' t' : ℕ) (xs : List NameSet) (es fs : List TreeEdge) → slice_get pairs k ≡ Some (s, t) → IsPath a s xs es s' → IsPath b t xs fs t' → PairPath k xs es fs s' t'
+  pub pair_path : (k s t s' t' : ℕ) (xs : List NameSet) (es fs : List LabelledEdge) → slice_get pairs k ≡ Some (s, t) → IsPath a s xs es s' → IsPath b t xs fs t' → PairPath k xs es fs s' t'
   pair_path k s t s' t' [] [] [] at one two = record { state = k; edges = []; goes = refl; to = at ∙ (λ i. Some (one i, two i)); firsts = tt; seconds = tt }
   pair_path k s t s' t' [] (e ∷ es) fs at one two = absurd one
   pair_path k s t s' t' [] [] (f ∷ fs) at one two = absurd two
@@ -138,7 +138,7 @@ module _ (join : FormulaTree → FormulaTree → FormulaTree) (a b : Automaton) 
       let some = not_never (length a.names) (holds_at a.names x) (both_labels (length a.names) e.label f.label)
       (label_of_below (length a.names) (λ v. truth_on e.label v && truth_on f.label v)) holds in
       let next = next_there a b pairs listed (s, t) e f here one.1 two.1 (sym one.0) (sym two.0) some in
-      let edge : TreeEdge = numbered pairs (joined (length a.names) a.sets e f) in
+      let edge : LabelledEdge = numbered pairs (joined (length a.names) a.sets e f) in
       let rest = pair_path edge.to e.to f.to s' t' xs es fs (place_there same_pair pair_tells pairs (pairs_differ a b pairs listed) (e.to, f.to) next) one.3 two.3 in
       let from : slice_get pairs edge.from ≡ Some (s, t) = place_there same_pair pair_tells pairs (pairs_differ a b pairs listed) (e.from, f.from)
       (subst (λ y. Contains pairs y) (λ i. (one.0 i, two.0 i)) here) ∙ (λ i. Some (sym one.0 i, sym two.0 i)) in
@@ -180,7 +180,7 @@ module _ (join : FormulaTree → FormulaTree → FormulaTree) (a b : Automaton) 
       }
 
   -- runs over the same word, whenever they close
-  pub record Joined (u v : List NameSet) (firsts seconds : List TreeEdge) : Type 0 where
+  pub record Joined (u v : List NameSet) (firsts seconds : List LabelledEdge) : Type 0 where
     pub turns : ℕ
     pub rounds : ℕ
     pub positive : 0 < rounds
@@ -207,7 +207,7 @@ module _ (join : FormulaTree → FormulaTree → FormulaTree) (a b : Automaton) 
       }
 
   -- the runs of both that a run of the product is
-  pub record Parts (u v : List NameSet) (turns rounds : ℕ) (cycle : List TreeEdge) : Type 0 where
+  pub record Parts (u v : List NameSet) (turns rounds : ℕ) (cycle : List LabelledEdge) : Type 0 where
     pub first_run : LassoRun a u v turns rounds
     pub second_run : LassoRun b u v turns rounds
     pub first : (f : FormulaTree) → SetsBelow a.sets f → met (marks_of cycle) f ≡ met (marks_of first_run.cycle) f

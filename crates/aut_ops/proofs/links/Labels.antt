@@ -7,8 +7,8 @@ use Rattle.aut_base.proofs.canonical.CanonicalTruth.{label_of-same, truth-label_
 use Rattle.aut_base.proofs.lists.ListTests.{one_passes}
 use Rattle.aut_base.proofs.canonical.ValuationLetters.{letter_of_holds}
 use Rattle.aut_base.proofs.canonical.ValuationLists.{all_valuations, each_size, each_valuation, holds_in-valuation_of, length-valuation_of}
-use Rattle.aut_base.specs.Automaton.{TreeEdge}
-use Rattle.aut_base.specs.CanonicalLabel.{cubes, cubes_tree, is_independent, label_of}
+use Rattle.aut_base.specs.Automaton.{LabelledEdge}
+use Rattle.aut_base.specs.CanonicalLabel.{cubes, cubes_tree, is_independent, label_of_truth}
 use Rattle.aut_base.specs.Label.{AllBelow, LabelTree, True, holds_at, truth}
 use Rattle.aut_base.specs.Valuation.{holds_in, letter_of, truth_on, valuation_of, valuations}
 use Rattle.aut_core.proofs.Made.{label_in_settled}
@@ -27,15 +27,15 @@ truth_both n holds t u first second =
     truth-label_of holds n (λ v. truth_on t v && truth_on u v)
     ∙ (ap (λ b. b && truth_on u (valuation_of n holds)) (on_valuation n holds t first) ∙ ap (λ b. truth holds t && b) (on_valuation n holds u second))
 
-any_on : (n : ℕ) (holds : ℕ → Bool) (es : List TreeEdge) → All (λ e. AllBelow n e.label) es
-    → list_any (λ (e : TreeEdge). truth_on e.label (valuation_of n holds)) es ≡ list_any (λ (e : TreeEdge). truth holds e.label) es
+any_on : (n : ℕ) (holds : ℕ → Bool) (es : List LabelledEdge) → All (λ e. AllBelow n e.label) es
+    → list_any (λ (e : LabelledEdge). truth_on e.label (valuation_of n holds)) es ≡ list_any (λ (e : LabelledEdge). truth holds e.label) es
 any_on n holds [] below = refl
 any_on n holds (e ∷ es) below =
-    ap (λ b. b || list_any (λ (d : TreeEdge). truth_on d.label (valuation_of n holds)) es) (on_valuation n holds e.label (below 0 e (omega arith)))
+    ap (λ b. b || list_any (λ (d : LabelledEdge). truth_on d.label (valuation_of n holds)) es) (on_valuation n holds e.label (below 0 e (omega arith)))
     ∙ ap (λ b. truth holds e.label || b) (any_on n holds es (λ k d within. below (suc k) d (omega (arith, within))))
 
-pub truth_none : (n : ℕ) (holds : ℕ → Bool) (es : List TreeEdge) → All (λ e. AllBelow n e.label) es → truth holds (no_label n es) ≡ not (list_any (λ e. truth holds e.label) es)
-truth_none n holds es below = truth-label_of holds n (λ v. not (list_any (λ (e : TreeEdge). truth_on e.label v) es)) ∙ ap not (any_on n holds es below)
+pub truth_none : (n : ℕ) (holds : ℕ → Bool) (es : List LabelledEdge) → All (λ e. AllBelow n e.label) es → truth holds (no_label n es) ≡ not (list_any (λ e. truth holds e.label) es)
+truth_none n holds es below = truth-label_of holds n (λ v. not (list_any (λ (e : LabelledEdge). truth_on e.label v) es)) ∙ ap not (any_on n holds es below)
 
 -- labels that no valuation meets
 
@@ -71,7 +71,7 @@ at_letter names t v differ below long = truth_below (length names) (holds_at nam
 -- the labels of guards
 
 pub label_from : (s : Store) (g : Guard) (says : (ℕ → Bool) → Bool) (h : List Bool → Bool) → IsGuardOf s says g → ((v : List Bool) → length v ≡ s.names → says (holds_in v) ≡ h v)
-    → label_in s g ≡ label_of s.names h
+    → label_in s g ≡ label_of_truth s.names h
 label_from s g says h is same = sym (label_in_settled s g) ∙ label_of-same s.names (truth_on (label_in s g)) h (λ v long. is.truth (holds_in v) ∙ same v long)
 
 pub label_both : (s t : Store) (g h k : Guard) → t.names ≡ s.names → IsGuardOf t (λ on. truth_in s g on && truth_in s h on) k → label_in t k ≡ both_labels s.names (label_in s g) (label_in s h)

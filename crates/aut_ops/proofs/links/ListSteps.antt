@@ -12,12 +12,12 @@ map_more f start old new xs i x y within is so_far same pushed =
     ∙ ap (λ ys. start ++ ys) (ap (λ z. map f (take i xs) ++ z ∷ []) same ∙ (sym (map-append f (take i xs) (x ∷ [])) ∙ sym (ap (map f) (take-push xs i x within is))))))
 
 -- the next of increasing marks, raised, is above those so far
-pub joint_below : (marks others all : List ℕ) (by i mark : ℕ) → All (λ m. m < by) marks → AllPairs (λ m n. m < n) others → i < length others → mark ≡ get_or others i 0
-    → all ≡ marks ++ map (λ m. m + by) (take i others) → All (λ m. m < mark + by) all
-joint_below marks others all by i mark low rise within is so_far = subst (All (λ m. m < mark + by)) (sym so_far)
-    (All-append (λ m. m < mark + by) marks (map (λ m. m + by) (take i others))
-    (All-weaker (λ m. m < by) (λ m. m < mark + by) (λ m l. omega (arith, l)) marks low)
-    (All-map (λ m. m < mark + by) (λ m. m + by) (take i others) (λ k d less.
+pub joint_below : (marks others all : List ℕ) (by_cases i mark : ℕ) → All (λ m. m < by_cases) marks → AllPairs (λ m n. m < n) others → i < length others → mark ≡ get_or others i 0
+    → all ≡ marks ++ map (λ m. m + by_cases) (take i others) → All (λ m. m < mark + by_cases) all
+joint_below marks others all by_cases i mark low rise within is so_far = subst (All (λ m. m < mark + by_cases)) (sym so_far)
+    (All-append (λ m. m < mark + by_cases) marks (map (λ m. m + by_cases) (take i others))
+    (All-weaker (λ m. m < by_cases) (λ m. m < mark + by_cases) (λ m l. omega (arith, l)) marks low)
+    (All-map (λ m. m < mark + by_cases) (λ m. m + by_cases) (take i others) (λ k d less.
     let early : k < i = omega (arith, less, length-take i others) in
     let up = rise k i 0 early within in
     let at = get_or-take i others k d early in
@@ -28,8 +28,8 @@ joint_below marks others all by i mark low rise within is so_far = subst (All (�
 pub kept_within : {X : Type 0} (p : X → Bool) (xs : List X) (i : ℕ) → length (filter p (take i xs)) ≤ i
 kept_within p xs zero = omega arith
 kept_within p [] (suc i) = omega arith
-kept_within p (x ∷ xs) (suc i) = by (p x) (kept_within p xs i)
+kept_within p (x ∷ xs) (suc i) = by_cases (p x) (kept_within p xs i)
   where
-    by : (b : Bool) → length (filter p (take i xs)) ≤ i → length (cond b (x ∷ filter p (take i xs)) (filter p (take i xs))) ≤ suc i
-    by true rest = omega (arith, rest)
-    by false rest = omega (arith, rest)
+    by_cases : (b : Bool) → length (filter p (take i xs)) ≤ i → length (cond b (x ∷ filter p (take i xs)) (filter p (take i xs))) ≤ suc i
+    by_cases true rest = omega (arith, rest)
+    by_cases false rest = omega (arith, rest)

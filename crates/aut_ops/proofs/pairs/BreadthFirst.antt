@@ -9,29 +9,29 @@ use Rattle.std.proofs.lemmas.List.Sums.{fold-append}
 use Rattle.std.proofs.lemmas.Grind.{flat_map-append}
 use Rattle.std.specs.Prelude.{flat_map}
 use Rattle.aut_base.proofs.lists.Members.{Tells, found_there, item_at, none_there, there_cases, there_flat_map, there_found}
-use Rattle.aut_ops.specs.BreadthFirst.{IsBreadthFirst, IsReached, Leads, once}
+use Rattle.aut_ops.specs.BreadthFirst.{IsBreadthFirst, IsReachedFrom, LeadsBy, once}
 use Rattle.exploration.proofs.Lists.{new_all, new_cases, new_longer}
 use Rattle.exploration.specs.Turns.{with_new}
 
 -- what is reached
 
-pub reached_start : {X : Type 0} (starts : List X) (next : X → List X) (x : X) → Contains starts x → IsReached starts next x
+pub reached_start : {X : Type 0} (starts : List X) (next : X → List X) (x : X) → Contains starts x → IsReachedFrom starts next x
 reached_start starts next x there = record { start = x; is_start = there; way = []; leads = refl }
 
-leads_on : {X : Type 0} (next : X → List X) (x y z : X) (way : List X) → Leads next x way y → Contains (next y) z → Leads next x (way ++ z ∷ []) z
+leads_on : {X : Type 0} (next : X → List X) (x y z : X) (way : List X) → LeadsBy next x way y → Contains (next y) z → LeadsBy next x (way ++ z ∷ []) z
 leads_on next x y z [] leads there = (subst (λ w. Contains (next w) z) (sym leads) there, refl)
 leads_on next x y z (w ∷ way) leads there = (leads.0, leads_on next w y z way leads.1 there)
 
-pub reached_next : {X : Type 0} (starts : List X) (next : X → List X) (y z : X) → IsReached starts next y → Contains (next y) z → IsReached starts next z
+pub reached_next : {X : Type 0} (starts : List X) (next : X → List X) (y z : X) → IsReachedFrom starts next y → Contains (next y) z → IsReachedFrom starts next z
 reached_next starts next y z r there = record { start = r.start; is_start = r.is_start; way = r.way ++ z ∷ []; leads = leads_on next r.start y z r.way r.leads there }
 
 -- what holds of the starts and is handed on holds of all that is reached
-leads_keeps : {X : Type 0} (P : X → Type 0) (next : X → List X) → ((x y : X) → P x → Contains (next x) y → P y) → (x y : X) (way : List X) → P x → Leads next x way y → P y
+leads_keeps : {X : Type 0} (P : X → Type 0) (next : X → List X) → ((x y : X) → P x → Contains (next x) y → P y) → (x y : X) (way : List X) → P x → LeadsBy next x way y → P y
 leads_keeps P next step x y [] here leads = subst P leads here
 leads_keeps P next step x y (z ∷ way) here leads = leads_keeps P next step z y way (step x z here leads.0) leads.1
 
 pub reached_keeps : {X : Type 0} (P : X → Type 0) (starts : List X) (next : X → List X) → ((x : X) → Contains starts x → P x) → ((x y : X) → P x → Contains (next x) y → P y) → (y : X)
-    → IsReached starts next y → P y
+    → IsReachedFrom starts next y → P y
 reached_keeps P starts next first step y r = leads_keeps P next step r.start y r.way (first r.start r.is_start) r.leads
 
 -- lists with each item once
@@ -102,9 +102,9 @@ module _ {X : Type 0} (same : X → X → Bool) (tells : Tells same) where
         (added_there [] (starts ++ flat_map next list) y (Contains-append_right starts (flat_map next list) y (there_flat_map next list x y outer inner)))
 
     -- the list has just what is reached
-    pub listed_exactly : (list : List X) → Listed list → (y : X) → Contains list y ↔ IsReached starts next y
+    pub listed_exactly : (list : List X) → Listed list → (y : X) → Contains list y ↔ IsReachedFrom starts next y
     listed_exactly list is y = (
-      All-contains (IsReached starts next) list y is.reached,
+      All-contains (IsReachedFrom starts next) list y is.reached,
       reached_keeps (λ x. Contains list x) starts next (start_listed list is) (next_listed list is) y,
     )
 
@@ -136,7 +136,7 @@ module _ {X : Type 0} (same : X → X → Bool) (tells : Tells same) where
             ∙ (sym (get_or-take (length (front k list)) list there.0 x there.1) ∙ (ap (λ ys. get_or ys there.0 x) same_front ∙ there.2)) in
             (there.0, omega (arith, there.1, short, more, length-take-le k list (omega arith)), at)
 
-        closed : (short : length (front k list) ≤ k) (y : X) → IsReached starts next y → Contains (take k list) y
+        closed : (short : length (front k list) ≤ k) (y : X) → IsReachedFrom starts next y → Contains (take k list) y
         closed short = reached_keeps (λ x. Contains (take k list) x) starts next
             (λ x there. inside short x (added_there [] (starts ++ flat_map next (take k list)) x (Contains-append_left starts (flat_map next (take k list)) x there)))
             (λ x y outer inner. inside short y (added_there [] (starts ++ flat_map next (take k list)) y
@@ -145,7 +145,7 @@ module _ {X : Type 0} (same : X → X → Bool) (tells : Tells same) where
         stuck : length (front k list) ≤ k → ⊥
         stuck short =
             let item = item_at list k more in
-            let again = closed short item.0 (subst (IsReached starts next) item.1 (is.reached k item.0 more)) in
+            let again = closed short item.0 (subst (IsReachedFrom starts next) item.1 (is.reached k item.0 more)) in
             let early : again.0 < k = omega (arith, again.1, length-take-le k list (omega arith)) in
             listed_differ list is again.0 k item.0 early more (sym (get_or-take k list again.0 item.0 early) ∙ (again.2 ∙ sym item.1))
 

@@ -11,7 +11,7 @@ use Rattle.aut_base.proofs.lists.Lists.{take-slice_get}
 use Rattle.aut_base.proofs.lists.Members.{Tells, each_there, item_at}
 use Rattle.aut_ops.proofs.pairs.BreadthFirst.{added, added_differ, added_each, once_differ, reached_next, reached_start}
 use Rattle.aut_ops.proofs.pairs.Places.{pair_tells}
-use Rattle.aut_ops.specs.BreadthFirst.{IsBreadthFirst, IsReached, once}
+use Rattle.aut_ops.specs.BreadthFirst.{IsBreadthFirst, IsReachedFrom, once}
 use Rattle.exploration.specs.Turns.{with_new}
 use Rattle.aut_ops.specs.Laws.{PairsExist, ProductsExist}
 use Rattle.aut_ops.specs.Products.{next_pairs, product_on, same_pair, start_pairs}
@@ -21,17 +21,17 @@ module _ {X : Type 0} (same : X → X → Bool) (tells : Tells same) (starts : L
   record IsListing (done : ℕ) (list : List X) : Type 0 where
     in_turn : list ≡ once same (starts ++ flat_map next (take done list))
     differ : AllPairs (λ x y. x ≢ y) list
-    reached : All (IsReached starts next) list
+    reached : All (IsReachedFrom starts next) list
 
   listing_none : IsListing 0 (once same starts)
   listing_none = record {
     in_turn = ap (once same) (sym (append-nil starts));
     differ = once_differ same tells starts;
-    reached = added_each same tells (IsReached starts next) [] starts (λ k d within. absurd (omega (arith, within))) (each_there (IsReached starts next) starts (reached_start starts next));
+    reached = added_each same tells (IsReachedFrom starts next) [] starts (λ k d within. absurd (omega (arith, within))) (each_there (IsReachedFrom starts next) starts (reached_start starts next));
   }
 
   -- one item more
-  listing_more : (done : ℕ) (list : List X) (x : X) → slice_get list done ≡ Some x → done < length list → IsReached starts next x → IsListing done list
+  listing_more : (done : ℕ) (list : List X) (x : X) → slice_get list done ≡ Some x → done < length list → IsReachedFrom starts next x → IsListing done list
       → IsListing (done + 1) (fold (with_new same) list (next x))
   listing_more done list x at within here so_far =
       let grown = added same tells list (next x) in
@@ -44,14 +44,14 @@ module _ {X : Type 0} (same : X → X → Bool) (tells : Tells same) (starts : L
             ∙ (sym (fold-append (with_new same) [] (starts ++ flat_map next (take done list)) (next x))
             ∙ ap (once same) (append_assoc starts (flat_map next (take done list)) (next x) ∙ ap (λ ys. starts ++ ys) (sym whole)));
         differ = added_differ same tells list (next x) so_far.differ;
-        reached = added_each same tells (IsReached starts next) list (next x) so_far.reached (each_there (IsReached starts next) (next x) (λ y there. reached_next starts next x y here there));
+        reached = added_each same tells (IsReachedFrom starts next) list (next x) so_far.reached (each_there (IsReachedFrom starts next) (next x) (λ y there. reached_next starts next x y here there));
       }
 
   abbrev IsWhole : ℕ → Type 0
   IsWhole most = (list : List X) × IsBreadthFirst same starts next list × (length list ≤ most)
 
   abbrev IsMore : ℕ → Type 0
-  IsMore most = (list : List X) × AllPairs (λ x y. x ≢ y) list × All (IsReached starts next) list × (most < length list)
+  IsMore most = (list : List X) × AllPairs (λ x y. x ≢ y) list × All (IsReachedFrom starts next) list × (most < length list)
 
   -- it was gone on from all, or there are too many, or one is still to come
   abbrev Unfinished : ℕ → ℕ → List X → Type 0
@@ -82,7 +82,7 @@ module _ {X : Type 0} (same : X → X → Bool) (tells : Tells same) (starts : L
           let within = left.0 in
           let item = item_at list done within in
           whole_or_more n most (done + 1) (fold (with_new same) list (next item.0)) (omega (arith, enough))
-          (listing_more done list item.0 (slice_get-get_or list done item.0 within ∙ ap Some item.1) within (subst (IsReached starts next) item.1 (so_far.reached done item.0 within)) so_far)
+          (listing_more done list item.0 (slice_get-get_or list done item.0 within ∙ ap Some item.1) within (subst (IsReachedFrom starts next) item.1 (so_far.reached done item.0 within)) so_far)
           )
     ]
   ]

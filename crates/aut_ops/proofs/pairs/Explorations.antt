@@ -14,7 +14,7 @@ use Rattle.aut_base.proofs.lists.Lists.{map-flat_map, take-slice_get}
 use Rattle.aut_base.proofs.lists.Members.{each_there, from_filter}
 use Rattle.aut_base.specs.Automaton.{Automaton}
 use Rattle.aut_core.proofs.Growth.{keeps_on}
-use Rattle.aut_core.specs.Core.{Core, IsCore, IsLinkOf, automaton_of, edge_of}
+use Rattle.aut_core.specs.SymbolicAutomata.{SymbolicAutomaton, IsWellFormedSymbolic, IsLinkOf, automaton_of, edge_of}
 use Rattle.aut_core.specs.Surveys.{edges_from}
 use Rattle.aut_core.specs.declared.link.Link.{Link}
 use Rattle.label_guards.specs.Store.{Has, Keeps, Store}
@@ -23,23 +23,23 @@ use Rattle.aut_ops.proofs.sinks.FilledStates.{row_edges, row_have}
 use Rattle.aut_ops.proofs.joint_runs.JointEdges.{reached_within}
 use Rattle.aut_ops.proofs.pairs.Pairings.{ends}
 use Rattle.aut_ops.proofs.pairs.Places.{pair_tells}
-use Rattle.aut_ops.specs.BreadthFirst.{IsReached, once}
+use Rattle.aut_ops.specs.BreadthFirst.{IsReachedFrom, once}
 use Rattle.exploration.specs.Turns.{with_new}
 use Rattle.aut_ops.specs.Products.{ArePairs, HasMorePairs, JointEdge, joint_edge, joint_edges, next_pairs, same_pair, start_pairs}
-use Rattle.aut_ops.specs.inner.Pairings.{Adds, AreBeyond, AreEdges, CanMeet, IsNumbered, Stage, followed, with_pairs}
+use Rattle.aut_ops.specs.inner.Pairings.{AddsJointEdges, AreBeyond, AreJointEdges, CanMeet, IsJointEdgeAt, PairingStage, followed, with_pairs}
 
 -- It was gone on from the pairs before this place.
-pub record IsExplored (most : ℕ) (a b : Core) (old now : Stage) (done : ℕ) : Type 0 where
+pub record IsExplored (most : ℕ) (a b : SymbolicAutomaton) (old now : PairingStage) (done : ℕ) : Type 0 where
   pub first : Keeps a.store now.store
   pub second : Keeps b.store now.store
   pub in_turn : now.pairs ≡ once same_pair (start_pairs (automaton_of a) (automaton_of b) ++ ends (flat_map (joint_edges (automaton_of a) (automaton_of b)) (take done now.pairs)))
-  pub edges : AreEdges now (flat_map (joint_edges (automaton_of a) (automaton_of b)) (take done now.pairs))
-  pub reached : All (IsReached (start_pairs (automaton_of a) (automaton_of b)) (next_pairs (automaton_of a) (automaton_of b))) now.pairs
+  pub edges : AreJointEdges now (flat_map (joint_edges (automaton_of a) (automaton_of b)) (take done now.pairs))
+  pub reached : All (IsReachedFrom (start_pairs (automaton_of a) (automaton_of b)) (next_pairs (automaton_of a) (automaton_of b))) now.pairs
   pub within : done ≤ length now.pairs
   pub few : length now.pairs ≤ most
   pub longer : (rest : List (ℕ × ℕ)) × (now.pairs ≡ old.pairs ++ rest)
 
-module _ (most : ℕ) (a b : Core) (core_a : IsCore a) (core_b : IsCore b) (names : b.names ≡ a.names) (fits : a.sets + b.sets < 2 ^ 32) where
+module _ (most : ℕ) (a b : SymbolicAutomaton) (core_a : IsWellFormedSymbolic a) (core_b : IsWellFormedSymbolic b) (names : b.names ≡ a.names) (fits : a.sets + b.sets < 2 ^ 32) where
   abbrev first : Automaton
   first = automaton_of a
 
@@ -50,9 +50,9 @@ module _ (most : ℕ) (a b : Core) (core_a : IsCore a) (core_b : IsCore b) (name
   steps = joint_edges first second
 
   abbrev Reached : ℕ × ℕ → Type 0
-  Reached = IsReached (start_pairs first second) (next_pairs first second)
+  Reached = IsReachedFrom (start_pairs first second) (next_pairs first second)
 
-  pub explored_none : (old : Stage) → Keeps a.store old.store → Keeps b.store old.store → old.pairs ≡ once same_pair (start_pairs first second) → old.links ≡ [] → length old.pairs ≤ most
+  pub explored_none : (old : PairingStage) → Keeps a.store old.store → Keeps b.store old.store → old.pairs ≡ once same_pair (start_pairs first second) → old.links ≡ [] → length old.pairs ≤ most
       → IsExplored most a b old old 0
   explored_none old one two starts none few = record {
     first = one;
@@ -60,7 +60,7 @@ module _ (most : ℕ) (a b : Core) (core_a : IsCore a) (core_b : IsCore b) (name
     in_turn = starts ∙ ap (once same_pair) (sym (append-nil (start_pairs first second)));
     edges = record {
       has = subst (All (λ (l : Link). Has old.store l.guard)) (sym none) (λ k d within. absurd (omega (arith, within)));
-      edges = subst (λ (ls : List Link). AllZip (IsNumbered old.pairs) (map (edge_of old.store) ls) []) (sym none) tt;
+      edges = subst (λ (ls : List Link). AllZip (IsJointEdgeAt old.pairs) (map (edge_of old.store) ls) []) (sym none) tt;
     };
     reached = subst (All Reached) (sym starts)
         (added_each same_pair pair_tells Reached [] (start_pairs first second) (λ k d within. absurd (omega (arith, within)))
@@ -79,16 +79,17 @@ module _ (most : ℕ) (a b : Core) (core_a : IsCore a) (core_b : IsCore b) (name
       let count : s.names ≡ length a.names = one.names ∙ core_a.parts.store_names in
       let inner : (l : Link) → followed s sets seconds l ≡ flat_map (joint_edge s.names sets (edge_of s l)) (map (edge_of s) seconds) =
       λ l. sym (flat_map-map (joint_edge s.names sets (edge_of s l)) (edge_of s) seconds) in
-      by firsts inner ∙ (sym (flat_map-map (λ d. flat_map (joint_edge s.names sets d) (map (edge_of s) seconds)) (edge_of s) firsts)
+      by_cases firsts inner ∙ (sym (flat_map-map (λ d. flat_map (joint_edge s.names sets d) (map (edge_of s) seconds)) (edge_of s) firsts)
       ∙ (λ i. flat_map (λ d. flat_map (joint_edge (count i) (at i) d) (fs i)) (es i)))
     where
-      by : (ls : List Link) → ((l : Link) → followed s sets seconds l ≡ flat_map (joint_edge s.names sets (edge_of s l)) (map (edge_of s) seconds))
+      by_cases : (ls : List Link) → ((l : Link) → followed s sets seconds l ≡ flat_map (joint_edge s.names sets (edge_of s l)) (map (edge_of s) seconds))
           → flat_map (followed s sets seconds) ls ≡ flat_map (λ (l : Link). flat_map (joint_edge s.names sets (edge_of s l)) (map (edge_of s) seconds)) ls
-      by [] same = refl
-      by (l ∷ ls) same = ap (λ js. js ++ flat_map (followed s sets seconds) ls) (same l) ∙ ap (λ js. flat_map (joint_edge s.names sets (edge_of s l)) (map (edge_of s) seconds) ++ js) (by ls same)
+      by_cases [] same = refl
+      by_cases (l ∷ ls) same = ap (λ js. js ++ flat_map (followed s sets seconds) ls) (same l)
+          ∙ ap (λ js. flat_map (joint_edge s.names sets (edge_of s l)) (map (edge_of s) seconds) ++ js) (by_cases ls same)
 
   -- the links of both states of a pair can meet
-  pub rows_can : (s : Stage) (at p q sets : ℕ) (firsts seconds : List Link) → Keeps a.store s.store → Keeps b.store s.store → sets ≡ a.sets → slice_get s.pairs at ≡ Some (p, q)
+  pub rows_can : (s : PairingStage) (at p q sets : ℕ) (firsts seconds : List Link) → Keeps a.store s.store → Keeps b.store s.store → sets ≡ a.sets → slice_get s.pairs at ≡ Some (p, q)
       → firsts ≡ filter (λ l. l.from == p) a.links → seconds ≡ filter (λ l. l.from == q) b.links → All (λ l. All (CanMeet s at sets l) seconds) firsts
   rows_can s at p q sets firsts seconds one two same place first_is second_is =
       let has_first = row_have a s.store p firsts core_a one first_is in
@@ -110,7 +111,7 @@ module _ (most : ℕ) (a b : Core) (core_a : IsCore a) (core_b : IsCore b) (name
       }))
 
   -- one pair more
-  pub explored_more : (old s t : Stage) (done p q : ℕ) (js : List JointEdge) → IsExplored most a b old s done → slice_get s.pairs done ≡ Some (p, q) → Adds s t js → js ≡ steps (p, q)
+  pub explored_more : (old s t : PairingStage) (done p q : ℕ) (js : List JointEdge) → IsExplored most a b old s done → slice_get s.pairs done ≡ Some (p, q) → AddsJointEdges s t js → js ≡ steps (p, q)
       → length t.pairs ≤ most → IsExplored most a b old t (done + 1)
   explored_more old s t done p q js so_far at adds same few =
       let long = added same_pair pair_tells s.pairs (ends js) in
@@ -128,7 +129,7 @@ module _ (most : ℕ) (a b : Core) (core_a : IsCore a) (core_b : IsCore b) (name
             ∙ (sym (fold-append (with_new same_pair) [] (start_pairs first second ++ ends (flat_map steps (take done s.pairs))) (ends js))
             ∙ ap (once same_pair) (append_assoc (start_pairs first second) (ends (flat_map steps (take done s.pairs))) (ends js)
             ∙ ap (λ ys. start_pairs first second ++ ys) (sym (map-append (λ (j : JointEdge). j.to) (flat_map steps (take done s.pairs)) js) ∙ ap ends (sym whole)))));
-        edges = subst (AreEdges t) (sym whole) (adds.links (flat_map steps (take done s.pairs)) so_far.edges);
+        edges = subst (AreJointEdges t) (sym whole) (adds.links (flat_map steps (take done s.pairs)) so_far.edges);
         reached = subst (All Reached) (sym adds.pairs)
             (added_each same_pair pair_tells Reached s.pairs (ends js) so_far.reached
             (each_there Reached (ends js) (λ x there. reached_next (start_pairs first second) (next_pairs first second) (p, q) x pair (subst (λ ks. Contains (ends ks) x) same there))));
@@ -138,7 +139,7 @@ module _ (most : ℕ) (a b : Core) (core_a : IsCore a) (core_b : IsCore b) (name
       }
 
   -- too many, found from one pair
-  pub explored_beyond : (old s : Stage) (done p q : ℕ) (js : List JointEdge) → IsExplored most a b old s done → slice_get s.pairs done ≡ Some (p, q) → js ≡ steps (p, q)
+  pub explored_beyond : (old s : PairingStage) (done p q : ℕ) (js : List JointEdge) → IsExplored most a b old s done → slice_get s.pairs done ≡ Some (p, q) → js ≡ steps (p, q)
       → AreBeyond most s.pairs (ends js) → HasMorePairs most first second
   explored_beyond old s done p q js so_far at same beyond =
       let in_old : done < length s.pairs = slice_get_within s.pairs done (p, q) at in
@@ -164,18 +165,18 @@ module _ (most : ℕ) (a b : Core) (core_a : IsCore a) (core_b : IsCore b) (name
   }
 
   -- both states of a listed pair
-  pub pair_within : (old s : Stage) (done p q : ℕ) → IsExplored most a b old s done → slice_get s.pairs done ≡ Some (p, q) → (p < a.states) × (q < b.states)
+  pub pair_within : (old s : PairingStage) (done p q : ℕ) → IsExplored most a b old s done → slice_get s.pairs done ≡ Some (p, q) → (p < a.states) × (q < b.states)
   pair_within old s done p q so_far at =
       let in_old : done < length s.pairs = slice_get_within s.pairs done (p, q) at in
       reached_within first second core_a.well_formed core_b.well_formed (p, q) (subst Reached (get_or_from_slice_get s.pairs done (p, q) (p, q) at) (so_far.reached done (p, q) in_old))
 
   -- it was gone on from all
-  pub explored_all : (old s : Stage) (done : ℕ) → IsExplored most a b old s done → length s.pairs ≤ done → ArePairs first second s.pairs × AreEdges s (flat_map steps s.pairs)
+  pub explored_all : (old s : PairingStage) (done : ℕ) → IsExplored most a b old s done → length s.pairs ≤ done → ArePairs first second s.pairs × AreJointEdges s (flat_map steps s.pairs)
   explored_all old s done so_far end =
       let all : take done s.pairs ≡ s.pairs = take_all done s.pairs end in (
         record {
           in_turn = so_far.in_turn ∙ ap (λ ys. once same_pair (start_pairs first second ++ ys)) (ap (λ ps. ends (flat_map steps ps)) all ∙ map-flat_map (λ (j : JointEdge). j.to) steps s.pairs);
           reached = so_far.reached;
         },
-        subst (λ ps. AreEdges s (flat_map steps ps)) all so_far.edges,
+        subst (λ ps. AreJointEdges s (flat_map steps ps)) all so_far.edges,
       )

@@ -9,7 +9,7 @@ use Rattle.aut_base.proofs.lists.Members.{from_map, there_map}
 use Rattle.aut_base.proofs.runs.Paths.{path_join}
 use Rattle.aut_base.proofs.numbers.Truth.{same_truth}
 use Rattle.aut_base.specs.Acceptance.{IsPath}
-use Rattle.aut_base.specs.Automaton.{Automaton, IsEdgeOf, IsWellFormed, TreeEdge}
+use Rattle.aut_base.specs.Automaton.{Automaton, IsEdgeOf, IsWellFormed, LabelledEdge}
 use Rattle.aut_base.specs.Label.{AllBelow, holds_at, truth}
 use Rattle.aut_base.specs.Valuation.{letter_of, truth_on}
 use Rattle.aut_base.specs.Word.{NameSet}
@@ -17,7 +17,7 @@ use Rattle.aut_ops.proofs.pairs.BreadthFirst.{listed_differ, listed_exactly, lis
 use Rattle.aut_ops.proofs.joint_runs.JointEdges.{from_start, joined, made_of, there_joint, there_start}
 use Rattle.aut_ops.proofs.links.Labels.{not_never, some_letter, truth_both}
 use Rattle.aut_ops.proofs.pairs.Places.{pair_tells}
-use Rattle.aut_ops.specs.BreadthFirst.{IsReached}
+use Rattle.aut_ops.specs.BreadthFirst.{IsReachedFrom}
 use Rattle.aut_ops.specs.Labels.{both_labels}
 use Rattle.aut_ops.specs.Laws.{AreLedTo, FewPairsExcludeMore, PairsAreDetermined, ProductsAreDetermined, ReachedByLetters}
 use Rattle.aut_ops.specs.Products.{JointEdge, joint_edges, next_pairs, product_on, same_pair, start_pairs}
@@ -46,14 +46,14 @@ few_pairs_exclude_more join a b made most is few more =
     let exactly = listed_exactly same_pair pair_tells (start_pairs a b) (next_pairs a b) is.pairs is.in_order in
     let within = length-le_from_is_member pair_laws more.pairs is.pairs (IsDistinct-from_AllPairs pair_tells more.pairs more.differ) (λ q there.
     (is_member-Decides pair_tells is.pairs q).1
-    ((exactly q).1 (All-contains (IsReached (start_pairs a b) (next_pairs a b)) more.pairs q more.reached ((is_member-Decides pair_tells more.pairs q).0 there)))) in
+    ((exactly q).1 (All-contains (IsReachedFrom (start_pairs a b) (next_pairs a b)) more.pairs q more.reached ((is_member-Decides pair_tells more.pairs q).0 there)))) in
     absurd (omega (arith, size, few, within, more.more))
 
 module _ (a b : Automaton) (names : b.names ≡ a.names) (formed : IsWellFormed a) (also : IsWellFormed b) where
-  first_below : (e : TreeEdge) → Contains a.edges e → AllBelow (length a.names) e.label
+  first_below : (e : LabelledEdge) → Contains a.edges e → AllBelow (length a.names) e.label
   first_below e there = (All-contains (IsEdgeOf a) a.edges e formed.edges there).label
 
-  second_below : (e : TreeEdge) → Contains b.edges e → AllBelow (length a.names) e.label
+  second_below : (e : LabelledEdge) → Contains b.edges e → AllBelow (length a.names) e.label
   second_below e there = subst (λ (ns : List (List ℕ)). AllBelow (length ns) e.label) names (All-contains (IsEdgeOf b) b.edges e also.edges there).label
 
   led_start : (pair : ℕ × ℕ) → Contains (start_pairs a b) pair → AreLedTo a b pair
@@ -84,9 +84,9 @@ module _ (a b : Automaton) (names : b.names ≡ a.names) (formed : IsWellFormed 
             (sym of.second_from, of.in_second, subst (λ ns. truth (holds_at ns letter) of.second.label ≡ true) (sym names) both.1, ap (λ (x : ℕ × ℕ). x.1) to);
       }
 
-  reached_path : (p q p' q' : ℕ) (xs : List NameSet) (es fs : List TreeEdge) → IsReached (start_pairs a b) (next_pairs a b) (p, q) → IsPath a p xs es p' → IsPath b q xs fs q'
-      → IsReached (start_pairs a b) (next_pairs a b) (p', q')
-  reached_path p q p' q' [] [] [] here one two = subst (IsReached (start_pairs a b) (next_pairs a b)) (λ i. (one i, two i)) here
+  reached_path : (p q p' q' : ℕ) (xs : List NameSet) (es fs : List LabelledEdge) → IsReachedFrom (start_pairs a b) (next_pairs a b) (p, q) → IsPath a p xs es p' → IsPath b q xs fs q'
+      → IsReachedFrom (start_pairs a b) (next_pairs a b) (p', q')
+  reached_path p q p' q' [] [] [] here one two = subst (IsReachedFrom (start_pairs a b) (next_pairs a b)) (λ i. (one i, two i)) here
   reached_path p q p' q' [] (e ∷ es) fs here one two = absurd one
   reached_path p q p' q' [] [] (f ∷ fs) here one two = absurd two
   reached_path p q p' q' (x ∷ xs) [] fs here one two = absurd one

@@ -11,31 +11,31 @@ use Rattle.exploration.proofs.Lists.{new_longer}
 use Rattle.aut_ops.proofs.pairs.Pairings.{beyond_then, beyond_wider, longer_at}
 use Rattle.exploration.specs.Turns.{with_new}
 use Rattle.aut_ops.specs.Products.{same_pair}
-use Rattle.aut_ops.specs.inner.Pairings.{AreBeyond, AreListed, ArePlaces, with_pairs}
+use Rattle.aut_ops.specs.inner.Pairings.{AreBeyond, ArePairsListed, ArePlacesOfPairs, with_pairs}
 
-pub places_longer : (old new rest : List (ℕ × ℕ)) (ks : List ℕ) (xs : List (ℕ × ℕ)) → new ≡ old ++ rest → ArePlaces old ks xs → ArePlaces new ks xs
+pub places_longer : (old new rest : List (ℕ × ℕ)) (ks : List ℕ) (xs : List (ℕ × ℕ)) → new ≡ old ++ rest → ArePlacesOfPairs old ks xs → ArePlacesOfPairs new ks xs
 places_longer old new rest [] [] is zip = tt
 places_longer old new rest [] (x ∷ xs) is zip = absurd zip
 places_longer old new rest (k ∷ ks) [] is zip = absurd zip
 places_longer old new rest (k ∷ ks) (x ∷ xs) is zip = (longer_at old new rest k x is zip.0, places_longer old new rest ks xs is zip.1)
 
-pub listed_none : (pairs : List (ℕ × ℕ)) (starts : List ℕ) → AreListed pairs pairs starts starts []
-listed_none pairs starts = record { pairs = refl; places = λ before are. subst (ArePlaces pairs starts) (sym (append-nil before)) are }
+pub listed_none : (pairs : List (ℕ × ℕ)) (starts : List ℕ) → ArePairsListed pairs pairs starts starts []
+listed_none pairs starts = record { pairs = refl; places = λ before are. subst (ArePlacesOfPairs pairs starts) (sym (append-nil before)) are }
 
 pub listed_one : (old new : List (ℕ × ℕ)) (starts more : List ℕ) (place : ℕ) (x : ℕ × ℕ) → new ≡ with_new same_pair old x → slice_get new place ≡ Some x → more ≡ starts ++ place ∷ []
-    → AreListed old new starts more (x ∷ [])
+    → ArePairsListed old new starts more (x ∷ [])
 listed_one old new starts more place x is at pushed =
     let long = new_longer same_pair old x in
     record {
       pairs = is;
-      places = λ before are. subst (λ ks. ArePlaces new ks (before ++ x ∷ [])) (sym pushed)
+      places = λ before are. subst (λ ks. ArePlacesOfPairs new ks (before ++ x ∷ [])) (sym pushed)
           (zip_append (λ k y. slice_get new k ≡ Some y) starts (place ∷ []) before (x ∷ []) (places_longer old new long.0 starts before (is ∙ long.1) are) (at, tt));
     }
 
-pub listed_then : (r s t : List (ℕ × ℕ)) (ks ls ms : List ℕ) (xs ys : List (ℕ × ℕ)) → AreListed r s ks ls xs → AreListed s t ls ms ys → AreListed r t ks ms (xs ++ ys)
+pub listed_then : (r s t : List (ℕ × ℕ)) (ks ls ms : List ℕ) (xs ys : List (ℕ × ℕ)) → ArePairsListed r s ks ls xs → ArePairsListed s t ls ms ys → ArePairsListed r t ks ms (xs ++ ys)
 listed_then r s t ks ls ms xs ys first second = record {
   pairs = second.pairs ∙ (ap (λ ps. with_pairs ps ys) first.pairs ∙ sym (fold-append (with_new same_pair) r xs ys));
-  places = λ before are. subst (ArePlaces t ms) (append_assoc before xs ys) (second.places (before ++ xs) (first.places before are));
+  places = λ before are. subst (ArePlacesOfPairs t ms) (append_assoc before xs ys) (second.places (before ++ xs) (first.places before are));
 }
 
 -- more pairs than a front of the list and what follows it

@@ -11,9 +11,9 @@ use Rattle.std.specs.Prelude.{flat_map}
 use Rattle.aut_base.proofs.lists.ListTests.{zip_append}
 use Rattle.aut_base.proofs.lists.Lists.{slice_get-append_left, take-push}
 use Rattle.aut_base.proofs.lists.Members.{each_there}
-use Rattle.aut_base.specs.Automaton.{TreeEdge}
+use Rattle.aut_base.specs.Automaton.{LabelledEdge}
 use Rattle.aut_core.proofs.Growth.{kept_edges, keeps_on}
-use Rattle.aut_core.specs.Core.{edge_of}
+use Rattle.aut_core.specs.SymbolicAutomata.{edge_of}
 use Rattle.aut_core.specs.declared.link.Link.{Link}
 use Rattle.label_guards.specs.Guards.{IsGuardOf, IsNeverMet, truth_in}
 use Rattle.label_guards.specs.Store.{Has, Keeps, Store, label_in}
@@ -26,7 +26,7 @@ use Rattle.exploration.proofs.Lists.{new_longer}
 use Rattle.exploration.specs.Turns.{with_new}
 use Rattle.aut_ops.specs.Labels.{both_labels, is_never}
 use Rattle.aut_ops.specs.Products.{JointEdge, joint_edge, same_pair}
-use Rattle.aut_ops.specs.inner.Pairings.{Adds, AreBeyond, AreEdges, CanMeet, IsNumbered, Stage, followed, meeting, with_pairs}
+use Rattle.aut_ops.specs.inner.Pairings.{AddsJointEdges, AreBeyond, AreJointEdges, CanMeet, IsJointEdgeAt, PairingStage, followed, meeting, with_pairs}
 
 abbrev pub ends : List JointEdge → List (ℕ × ℕ)
 ends = map (λ j. j.to)
@@ -35,7 +35,7 @@ ends = map (λ j. j.to)
 pub longer_at : (old new : List (ℕ × ℕ)) (rest : List (ℕ × ℕ)) (k : ℕ) (x : ℕ × ℕ) → new ≡ old ++ rest → slice_get old k ≡ Some x → slice_get new k ≡ Some x
 longer_at old new rest k x is at = ap (λ (xs : List (ℕ × ℕ)). slice_get xs k) is ∙ (slice_get-append_left old rest k (slice_get_within old k x at) ∙ at)
 
-pub numbered_longer : (old new rest : List (ℕ × ℕ)) (es : List TreeEdge) (js : List JointEdge) → new ≡ old ++ rest → AllZip (IsNumbered old) es js → AllZip (IsNumbered new) es js
+pub numbered_longer : (old new rest : List (ℕ × ℕ)) (es : List LabelledEdge) (js : List JointEdge) → new ≡ old ++ rest → AllZip (IsJointEdgeAt old) es js → AllZip (IsJointEdgeAt new) es js
 numbered_longer old new rest [] [] is zip = tt
 numbered_longer old new rest [] (j ∷ js) is zip = absurd zip
 numbered_longer old new rest (e ∷ es) [] is zip = absurd zip
@@ -46,20 +46,21 @@ numbered_longer old new rest (e ∷ es) (j ∷ js) is zip = (
 
 -- nothing but the store grows
 pub adds_nothing : (s t : Store) (pairs : List (ℕ × ℕ)) (links : List Link) → Keeps s t
-    → Adds (record { store = s; pairs = pairs; links = links }) (record { store = t; pairs = pairs; links = links }) []
+    → AddsJointEdges (record { store = s; pairs = pairs; links = links }) (record { store = t; pairs = pairs; links = links }) []
 adds_nothing s t pairs links keeps = record {
   keeps = keeps;
   pairs = refl;
   links = λ before are. record {
     has = All-weaker (λ (l : Link). Has s l.guard) (λ (l : Link). Has t l.guard) (λ l h. keeps.has l.guard h) links are.has;
-    edges = subst (AllZip (IsNumbered pairs) (map (edge_of t) links)) (sym (append-nil before)) (subst (λ es. AllZip (IsNumbered pairs) es before) (sym (kept_edges links keeps are.has)) are.edges);
+    edges = subst (AllZip (IsJointEdgeAt pairs) (map (edge_of t) links)) (sym (append-nil before))
+        (subst (λ es. AllZip (IsJointEdgeAt pairs) es before) (sym (kept_edges links keeps are.has)) are.edges);
   };
 }
 
 -- one edge, whose end is listed now
 pub adds_one : (s t : Store) (pairs more : List (ℕ × ℕ)) (links new : List Link) (l : Link) (j : JointEdge) → Keeps s t → more ≡ with_new same_pair pairs j.to → new ≡ links ++ l ∷ []
     → Has t l.guard → slice_get pairs l.from ≡ Some j.from → slice_get more l.to ≡ Some j.to → label_in t l.guard ≡ j.label → l.marks ≡ j.marks
-    → Adds (record { store = s; pairs = pairs; links = links }) (record { store = t; pairs = more; links = new }) (j ∷ [])
+    → AddsJointEdges (record { store = s; pairs = pairs; links = links }) (record { store = t; pairs = more; links = new }) (j ∷ [])
 adds_one s t pairs more links new l j keeps listed pushed has from to label marks =
     let long = new_longer same_pair pairs j.to in
     let is : more ≡ pairs ++ long.0 = listed ∙ long.1 in
@@ -69,24 +70,24 @@ adds_one s t pairs more links new l j keeps listed pushed has from to label mark
       links = λ before are. record {
         has = subst (All (λ (m : Link). Has t m.guard)) (sym pushed)
             (All-push (λ (m : Link). Has t m.guard) links l (All-weaker (λ (m : Link). Has s m.guard) (λ (m : Link). Has t m.guard) (λ m h. keeps.has m.guard h) links are.has) has);
-        edges = subst (λ es. AllZip (IsNumbered more) es (before ++ j ∷ [])) (sym (ap (map (edge_of t)) pushed ∙ map-append (edge_of t) links (l ∷ [])))
-            (zip_append (IsNumbered more) (map (edge_of t) links) (edge_of t l ∷ []) before (j ∷ [])
-            (subst (λ es. AllZip (IsNumbered more) es before) (sym (kept_edges links keeps are.has)) (numbered_longer pairs more long.0 (map (edge_of s) links) before is are.edges))
+        edges = subst (λ es. AllZip (IsJointEdgeAt more) es (before ++ j ∷ [])) (sym (ap (map (edge_of t)) pushed ∙ map-append (edge_of t) links (l ∷ [])))
+            (zip_append (IsJointEdgeAt more) (map (edge_of t) links) (edge_of t l ∷ []) before (j ∷ [])
+            (subst (λ es. AllZip (IsJointEdgeAt more) es before) (sym (kept_edges links keeps are.has)) (numbered_longer pairs more long.0 (map (edge_of s) links) before is are.edges))
             (record { from = longer_at pairs more long.0 l.from j.from is from; to = to; label = label; marks = marks }, tt));
       };
     }
 
 -- one after the other
-pub adds_then : (r s t : Stage) (js ks : List JointEdge) → Adds r s js → Adds s t ks → Adds r t (js ++ ks)
+pub adds_then : (r s t : PairingStage) (js ks : List JointEdge) → AddsJointEdges r s js → AddsJointEdges s t ks → AddsJointEdges r t (js ++ ks)
 adds_then r s t js ks first second = record {
   keeps = keeps_on first.keeps second.keeps;
   pairs = second.pairs ∙ (ap (λ (xs : List (ℕ × ℕ)). with_pairs xs (ends ks)) first.pairs
       ∙ (sym (fold-append (with_new same_pair) r.pairs (ends js) (ends ks)) ∙ ap (with_pairs r.pairs) (sym (map-append (λ (j : JointEdge). j.to) js ks))));
-  links = λ before are. subst (AreEdges t) (append_assoc before js ks) (second.links (before ++ js) (first.links before are));
+  links = λ before are. subst (AreJointEdges t) (append_assoc before js ks) (second.links (before ++ js) (first.links before are));
 }
 
 -- places stay
-pub adds_keeps_place : (s t : Stage) (js : List JointEdge) (k : ℕ) (x : ℕ × ℕ) → Adds s t js → slice_get s.pairs k ≡ Some x → slice_get t.pairs k ≡ Some x
+pub adds_keeps_place : (s t : PairingStage) (js : List JointEdge) (k : ℕ) (x : ℕ × ℕ) → AddsJointEdges s t js → slice_get s.pairs k ≡ Some x → slice_get t.pairs k ≡ Some x
 adds_keeps_place s t js k x adds at =
     let long = added same_pair pair_tells s.pairs (ends js) in
     longer_at s.pairs t.pairs long.0 k x (adds.pairs ∙ long.1) at
@@ -130,7 +131,7 @@ meeting_kept s t sets link other keeps first second =
     let two : edge_of t other ≡ edge_of s other = λ i. record { from = other.from; label = keeps.labels other.guard second i; to = other.to; marks = other.marks } in
     λ i. joint_edge (keeps.names i) sets (one i) (two i)
 
-pub spread_kept : (s t : Stage) (js : List JointEdge) (at sets : ℕ) (others : List Link) (link : Link) → Adds s t js → All (CanMeet s at sets link) others
+pub spread_kept : (s t : PairingStage) (js : List JointEdge) (at sets : ℕ) (others : List Link) (link : Link) → AddsJointEdges s t js → All (CanMeet s at sets link) others
     → followed t.store sets others link ≡ followed s.store sets others link
 spread_kept s t js at sets [] link adds can = refl
 spread_kept s t js at sets (o ∷ os) link adds can =
@@ -139,7 +140,7 @@ spread_kept s t js at sets (o ∷ os) link adds can =
     let rest = spread_kept s t js at sets os link adds (All-tail (CanMeet s at sets link) o os can) in
     λ i. here i ++ rest i
 
-pub can_still : (s t : Stage) (js : List JointEdge) (at sets : ℕ) (link other : Link) → Adds s t js → CanMeet s at sets link other → CanMeet t at sets link other
+pub can_still : (s t : PairingStage) (js : List JointEdge) (at sets : ℕ) (link other : Link) → AddsJointEdges s t js → CanMeet s at sets link other → CanMeet t at sets link other
 can_still s t js at sets link other adds can = record {
   first = adds.keeps.has link.guard can.first;
   second = adds.keeps.has other.guard can.second;
@@ -154,10 +155,11 @@ module _ {X : Type 0} (f : X → List JointEdge) (xs : List X) (i : ℕ) (x : X)
   next_of : flat_map f (take (i + 1) xs) ≡ flat_map f (take i xs) ++ f x
   next_of = ap (flat_map f) (take-push xs i x within is) ∙ (flat_map-append f (take i xs) (x ∷ []) ∙ ap (λ js. flat_map f (take i xs) ++ js) (append-nil (f x)))
 
-  pub adds_next : (r s t : Stage) (js : List JointEdge) → Adds r s (flat_map f (take i xs)) → Adds s t js → js ≡ f x → Adds r t (flat_map f (take (i + 1) xs))
-  adds_next r s t js so_far more same = subst (Adds r t) (ap (λ ks. flat_map f (take i xs) ++ ks) same ∙ sym next_of) (adds_then r s t (flat_map f (take i xs)) js so_far more)
+  pub adds_next : (r s t : PairingStage) (js : List JointEdge) → AddsJointEdges r s (flat_map f (take i xs)) → AddsJointEdges s t js → js ≡ f x → AddsJointEdges r t (flat_map f (take (i + 1) xs))
+  adds_next r s t js so_far more same = subst (AddsJointEdges r t) (ap (λ ks. flat_map f (take i xs) ++ ks) same ∙ sym next_of) (adds_then r s t (flat_map f (take i xs)) js so_far more)
 
-  pub beyond_next : (most : ℕ) (r s : Stage) (js : List JointEdge) → Adds r s (flat_map f (take i xs)) → AreBeyond most s.pairs (ends js) → js ≡ f x → AreBeyond most r.pairs (ends (flat_map f xs))
+  pub beyond_next : (most : ℕ) (r s : PairingStage) (js : List JointEdge) → AddsJointEdges r s (flat_map f (take i xs)) → AreBeyond most s.pairs (ends js) → js ≡ f x
+      → AreBeyond most r.pairs (ends (flat_map f xs))
   beyond_next most r s js so_far beyond same =
       let whole : ends (flat_map f xs) ≡ (ends (flat_map f (take i xs)) ++ ends js) ++ ends (flat_map f (drop (i + 1) xs)) =
       ap (λ ys. ends (flat_map f ys)) (sym (take-append-drop (i + 1) xs))

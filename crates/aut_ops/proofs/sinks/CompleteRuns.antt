@@ -11,7 +11,7 @@ use Rattle.std.specs.List.{AllByRecursion, IsDistinct, list_any, range_with_len}
 use Rattle.aut_base.proofs.runs.Paths.{path_join}
 use Rattle.aut_base.proofs.numbers.Truth.{left_of_or, right_of_or}
 use Rattle.aut_base.specs.Acceptance.{IsPath}
-use Rattle.aut_base.specs.Automaton.{Automaton, IsEdgeOf, IsWellFormed, TreeEdge}
+use Rattle.aut_base.specs.Automaton.{Automaton, IsEdgeOf, IsWellFormed, LabelledEdge}
 use Rattle.aut_base.specs.Word.{NameSet, copies}
 use Rattle.aut_core.specs.Deterministic.{IsComplete}
 use Rattle.aut_base.specs.Runs.{HasRun, HasRuns}
@@ -31,31 +31,31 @@ none_equal x (y ∷ ys) e = (left_of_or (eqb x y) (list_any (eqb x) ys) e, none_
 distinct_or_twice : (xs : List ℕ) → IsDistinct eqb xs ⊎ Twice xs
 unfolding IsDistinct
 distinct_or_twice [] = inl tt
-distinct_or_twice (x ∷ xs) = by (distinct_or_twice xs) (cases_Bool (list_any (eqb x) xs))
+distinct_or_twice (x ∷ xs) = by_cases (distinct_or_twice xs) (cases_Bool (list_any (eqb x) xs))
   where
-    by : IsDistinct eqb xs ⊎ Twice xs → (list_any (eqb x) xs ≡ true) ⊎ (list_any (eqb x) xs ≡ false) → IsDistinct eqb (x ∷ xs) ⊎ Twice (x ∷ xs)
-    by rest (inl some) =
+    by_cases : IsDistinct eqb xs ⊎ Twice xs → (list_any (eqb x) xs ≡ true) ⊎ (list_any (eqb x) xs ≡ false) → IsDistinct eqb (x ∷ xs) ⊎ Twice (x ∷ xs)
+    by_cases rest (inl some) =
         let found = Any-from_list_any (eqb x) xs some in
         let same : x ≡ get_or xs found.0 0 = eqb-true x found.1 found.4 ∙ (sym found.3 ∙ get_or_default xs found.0 found.1 0 found.2) in
         inr (record { early = 0; late = suc found.0; order = omega arith; within = omega (arith, found.2); same = same })
-    by (inl distinct) (inr none) = inl (none_equal x xs none, distinct)
-    by (inr twice) (inr none) = inr (record { early = suc twice.early; late = suc twice.late; order = omega (arith, twice.order); within = omega (arith, twice.within); same = twice.same })
+    by_cases (inl distinct) (inr none) = inl (none_equal x xs none, distinct)
+    by_cases (inr twice) (inr none) = inr (record { early = suc twice.early; late = suc twice.late; order = omega (arith, twice.order); within = omega (arith, twice.within); same = twice.same })
 
 -- more numbers than there are below n
 two_same : (n : ℕ) (xs : List ℕ) → All (λ x. x < n) xs → n < length xs → Twice xs
-two_same n xs below long = by (distinct_or_twice xs)
+two_same n xs below long = by_cases (distinct_or_twice xs)
   where
-    by : IsDistinct eqb xs ⊎ Twice xs → Twice xs
-    by (inl distinct) =
+    by_cases : IsDistinct eqb xs ⊎ Twice xs → Twice xs
+    by_cases (inl distinct) =
         let few = length-le_from_distinct_below xs n distinct
         (λ q some. let found = Any-from_list_any (eqb q) xs some in let low = below found.0 found.1 found.2 in omega (arith, eqb-true q found.1 found.4, found.3, low)) in
         absurd (omega (arith, few, long))
-    by (inr twice) = twice
+    by_cases (inr twice) = twice
 
 module _ (a : Automaton) (formed : IsWellFormed a) (complete : IsComplete a) where
   record From (p : ℕ) (xs : List NameSet) : Type 0 where
     state : ℕ
-    edges : List TreeEdge
+    edges : List LabelledEdge
     goes : IsPath a p xs edges state
     within : state < a.states
 
@@ -72,22 +72,22 @@ module _ (a : Automaton) (formed : IsWellFormed a) (complete : IsComplete a) whe
     after p = elim (cases_lt p a.states) [ inl less ↦ (from p v less).state | inr past ↦ p ]
 
     record Turn (p : ℕ) : Type 0 where
-      edges : List TreeEdge
+      edges : List LabelledEdge
       goes : IsPath a p v edges (after p)
       within : after p < a.states
 
     turn : (p : ℕ) → p < a.states → Turn p
-    turn p less = by (cases_lt p a.states) refl
+    turn p less = by_cases (cases_lt p a.states) refl
       where
-        by : (c : (p < a.states) ⊎ (a.states ≤ p)) → c ≡ cases_lt p a.states → Turn p
-        by (inl inside) is =
+        by_cases : (c : (p < a.states) ⊎ (a.states ≤ p)) → c ≡ cases_lt p a.states → Turn p
+        by_cases (inl inside) is =
             let same : (from p v inside).state ≡ after p = ap (λ (c : (p < a.states) ⊎ (a.states ≤ p)). elim c as (λ _. ℕ) [ inl less ↦ (from p v less).state | inr past ↦ p ]) is in
             record {
               edges = (from p v inside).edges;
               goes = subst (λ q. IsPath a p v (from p v inside).edges q) same (from p v inside).goes;
               within = subst (λ q. q < a.states) same (from p v inside).within;
             }
-        by (inr past) is = absurd (omega (arith, less, past))
+        by_cases (inr past) is = absurd (omega (arith, less, past))
 
     -- the state after so many turns
     abbrev turns : ℕ → ℕ → ℕ
@@ -99,7 +99,7 @@ module _ (a : Automaton) (formed : IsWellFormed a) (complete : IsComplete a) whe
     turns_add (suc j) k p = let e : suc j + k ≡ suc (j + k) = omega arith in ap (λ n. turns n p) e ∙ turns_add j k (after p)
 
     record Turns (k p : ℕ) : Type 0 where
-      edges : List TreeEdge
+      edges : List LabelledEdge
       goes : IsPath a p (copies k v) edges (turns k p)
       within : turns k p < a.states
 

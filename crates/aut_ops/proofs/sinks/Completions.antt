@@ -9,7 +9,7 @@ use Rattle.acc_forms.specs.Joined.{conj}
 use Rattle.aut_base.proofs.canonical.CanonicalBelow.{label_of_below}
 use Rattle.aut_base.proofs.order.Climbing.{AllFrom, climbs_in_order, climbs_rows}
 use Rattle.aut_base.proofs.lists.Members.{each_there, first_there, from_filter, from_flat_map, from_range, none_there, there_cases, there_filter, there_flat_map, there_range_zero}
-use Rattle.aut_base.specs.Automaton.{Automaton, IsEdgeOf, IsWellFormed, TreeEdge}
+use Rattle.aut_base.specs.Automaton.{Automaton, IsEdgeOf, IsWellFormed, LabelledEdge}
 use Rattle.aut_base.specs.Formula.{Fin, FormulaTree, SetsBelow}
 use Rattle.aut_base.specs.Label.{True}
 use Rattle.aut_base.specs.Valuation.{truth_on}
@@ -20,48 +20,48 @@ use Rattle.aut_ops.specs.Completion.{filled_edges, gap_edges, is_met_unmarked, s
 use Rattle.aut_ops.specs.Labels.{is_never, no_label}
 
 -- the sink's loop, and the edge to the sink
-abbrev pub loop : Automaton → TreeEdge
+abbrev pub loop : Automaton → LabelledEdge
 loop a = record { from = a.states; label = True; to = a.states; marks = sink_marks a }
 
-abbrev pub gap : Automaton → ℕ → TreeEdge
+abbrev pub gap : Automaton → ℕ → LabelledEdge
 gap a q = record { from = q; label = no_label (length a.names) (edges_from q a.edges); to = a.states; marks = [] }
 
 -- rows
 
-pub edges_own : (q : ℕ) (es : List TreeEdge) → AllFrom q (edges_from q es)
-edges_own q es = each_there (λ (e : TreeEdge). e.from ≡ q) (edges_from q es) (λ e there. eqb-true e.from q (from_filter (λ (d : TreeEdge). d.from == q) es e there).1)
+pub edges_own : (q : ℕ) (es : List LabelledEdge) → AllFrom q (edges_from q es)
+edges_own q es = each_there (λ (e : LabelledEdge). e.from ≡ q) (edges_from q es) (λ e there. eqb-true e.from q (from_filter (λ (d : LabelledEdge). d.from == q) es e there).1)
 
-gaps_own : (n q sink : ℕ) (es : List TreeEdge) (b : Bool) → AllFrom q (cond b [] (record { from = q; label = no_label n es; to = sink; marks = [] } ∷ []))
+gaps_own : (n q sink : ℕ) (es : List LabelledEdge) (b : Bool) → AllFrom q (cond b [] (record { from = q; label = no_label n es; to = sink; marks = [] } ∷ []))
 gaps_own n q sink es true = λ k d within. absurd (omega (arith, within))
-gaps_own n q sink es false = All-from_recursion (λ (e : TreeEdge). e.from ≡ q) (record { from = q; label = no_label n es; to = sink; marks = [] } ∷ []) (refl, tt)
+gaps_own n q sink es false = All-from_recursion (λ (e : LabelledEdge). e.from ≡ q) (record { from = q; label = no_label n es; to = sink; marks = [] } ∷ []) (refl, tt)
 
 pub filled_own : (a : Automaton) (q : ℕ) → AllFrom q (filled_edges a q)
-filled_own a q = All-append (λ (e : TreeEdge). e.from ≡ q) (edges_from q a.edges) (gap_edges (length a.names) q a.states (edges_from q a.edges)) (edges_own q a.edges)
+filled_own a q = All-append (λ (e : LabelledEdge). e.from ≡ q) (edges_from q a.edges) (gap_edges (length a.names) q a.states (edges_from q a.edges)) (edges_own q a.edges)
     (gaps_own (length a.names) q a.states (edges_from q a.edges) (is_never (length a.names) (no_label (length a.names) (edges_from q a.edges))))
 
 loop_own : (a : Automaton) → AllFrom a.states (loop a ∷ [])
-loop_own a = All-from_recursion (λ (e : TreeEdge). e.from ≡ a.states) (loop a ∷ []) (refl, tt)
+loop_own a = All-from_recursion (λ (e : LabelledEdge). e.from ≡ a.states) (loop a ∷ []) (refl, tt)
 
 pub state_row : (a : Automaton) (q : ℕ) → q < a.states → edges_from q (with_sink a).edges ≡ filled_edges a q
 state_row a q less =
-    filter-append (λ (e : TreeEdge). e.from == q) (flat_map (filled_edges a) (range_with_len 0 a.states)) (loop a ∷ [])
+    filter-append (λ (e : LabelledEdge). e.from == q) (flat_map (filled_edges a) (range_with_len 0 a.states)) (loop a ∷ [])
     ∙ (ap (λ es. es ++ edges_from q (loop a ∷ [])) (row_of (filled_edges a) (filled_own a) 0 a.states q (omega arith) (omega (arith, less)))
     ∙ (ap (λ es. filled_edges a q ++ es) (other_row a.states q (loop a ∷ []) (λ e. absurd (omega (arith, e, less))) (loop_own a)) ∙ append-nil (filled_edges a q)))
 
 pub sink_row : (a : Automaton) → edges_from a.states (with_sink a).edges ≡ loop a ∷ []
 sink_row a =
-    filter-append (λ (e : TreeEdge). e.from == a.states) (flat_map (filled_edges a) (range_with_len 0 a.states)) (loop a ∷ [])
+    filter-append (λ (e : LabelledEdge). e.from == a.states) (flat_map (filled_edges a) (range_with_len 0 a.states)) (loop a ∷ [])
     ∙ (ap (λ es. es ++ edges_from a.states (loop a ∷ [])) (rows_before (filled_edges a) (filled_own a) 0 a.states a.states (omega arith)) ∙ own_row a.states (loop a ∷ []) (loop_own a))
 
 -- edges
 
-pub old_there : (a : Automaton) → IsWellFormed a → (e : TreeEdge) → Contains a.edges e → Contains (with_sink a).edges e
+pub old_there : (a : Automaton) → IsWellFormed a → (e : LabelledEdge) → Contains a.edges e → Contains (with_sink a).edges e
 old_there a formed e there =
     let edge = All-contains (IsEdgeOf a) a.edges e formed.edges there in
     Contains-append_left (flat_map (filled_edges a) (range_with_len 0 a.states)) (loop a ∷ []) e
     (there_flat_map (filled_edges a) (range_with_len 0 a.states) e.from e (there_range_zero a.states e.from edge.from)
     (Contains-append_left (edges_from e.from a.edges) (gap_edges (length a.names) e.from a.states (edges_from e.from a.edges)) e
-    (there_filter (λ (d : TreeEdge). d.from == e.from) a.edges e there (eq-eqb e.from e.from refl))))
+    (there_filter (λ (d : LabelledEdge). d.from == e.from) a.edges e there (eq-eqb e.from e.from refl))))
 
 pub loop_there : (a : Automaton) → Contains (with_sink a).edges (loop a)
 loop_there a = Contains-append_right (flat_map (filled_edges a) (range_with_len 0 a.states)) (loop a ∷ []) (loop a) (first_there (loop a) [])
@@ -74,18 +74,18 @@ gap_there a q less some =
     (subst (λ b. Contains (cond b [] (gap a q ∷ [])) (gap a q)) (sym some) (first_there (gap a q) []))))
 
 -- an edge of the automaton, one to the sink, or the sink's loop
-abbrev pub Kind : Automaton → TreeEdge → Type 0
+abbrev pub Kind : Automaton → LabelledEdge → Type 0
 Kind a e = Contains a.edges e ⊎ (((q : ℕ) × (q < a.states) × (gap a q ≡ e)) ⊎ (loop a ≡ e))
 
-gap_is : (a : Automaton) (q : ℕ) (e : TreeEdge) (b : Bool) → Contains (cond b [] (gap a q ∷ [])) e → gap a q ≡ e
+gap_is : (a : Automaton) (q : ℕ) (e : LabelledEdge) (b : Bool) → Contains (cond b [] (gap a q ∷ [])) e → gap a q ≡ e
 gap_is a q e true there = absurd (none_there e there)
 gap_is a q e false there = elim (there_cases (gap a q) [] e there) [ inl is ↦ is | inr later ↦ absurd (none_there e later) ]
 
-pub kind : (a : Automaton) (e : TreeEdge) → Contains (with_sink a).edges e → Kind a e
+pub kind : (a : Automaton) (e : LabelledEdge) → Contains (with_sink a).edges e → Kind a e
 kind a e there = elim (Contains-append_cases (flat_map (filled_edges a) (range_with_len 0 a.states)) (loop a ∷ []) e there) [
   | inl outside ↦ (let row = from_flat_map (filled_edges a) (range_with_len 0 a.states) e outside in
       elim (Contains-append_cases (edges_from row.0 a.edges) (gap_edges (length a.names) row.0 a.states (edges_from row.0 a.edges)) e row.2) [
-        | inl old ↦ inl (from_filter (λ (d : TreeEdge). d.from == row.0) a.edges e old).0
+        | inl old ↦ inl (from_filter (λ (d : LabelledEdge). d.from == row.0) a.edges e old).0
         | inr new ↦ inr (inl (row.0, omega (arith, from_range 0 a.states row.0 row.1), gap_is a row.0 e (is_never (length a.names) (no_label (length a.names) (edges_from row.0 a.edges))) new))
       ])
   | inr last ↦ inr (inr (elim (there_cases (loop a) [] e last) [ inl is ↦ is | inr later ↦ absurd (none_there e later) ]))
@@ -117,7 +117,7 @@ starts_within : (s : ℕ) (starts : List ℕ) (b : Bool) → All (λ p. p < s) s
 starts_within s starts true within = All-from_recursion (λ p. p < s + 1) (s ∷ []) (omega arith, tt)
 starts_within s starts false within = λ k d less. let low = within k d less in omega (arith, low)
 
-kind_edge : (a : Automaton) → IsWellFormed a → (e : TreeEdge) → Kind a e → IsEdgeOf (with_sink a) e
+kind_edge : (a : Automaton) → IsWellFormed a → (e : LabelledEdge) → Kind a e → IsEdgeOf (with_sink a) e
 kind_edge a formed e (inl old) =
     let edge = All-contains (IsEdgeOf a) a.edges e formed.edges old in
     let wide = sets_grow a.sets (is_met_unmarked a.formula) in
@@ -131,7 +131,7 @@ kind_edge a formed e (inl old) =
 kind_edge a formed e (inr (inl new)) = subst (IsEdgeOf (with_sink a)) new.2 (record {
   from = omega (arith, new.1);
   to = omega arith;
-  label = label_of_below (length a.names) (λ v. not (list_any (λ (d : TreeEdge). truth_on d.label v) (edges_from new.0 a.edges)));
+  label = label_of_below (length a.names) (λ v. not (list_any (λ (d : LabelledEdge). truth_on d.label v) (edges_from new.0 a.edges)));
   marks = λ k d within. absurd (omega (arith, within));
   marks_rise = λ i j d less within. absurd (omega (arith, within));
 })

@@ -12,7 +12,7 @@ use Rattle.aut_base.proofs.lists.Copies.{length-copies}
 use Rattle.aut_base.proofs.lists.Members.{none_there, there_cases}
 use Rattle.aut_base.proofs.runs.Walks.{as_long}
 use Rattle.aut_base.specs.Acceptance.{Accepts, IsPath}
-use Rattle.aut_base.specs.Automaton.{Automaton, IsEdgeOf, IsWellFormed, TreeEdge}
+use Rattle.aut_base.specs.Automaton.{Automaton, IsEdgeOf, IsWellFormed, LabelledEdge}
 use Rattle.aut_base.specs.Formula.{Fin, FormulaTree, met}
 use Rattle.aut_base.proofs.numbers.Truth.{and_comm}
 use Rattle.aut_base.specs.Marks.{is_in}
@@ -25,7 +25,7 @@ use Rattle.aut_base.proofs.runs.OtherEdges.{accepts_wider}
 use Rattle.aut_ops.specs.Completion.{is_met_unmarked, sink_marks, with_sink}
 
 -- each edge of a path is one of the automaton's
-pub path_marks : (a : Automaton) (P : List ℕ → Type 0) → ((e : TreeEdge) → Contains a.edges e → P e.marks) → (p q : ℕ) (xs : List NameSet) (es : List TreeEdge) → IsPath a p xs es q
+pub path_marks : (a : Automaton) (P : List ℕ → Type 0) → ((e : LabelledEdge) → Contains a.edges e → P e.marks) → (p q : ℕ) (xs : List NameSet) (es : List LabelledEdge) → IsPath a p xs es q
     → All P (marks_of es)
 path_marks a P each p q [] [] path = λ k d within. absurd (omega (arith, within))
 path_marks a P each p q [] (e ∷ es) path = absurd path
@@ -33,52 +33,52 @@ path_marks a P each p q (x ∷ xs) [] path = absurd path
 path_marks a P each p q (x ∷ xs) (e ∷ es) path = All-cons P e.marks (marks_of es) (each e path.1) (path_marks a P each e.to q xs es path.3)
 
 -- a closed path that reads a word has an edge
-pub cycle_long : (a : Automaton) (q rounds : ℕ) (v : List NameSet) (es : List TreeEdge) → 0 < length v → 0 < rounds → IsPath a q (copies rounds v) es q → 0 < length (marks_of es)
+pub cycle_long : (a : Automaton) (q rounds : ℕ) (v : List NameSet) (es : List LabelledEdge) → 0 < length v → 0 < rounds → IsPath a q (copies rounds v) es q → 0 < length (marks_of es)
 cycle_long a q rounds v es some positive path =
     let wide : rounds ≤ rounds * length v = le-mul_of_pos_right rounds some in
-    omega (arith, wide, length-map es (λ (e : TreeEdge). e.marks), as_long a q (copies rounds v) es q path, length-copies rounds v)
+    omega (arith, wide, length-map es (λ (e : LabelledEdge). e.marks), as_long a q (copies rounds v) es q path, length-copies rounds v)
 
 module _ (a : Automaton) (formed : IsWellFormed a) where
   abbrev c : Automaton
   c = with_sink a
 
   -- where an edge leads
-  goes : (e : TreeEdge) → Kind a e → (e.to < a.states) ⊎ (e.to ≡ a.states)
+  goes : (e : LabelledEdge) → Kind a e → (e.to < a.states) ⊎ (e.to ≡ a.states)
   goes e (inl old) = inl (All-contains (IsEdgeOf a) a.edges e formed.edges old).to
-  goes e (inr (inl new)) = inr (sym (ap (λ (d : TreeEdge). d.to) new.2))
-  goes e (inr (inr last)) = inr (sym (ap (λ (d : TreeEdge). d.to) last))
+  goes e (inr (inl new)) = inr (sym (ap (λ (d : LabelledEdge). d.to) new.2))
+  goes e (inr (inr last)) = inr (sym (ap (λ (d : LabelledEdge). d.to) last))
 
-  stays : (e : TreeEdge) → Kind a e → e.from ≡ a.states → loop a ≡ e
+  stays : (e : LabelledEdge) → Kind a e → e.from ≡ a.states → loop a ≡ e
   stays e (inl old) from = let edge = All-contains (IsEdgeOf a) a.edges e formed.edges old in absurd (omega (arith, edge.from, from))
-  stays e (inr (inl new)) from = let same = ap (λ (d : TreeEdge). d.from) new.2 in absurd (omega (arith, new.1, same, from))
+  stays e (inr (inl new)) from = let same = ap (λ (d : LabelledEdge). d.from) new.2 in absurd (omega (arith, new.1, same, from))
   stays e (inr (inr last)) from = last
 
   -- from the sink only the loop is gone
-  in_sink : (p q : ℕ) (xs : List NameSet) (es : List TreeEdge) → p ≡ a.states → IsPath c p xs es q → (q ≡ a.states) × All (λ marks. marks ≡ sink_marks a) (marks_of es)
+  in_sink : (p q : ℕ) (xs : List NameSet) (es : List LabelledEdge) → p ≡ a.states → IsPath c p xs es q → (q ≡ a.states) × All (λ marks. marks ≡ sink_marks a) (marks_of es)
   in_sink p q [] [] at path = (sym path ∙ at, λ k d within. absurd (omega (arith, within)))
   in_sink p q [] (e ∷ es) at path = absurd path
   in_sink p q (x ∷ xs) [] at path = absurd path
   in_sink p q (x ∷ xs) (e ∷ es) at path =
       let is = stays e (kind a e path.1) (sym path.0 ∙ at) in
-      let rest = in_sink e.to q xs es (sym (ap (λ (d : TreeEdge). d.to) is)) path.3 in
-      (rest.0, All-cons (λ marks. marks ≡ sink_marks a) e.marks (marks_of es) (sym (ap (λ (d : TreeEdge). d.marks) is)) rest.1)
+      let rest = in_sink e.to q xs es (sym (ap (λ (d : LabelledEdge). d.to) is)) path.3 in
+      (rest.0, All-cons (λ marks. marks ≡ sink_marks a) e.marks (marks_of es) (sym (ap (λ (d : LabelledEdge). d.marks) is)) rest.1)
 
   -- a path to another state doesn't touch the sink
-  outside : (p q : ℕ) (xs : List NameSet) (es : List TreeEdge) → p < a.states → q < a.states → IsPath c p xs es q → IsPath a p xs es q
+  outside : (p q : ℕ) (xs : List NameSet) (es : List LabelledEdge) → p < a.states → q < a.states → IsPath c p xs es q → IsPath a p xs es q
   outside p q [] [] first last path = path
   outside p q [] (e ∷ es) first last path = absurd path
   outside p q (x ∷ xs) [] first last path = absurd path
-  outside p q (x ∷ xs) (e ∷ es) first last path = by (λ inside. outside e.to q xs es inside last path.3) (kind a e path.1)
+  outside p q (x ∷ xs) (e ∷ es) first last path = by_cases (λ inside. outside e.to q xs es inside last path.3) (kind a e path.1)
     where
       stuck : e.to ≡ a.states → ⊥
       stuck to = let end = (in_sink e.to q xs es to path.3).0 in omega (arith, end, last)
 
-      by : (e.to < a.states → IsPath a e.to xs es q) → Kind a e → IsPath a p (x ∷ xs) (e ∷ es) q
-      by on (inl old) = (path.0, old, path.2, on (All-contains (IsEdgeOf a) a.edges e formed.edges old).to)
-      by on (inr (inl new)) = absurd (stuck (sym (ap (λ (d : TreeEdge). d.to) new.2)))
-      by on (inr (inr loops)) = absurd (stuck (sym (ap (λ (d : TreeEdge). d.to) loops)))
+      by_cases : (e.to < a.states → IsPath a e.to xs es q) → Kind a e → IsPath a p (x ∷ xs) (e ∷ es) q
+      by_cases on (inl old) = (path.0, old, path.2, on (All-contains (IsEdgeOf a) a.edges e formed.edges old).to)
+      by_cases on (inr (inl new)) = absurd (stuck (sym (ap (λ (d : LabelledEdge). d.to) new.2)))
+      by_cases on (inr (inr loops)) = absurd (stuck (sym (ap (λ (d : LabelledEdge). d.to) loops)))
 
-  ends : (p q : ℕ) (xs : List NameSet) (es : List TreeEdge) → (p < a.states) ⊎ (p ≡ a.states) → IsPath c p xs es q → (q < a.states) ⊎ (q ≡ a.states)
+  ends : (p q : ℕ) (xs : List NameSet) (es : List LabelledEdge) → (p < a.states) ⊎ (p ≡ a.states) → IsPath c p xs es q → (q < a.states) ⊎ (q ≡ a.states)
   ends p q [] [] first path = subst (λ r. (r < a.states) ⊎ (r ≡ a.states)) path first
   ends p q [] (e ∷ es) first path = absurd path
   ends p q (x ∷ xs) [] first path = absurd path
@@ -130,25 +130,25 @@ module _ (a : Automaton) (formed : IsWellFormed a) where
       false≢true (sym fails ∙ r.meets)
 
   outside_accepts : (u v : List NameSet) (r : Accepts c u v) → r.state < a.states → Accepts a u v
-  outside_accepts u v r at = by (start_is (length a.starts == 0) r.start r.is_start)
+  outside_accepts u v r at = by_cases (start_is (length a.starts == 0) r.start r.is_start)
     where
-      by : Contains a.starts r.start ⊎ (r.start ≡ a.states) → Accepts a u v
-      by (inl first) =
+      by_cases : Contains a.starts r.start ⊎ (r.start ≡ a.states) → Accepts a u v
+      by_cases (inl first) =
           let below = All-contains (λ p. p < a.states) a.starts r.start formed.starts first in
           accepts_too c a u v r first (outside r.start r.state (u ++ copies r.turns v) r.way below at r.leads) (outside r.state r.state (copies r.rounds v) r.cycle at at r.returns)
           (met_old (is_met_unmarked a.formula) (marks_of r.cycle) r.meets)
-      by (inr sunk) = let end = (in_sink r.start r.state (u ++ copies r.turns v) r.way sunk r.leads).0 in absurd (omega (arith, end, at))
+      by_cases (inr sunk) = let end = (in_sink r.start r.state (u ++ copies r.turns v) r.way sunk r.leads).0 in absurd (omega (arith, end, at))
 
   with_sink_accepted : (u v : List NameSet) → Accepts c u v → Accepts a u v
-  with_sink_accepted u v r = by (ends r.start r.state (u ++ copies r.turns v) r.way (first (start_is (length a.starts == 0) r.start r.is_start)) r.leads)
+  with_sink_accepted u v r = by_cases (ends r.start r.state (u ++ copies r.turns v) r.way (first (start_is (length a.starts == 0) r.start r.is_start)) r.leads)
     where
       first : Contains a.starts r.start ⊎ (r.start ≡ a.states) → (r.start < a.states) ⊎ (r.start ≡ a.states)
       first (inl there) = inl (All-contains (λ p. p < a.states) a.starts r.start formed.starts there)
       first (inr sunk) = inr sunk
 
-      by : (r.state < a.states) ⊎ (r.state ≡ a.states) → Accepts a u v
-      by (inl inside) = outside_accepts u v r inside
-      by (inr sunk) = absurd (sink_rejects u v r sunk)
+      by_cases : (r.state < a.states) ⊎ (r.state ≡ a.states) → Accepts a u v
+      by_cases (inl inside) = outside_accepts u v r inside
+      by_cases (inr sunk) = absurd (sink_rejects u v r sunk)
 
   with_sink_accepts : (u v : List NameSet) → Accepts a u v → Accepts c u v
   with_sink_accepts u v r =

@@ -11,12 +11,12 @@ use Rattle.aut_base.proofs.canonical.CanonicalAutomata.{labels_below}
 use Rattle.aut_base.proofs.canonical.CanonicalBelow.{label_of_below}
 use Rattle.aut_base.proofs.lists.Members.{each_from, each_is, from_filter, from_range, there_filter, there_range_zero}
 use Rattle.aut_base.proofs.numbers.Truth.{true_from_not}
-use Rattle.aut_base.specs.Automaton.{Automaton, IsWellFormed, TreeEdge}
+use Rattle.aut_base.specs.Automaton.{Automaton, IsWellFormed, LabelledEdge}
 use Rattle.aut_base.specs.Label.{AllBelow, holds_at}
 use Rattle.aut_base.specs.Valuation.{letter_of, truth_on}
 use Rattle.aut_base.specs.Word.{NameSet}
 use Rattle.aut_core.proofs.Deterministic.{deterministic_if}
-use Rattle.aut_core.specs.Deterministic.{AreApart, GoesOn, IsComplete, IsDeterministic, is_met}
+use Rattle.aut_core.specs.Deterministic.{AreApart, HasSuccessor, IsComplete, IsDeterministic, is_met}
 use Rattle.aut_core.specs.OtherNames.{AcceptTheSame}
 use Rattle.aut_core.specs.Surveys.{AreAllApart, edges_from}
 use Rattle.aut_ops.proofs.sinks.Completions.{edges_own, gap, gap_there, loop, loop_there, old_there, sink_row, state_row, with_sink_formed}
@@ -29,40 +29,40 @@ module _ (a : Automaton) (formed : IsWellFormed a) where
   abbrev n : ℕ
   n = length a.names
 
-  abbrev row : ℕ → List TreeEdge
+  abbrev row : ℕ → List LabelledEdge
   row q = edges_from q a.edges
 
   row_below : (q : ℕ) → All (λ e. AllBelow n e.label) (row q)
-  row_below q = All-filter (λ (e : TreeEdge). e.from == q) (λ e. AllBelow n e.label) a.edges (labels_below a formed)
+  row_below q = All-filter (λ (e : LabelledEdge). e.from == q) (λ e. AllBelow n e.label) a.edges (labels_below a formed)
 
   gap_below : (q : ℕ) → AllBelow n (no_label n (row q))
-  gap_below q = label_of_below n (λ v. not (list_any (λ (e : TreeEdge). truth_on e.label v) (row q)))
+  gap_below q = label_of_below n (λ v. not (list_any (λ (e : LabelledEdge). truth_on e.label v) (row q)))
 
   gap_truth : (q : ℕ) (letter : NameSet) → is_met a.names letter (gap a q) ≡ not (list_any (is_met a.names letter) (row q))
   gap_truth q letter = truth_none n (holds_at a.names letter) (row q) (row_below q)
 
   -- completeness
 
-  met_by_row : (q : ℕ) (letter : NameSet) → list_any (is_met a.names letter) (row q) ≡ true → GoesOn a q letter
+  met_by_row : (q : ℕ) (letter : NameSet) → list_any (is_met a.names letter) (row q) ≡ true → HasSuccessor a q letter
   met_by_row q letter some =
       let found = Any-from_list_any (is_met a.names letter) (row q) some in
       let there : Contains (row q) found.1 = (found.0, found.2, found.3) in
-      let old = from_filter (λ (e : TreeEdge). e.from == q) a.edges found.1 there in
+      let old = from_filter (λ (e : LabelledEdge). e.from == q) a.edges found.1 there in
       record { edge = found.1; is_edge = old.0; from = eqb-true found.1.from q old.1; meets = found.4 }
 
-  row_met : (q : ℕ) (letter : NameSet) → GoesOn a q letter → list_any (is_met a.names letter) (row q) ≡ true
+  row_met : (q : ℕ) (letter : NameSet) → HasSuccessor a q letter → list_any (is_met a.names letter) (row q) ≡ true
   row_met q letter on =
-      let there = there_filter (λ (e : TreeEdge). e.from == q) a.edges on.edge on.is_edge (eq-eqb on.edge.from q on.from) in
+      let there = there_filter (λ (e : LabelledEdge). e.from == q) a.edges on.edge on.is_edge (eq-eqb on.edge.from q on.from) in
       list_any_at (is_met a.names letter) (row q) there.0 on.edge there.1 (ap (is_met a.names letter) there.2 ∙ on.meets)
 
-  goes_on : (q : ℕ) → q < a.states → (letter : NameSet) → GoesOn (with_sink a) q letter
-  goes_on q less letter = by (cases_Bool (list_any (is_met a.names letter) (row q)))
+  has_successor : (q : ℕ) → q < a.states → (letter : NameSet) → HasSuccessor (with_sink a) q letter
+  has_successor q less letter = by_cases (cases_Bool (list_any (is_met a.names letter) (row q)))
     where
-      by : (list_any (is_met a.names letter) (row q) ≡ true) ⊎ (list_any (is_met a.names letter) (row q) ≡ false) → GoesOn (with_sink a) q letter
-      by (inl some) =
+      by_cases : (list_any (is_met a.names letter) (row q) ≡ true) ⊎ (list_any (is_met a.names letter) (row q) ≡ false) → HasSuccessor (with_sink a) q letter
+      by_cases (inl some) =
           let on = met_by_row q letter some in
           record { edge = on.edge; is_edge = old_there a formed on.edge on.is_edge; from = on.from; meets = on.meets }
-      by (inr none) =
+      by_cases (inr none) =
           let holds : is_met a.names letter (gap a q) ≡ true = gap_truth q letter ∙ ap not none in
           record { edge = gap a q; is_edge = gap_there a q less (not_never n (holds_at a.names letter) (no_label n (row q)) (gap_below q) holds); from = refl; meets = holds }
 
@@ -74,7 +74,7 @@ module _ (a : Automaton) (formed : IsWellFormed a) where
   with_sink_complete = record {
     start = some_start (length a.starts == 0) refl;
     edges = λ q less letter. elim (cases_lt q a.states) [
-      | inl inside ↦ goes_on q inside letter
+      | inl inside ↦ has_successor q inside letter
       | inr past ↦ record { edge = loop a; is_edge = loop_there a; from = omega (arith, less, past); meets = refl }
     ];
   }
@@ -104,7 +104,7 @@ module _ (a : Automaton) (formed : IsWellFormed a) where
 
   -- determinism
 
-  apart_alone : (names : List (List ℕ)) (e : TreeEdge) → AllPairs (AreApart names) (e ∷ [])
+  apart_alone : (names : List (List ℕ)) (e : LabelledEdge) → AllPairs (AreApart names) (e ∷ [])
   apart_alone names e i j d less within = absurd (omega (arith, less, within))
 
   filled_apart : (q : ℕ) → AllPairs (AreApart a.names) (row q) → (b : Bool) → AllPairs (AreApart a.names) (row q ++ cond b [] (gap a q ∷ []))
@@ -122,7 +122,7 @@ module _ (a : Automaton) (formed : IsWellFormed a) where
       row_apart : IsDeterministic a → (q : ℕ) → AllPairs (AreApart a.names) (row q)
       row_apart is q i j d less within =
           let own = edges_own q a.edges in
-          AllPairs-filter (λ d e. d.from ≡ e.from → AreApart a.names d e) (λ (e : TreeEdge). e.from == q) a.edges is.edges i j d less within
+          AllPairs-filter (λ d e. d.from ≡ e.from → AreApart a.names d e) (λ (e : LabelledEdge). e.from == q) a.edges is.edges i j d less within
           (own i d (omega (arith, less, within)) ∙ sym (own j d within))
 
   few_starts : (b : Bool) → length a.starts ≤ 1 → length (cond b (a.states ∷ []) a.starts) ≤ 1

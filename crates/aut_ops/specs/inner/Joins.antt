@@ -3,7 +3,7 @@ use Rattle.std.specs.Prelude.{◌≡◌, ℕ, List}
 use Rattle.acc_forms.specs.Joined.{conj, disj}
 use Rattle.aut_base.specs.Automaton.{Automaton}
 use Rattle.aut_base.specs.Formula.{FormulaTree}
-use Rattle.aut_core.specs.Core.{AreParts, Core, automaton_of}
+use Rattle.aut_core.specs.SymbolicAutomata.{AreSymbolicParts, SymbolicAutomaton, automaton_of}
 use Rattle.aut_ops.specs.Products.{product_on}
 use Rattle.aut_ops.specs.Languages.{AcceptsBoth, AcceptsEither}
 use Rattle.aut_ops.specs.declared.join.Join.{Join}
@@ -20,7 +20,7 @@ JoinAccepts All made a b = AcceptsBoth made a b
 JoinAccepts Any made a b = HasRuns a → HasRuns b → AcceptsEither made a b
 
 -- the parts are those of the product on these pairs
-pub record IsMade (j : Join) (a b : Core) (pairs : List (ℕ × ℕ)) (c : Core) : Type 0 where
+pub record IsProductCore (j : Join) (a b : SymbolicAutomaton) (pairs : List (ℕ × ℕ)) (c : SymbolicAutomaton) : Type 0 where
   pub shape : automaton_of c ≡ product_on (join_of j) pairs (automaton_of a) (automaton_of b)
   pub accepts : JoinAccepts j (automaton_of c) (automaton_of a) (automaton_of b)
-  pub parts : AreParts c
+  pub parts : AreSymbolicParts c

@@ -1,40 +1,40 @@
 -- A product as far as it is made.
 use Rattle.std.specs.Prelude.{◌≡◌, ℕ, ◌+◌, ◌<◌, ◌^◌, List, ◌++◌, All, Contains, Some, flat_map, fold, length, map, slice_get}
 use Rattle.std.specs.List.{AllZip}
-use Rattle.aut_base.specs.Automaton.{TreeEdge}
-use Rattle.aut_core.specs.Core.{edge_of}
+use Rattle.aut_base.specs.Automaton.{LabelledEdge}
+use Rattle.aut_core.specs.SymbolicAutomata.{edge_of}
 use Rattle.aut_core.specs.declared.link.Link.{Link}
 use Rattle.label_guards.specs.Store.{Has, Keeps, Store}
 use Rattle.exploration.specs.Turns.{with_new}
 use Rattle.aut_ops.specs.Products.{JointEdge, joint_edge, same_pair}
 
 -- the pairs in the order in which they were met, and the links between their places, with guards of the store
-pub record Stage : Type 0 where
+pub record PairingStage : Type 0 where
   pub store : Store
   pub pairs : List (ℕ × ℕ)
   pub links : List Link
 
 -- the edge between the places of the pairs
-pub record IsNumbered (pairs : List (ℕ × ℕ)) (e : TreeEdge) (j : JointEdge) : Type 0 where
+pub record IsJointEdgeAt (pairs : List (ℕ × ℕ)) (e : LabelledEdge) (j : JointEdge) : Type 0 where
   pub from : slice_get pairs e.from ≡ Some j.from
   pub to : slice_get pairs e.to ≡ Some j.to
   pub label : e.label ≡ j.label
   pub marks : e.marks ≡ j.marks
 
 -- the links are these edges
-pub record AreEdges (s : Stage) (js : List JointEdge) : Type 0 where
+pub record AreJointEdges (s : PairingStage) (js : List JointEdge) : Type 0 where
   pub has : All (λ l. Has s.store l.guard) s.links
-  pub edges : AllZip (IsNumbered s.pairs) (map (edge_of s.store) s.links) js
+  pub edges : AllZip (IsJointEdgeAt s.pairs) (map (edge_of s.store) s.links) js
 
 -- the list, and those of the pairs behind it that it lacks, in order
 abbrev pub with_pairs : List (ℕ × ℕ) → List (ℕ × ℕ) → List (ℕ × ℕ)
 with_pairs = fold (with_new same_pair)
 
 -- these edges were added, and the pairs to which they lead
-pub record Adds (old new : Stage) (js : List JointEdge) : Type 0 where
+pub record AddsJointEdges (old new : PairingStage) (js : List JointEdge) : Type 0 where
   pub keeps : Keeps old.store new.store
   pub pairs : new.pairs ≡ with_pairs old.pairs (map (λ j. j.to) js)
-  pub links : (before : List JointEdge) → AreEdges old before → AreEdges new (before ++ js)
+  pub links : (before : List JointEdge) → AreJointEdges old before → AreJointEdges new (before ++ js)
 
 -- the list and some of the pairs are more than `most`
 pub record AreBeyond (most : ℕ) (pairs more : List (ℕ × ℕ)) : Type 0 where
@@ -43,8 +43,8 @@ pub record AreBeyond (most : ℕ) (pairs more : List (ℕ × ℕ)) : Type 0 wher
   pub many : most < length (with_pairs pairs some)
 
 -- the numbers are the places of these pairs
-abbrev pub ArePlaces : List (ℕ × ℕ) → List ℕ → List (ℕ × ℕ) → Type 0
-ArePlaces pairs = AllZip (λ place pair. slice_get pairs place ≡ Some pair)
+abbrev pub ArePlacesOfPairs : List (ℕ × ℕ) → List ℕ → List (ℕ × ℕ) → Type 0
+ArePlacesOfPairs pairs = AllZip (λ place pair. slice_get pairs place ≡ Some pair)
 
 -- the two links as one edge, unless no letter meets both
 abbrev pub meeting : Store → ℕ → Link → Link → List JointEdge
@@ -55,7 +55,7 @@ abbrev pub followed : Store → ℕ → List Link → Link → List JointEdge
 followed s sets others link = flat_map (meeting s sets link) others
 
 -- both links leave the pair at this place, with guards of the store, and their marks can be put together
-pub record CanMeet (s : Stage) (at sets : ℕ) (link other : Link) : Type 0 where
+pub record CanMeet (s : PairingStage) (at sets : ℕ) (link other : Link) : Type 0 where
   pub first : Has s.store link.guard
   pub second : Has s.store other.guard
   pub place : slice_get s.pairs at ≡ Some (link.from, other.from)
@@ -63,6 +63,6 @@ pub record CanMeet (s : Stage) (at sets : ℕ) (link other : Link) : Type 0 wher
   pub others : All (λ mark. mark + sets < 2 ^ 32) other.marks
 
 -- these pairs were listed, and their places written down behind the others
-pub record AreListed (old new : List (ℕ × ℕ)) (starts more : List ℕ) (xs : List (ℕ × ℕ)) : Type 0 where
+pub record ArePairsListed (old new : List (ℕ × ℕ)) (starts more : List ℕ) (xs : List (ℕ × ℕ)) : Type 0 where
   pub pairs : new ≡ with_pairs old xs
-  pub places : (before : List (ℕ × ℕ)) → ArePlaces old starts before → ArePlaces new more (before ++ xs)
+  pub places : (before : List (ℕ × ℕ)) → ArePlacesOfPairs old starts before → ArePlacesOfPairs new more (before ++ xs)

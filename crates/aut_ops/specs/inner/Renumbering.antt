@@ -2,16 +2,16 @@
 use Rattle.std.specs.Prelude.{ℕ, Bool, ◌&&◌, List, length, map, nat_eq}
 use Rattle.std.specs.List.{range_with_len, slice_index_or}
 use Rattle.aut_base.specs.Marks.{is_in}
-use Rattle.aut_core.specs.Core.{Core, edge_of}
+use Rattle.aut_core.specs.SymbolicAutomata.{SymbolicAutomaton, edge_of}
 use Rattle.aut_core.specs.declared.link.Link.{Link}
-use Rattle.aut_ops.specs.Passable.{is_flagged, is_passable, stays}
+use Rattle.aut_ops.specs.Satisfiable.{is_flagged, is_satisfiable, is_kept_edge}
 
 -- the same of a link as of its edge
-abbrev pub link_passable : Core → Link → Bool
-link_passable c l = is_passable (length c.names) (edge_of c.store l)
+abbrev pub link_passable : SymbolicAutomaton → Link → Bool
+link_passable c l = is_satisfiable (length c.names) (edge_of c.store l)
 
-abbrev pub link_stays : Core → List Bool → Link → Bool
-link_stays c flags l = stays (length c.names) flags (edge_of c.store l)
+abbrev pub link_stays : SymbolicAutomaton → List Bool → Link → Bool
+link_stays c flags l = is_kept_edge (length c.names) flags (edge_of c.store l)
 
 -- the ends of a link
 abbrev pub link_arc : Link → ℕ × ℕ
@@ -25,12 +25,12 @@ abbrev pub new_link : List ℕ → Link → Link
 new_link numbers l = record { from = new_number numbers l.from; guard = l.guard; to = new_number numbers l.to; marks = l.marks }
 
 -- the link is in set 0, its label isn't false, and its ends have one number
-abbrev pub link_closes : Core → List ℕ → Link → Bool
+abbrev pub link_closes : SymbolicAutomaton → List ℕ → Link → Bool
 link_closes c numbers l = link_passable c l && (is_in 0 l.marks && nat_eq (new_number numbers l.from) (new_number numbers l.to))
 
 -- the arc turned around
-abbrev pub turned_arc : ℕ × ℕ → ℕ × ℕ
-turned_arc arc = (arc.1, arc.0)
+abbrev pub reversed_arc : ℕ × ℕ → ℕ × ℕ
+reversed_arc arc = (arc.1, arc.0)
 
 -- for each state whether both lists flag it
 abbrev pub both_flagged : List Bool → List Bool → List Bool

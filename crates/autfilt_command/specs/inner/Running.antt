@@ -10,9 +10,9 @@ use Rattle.autfilt_command.specs.declared.ended.End.{End}
 use Rattle.autfilt_command.specs.declared.ended.End.TheVariants as end
 use Rattle.autfilt_run.specs.Events.{AreJudged, Event, Happen, Point, Tally, all_written, open_after, opened_streams, start_of}
 use Rattle.autfilt_run.specs.Openings.{AreOpened, AreTried}
-use Rattle.autfilt_run.specs.OperandEvents.{AreRead, OperandEvent, all_passed, file_open_after, opened_files, operands_of}
-use Rattle.autfilt_run.specs.Plans.{streams_of}
-use Rattle.autfilt_run.specs.Points.{StandsAt, StandsIn, operands_in}
+use Rattle.autfilt_run.specs.OperandEvents.{AreRead, OperandEvent, all_passed, file_open_after, opened_files, operands_read}
+use Rattle.autfilt_run.specs.Plans.{plan_streams}
+use Rattle.autfilt_run.specs.Points.{StandsInStreams, StandsIn, operands_in}
 use Rattle.autfilt_run.specs.Preparing.{CountsAt, opened_names}
 use Rattle.autfilt_run.specs.declared.fault.RunFault.{RunFault}
 use Rattle.autfilt_run.specs.declared.fault.RunFault.TheVariants as run
@@ -42,7 +42,7 @@ pub record IsNew (s : Session) : Type 0 where
 pub record HasPrepared (plan : Plan) (s : Session) (seen seen' : Seen) (notes notes' : SinkSeen) (noting : Bool) : Type 0 where
   pub taken : List OperandEvent
   pub same_plan : s.plan ≡ plan
-  pub operands_are : operands_in s ≡ operands_of taken
+  pub operands_are : operands_in s ≡ operands_read taken
   pub skipped : s.skipped ≡ length (all_passed taken)
   pub happened : (texts : Texts) → seen.texts ≡ Some texts → (p : Point) × AreRead texts taken (start_of (operands plan) seen.left 0) p × StandsIn s seen'.left p
   pub noted : HasNoted (passed_noted (all_passed taken)) noting notes notes'
@@ -95,11 +95,11 @@ pub record IsFresh (s : Session) : Type 0 where
 -- where a run stands, after the events
 pub record Reached (plan : Plan) (before : ℕ) (texts : Texts) (events : List Event) (first left : Option (List ℕ)) (s : Session) : Type 0 where
   pub point : Point
-  pub happen : Happen plan texts events (start_of (streams_of plan) first before) point
-  pub stands : StandsAt s left point
+  pub happen : Happen plan texts events (start_of (plan_streams plan) first before) point
+  pub stands : StandsInStreams s left point
 
 -- Events happened since the session was fresh, what is due of them was written, and those that were skipped were noted.
-pub record HasRun (fresh s : Session) (seen seen' : Seen) (out out' notes notes' : SinkSeen) (first noting : Bool) : Type 0 where
+pub record HasRunEvents (fresh s : Session) (seen seen' : Seen) (out out' notes notes' : SinkSeen) (first noting : Bool) : Type 0 where
   pub events : List Event
   pub same_plan : s.plan ≡ fresh.plan
   pub same_operands : s.operands ≡ fresh.operands
@@ -108,7 +108,7 @@ pub record HasRun (fresh s : Session) (seen seen' : Seen) (out out' notes notes'
   pub gains : Gains out.written out'.written (all_written events)
   pub noted : (sink : SinkSeen) (text : List ℕ) → HasNoted text first sink notes → HasNoted (text ++ all_noted events) noting sink notes'
   pub tallied : tally_after fresh.skipped events ≡ record { kept = s.kept; skipped = s.skipped }
-  pub named : opened_streams events ≡ take s.opened (streams_of fresh.plan)
+  pub named : opened_streams events ≡ take s.opened (plan_streams fresh.plan)
   pub still : s.is_open ≡ open_after false events
   pub openings : AreOpened (length (opened_streams events)) seen seen'
   pub calm : AreCalm seen seen' out out'
@@ -116,7 +116,7 @@ pub record HasRun (fresh s : Session) (seen seen' : Seen) (out out' notes notes'
 
 -- What a loop over steps keeps.
 pub record IsRunning (fresh s : Session) (seen seen' : Seen) (out out' notes notes' : SinkSeen) (first noting : Bool) : Type 0 where
-  pub ran : HasRun fresh s seen seen' out out' notes notes' first noting
+  pub ran : HasRunEvents fresh s seen seen' out out' notes notes' first noting
   pub stage : s.stage ≡ Prepared
 
 -- All of the text that is due at the end was written, and the counts tell how the run ended; or a part of it was.
@@ -130,8 +130,8 @@ pub record FinishesInPart (e : End) (text : List ℕ) (out out' : SinkSeen) : Ty
   pub gains : GainsPrefix out.written out'.written text
   pub writes : Rose out.faults out'.faults
 
-abbrev pub Finishes : End → List ℕ → Tally → SinkSeen → SinkSeen → Type 0
-Finishes e text t out out' = FinishesWell e text t out out' ⊎ FinishesInPart e text out out'
+abbrev pub FinishesRun : End → List ℕ → Tally → SinkSeen → SinkSeen → Type 0
+FinishesRun e text t out out' = FinishesWell e text t out out' ⊎ FinishesInPart e text out out'
 
 -- The streams of the session's plan were read, and what was noted of it. `noting` tells whether notes were taken before.
 pub record Carries (fresh : Session) (noting : Bool) (e : End) (seen seen' : Seen) (out out' notes notes' : SinkSeen) : Type 0 where

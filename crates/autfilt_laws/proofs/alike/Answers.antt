@@ -9,16 +9,16 @@ use Rattle.aut_io.specs.Seen.{Seen, SinkSeen}
 use Rattle.autfilt_command.specs.Ends.{ended_of}
 use Rattle.autfilt_command.specs.Noted.{Notes}
 use Rattle.autfilt_command.specs.Notes.{line_of}
-use Rattle.autfilt_command.specs.Run.{AreAllRead, FailsInOperands, GoesOverAll, Prints, RunsOver, RunsOverAs, RunsTo, all_noted, end_of, noted, passed_noted, tally_after}
+use Rattle.autfilt_command.specs.Run.{AreAllRead, FailsInOperands, GoesOverAll, PrintsRun, RunsOver, RunsOverAs, RunsTo, all_noted, end_of, noted, passed_noted, tally_after}
 use Rattle.autfilt_command.specs.declared.ended.End.{End}
 use Rattle.autfilt_command.specs.declared.ended.End.TheVariants as end
 use Rattle.autfilt_command.specs.declared.ended.Ended.{Ended}
 use Rattle.autfilt_command.specs.declared.ended.Ended.TheVariants as ended
-use Rattle.autfilt_laws.specs.Runs.{AreLike, Completes, EndsBefore, IsByText, IsEnded, IsLike, OneEnd, Outcome, left_or, streams_from, texts_or}
+use Rattle.autfilt_laws.specs.Runs.{AreLike, Completes, EndsBefore, IsByText, IsEnded, IsLike, RunsEndAlike, Outcome, left_or, streams_from, texts_or}
 use Rattle.autfilt_run.specs.Events.{Dropped, Event, Kept, Opened, Point, Skipped, Tally, all_written, start_of, tally}
 use Rattle.autfilt_run.specs.Events as event
-use Rattle.autfilt_run.specs.OperandEvents.{OperandEvent, all_passed, operands_of}
-use Rattle.autfilt_run.specs.Plans.{count_text, streams_of}
+use Rattle.autfilt_run.specs.OperandEvents.{OperandEvent, all_passed, operands_read}
+use Rattle.autfilt_run.specs.Plans.{count_text, plan_streams}
 use Rattle.autfilt_run.specs.declared.fault.RunFault.TheVariants as fault
 use Rattle.filter_plan.specs.Laws.{OnePlan, SamePlan}
 use Rattle.filter_plan.specs.Words.{IsPlan}
@@ -59,12 +59,12 @@ module _ (p : Plan) (texts : Texts) (e : End) (taken : List OperandEvent) (event
 
   -- the streams of the inputs, or the generated one
   in_streams : (mid : Seen) (before : ℕ) (point : Point) → AreAllRead p texts seen.left taken point → point.left ≡ mid.left → point.before ≡ before → mid.texts ≡ seen.texts
-      → (made : Option ℕ) → p.made ≡ made → RunsOverAs made p (operands_of taken) (length (all_passed taken)) before e events name mid seen' out out' → IsSome
+      → (made : Option ℕ) → p.made ≡ made → RunsOverAs made p (operands_read taken) (length (all_passed taken)) before e events name mid seen' out out' → IsSome
   in_streams mid before point read left taken_before same None made runs =
-      let ops = operands_of taken in
+      let ops = operands_read taken in
       let over : texts_or p.made texts ≡ texts = ap (λ (m : Option ℕ). texts_or m texts) made in
       let left_there : left_or p.made point.left ≡ mid.left = ap (λ (m : Option ℕ). left_or m point.left) made ∙ left in
-      let from : streams_from p point ≡ start_of (streams_of p) mid.left before = λ i. start_of (streams_of p) (left_there i) (taken_before i) in (
+      let from : streams_from p point ≡ start_of (plan_streams p) mid.left before = λ i. start_of (plan_streams p) (left_there i) (taken_before i) in (
         seen'.left,
         record {
           by_text = by_text;
@@ -80,10 +80,10 @@ module _ (p : Plan) (texts : Texts) (e : End) (taken : List OperandEvent) (event
         inl (refl, inl made),
       )
   in_streams mid before point read left taken_before same (Some n) made over =
-      let ops = operands_of taken in
+      let ops = operands_read taken in
       let in_made : texts_or p.made texts ≡ made_texts n = ap (λ (m : Option ℕ). texts_or m texts) made in
       let left_there : left_or p.made point.left ≡ Some [] = ap (λ (m : Option ℕ). left_or m point.left) made in
-      let from : streams_from p point ≡ start_of (streams_of p) (Some []) before = λ i. start_of (streams_of p) (left_there i) (taken_before i) in (
+      let from : streams_from p point ≡ start_of (plan_streams p) (Some []) before = λ i. start_of (plan_streams p) (left_there i) (taken_before i) in (
         over.made.left,
         record {
           by_text = by_text;
@@ -114,48 +114,48 @@ abbrev pub text_due : Plan → End → List Event → List ℕ
 text_due p (end.Fault f) events = all_written events
 text_due p e events = all_written events ++ count_text p (tally events).kept
 
-gains_text : (p : Plan) (e : End) (events : List Event) (old new : Option (List ℕ)) → IsByText e → Prints p e events old new → Gains old new (text_due p e events)
-gains_text p end.Output events old new by h = h
-gains_text p end.NoneOutput events old new by h = h
-gains_text p end.Aborts events old new by h = h
-gains_text p end.Usage events old new by h = absurd by
-gains_text p (end.Fault fault.WriteFault) events old new by h = absurd by
-gains_text p (end.Fault fault.CannotOpen) events old new by h = h
-gains_text p (end.Fault fault.ReadFault) events old new by h = h
-gains_text p (end.Fault (fault.SyntaxAt k)) events old new by h = h
-gains_text p (end.Fault fault.Truncated) events old new by h = h
-gains_text p (end.Fault (fault.Invalid rule)) events old new by h = h
-gains_text p (end.Fault (fault.Limit which)) events old new by h = h
-gains_text p (end.Fault fault.Memory) events old new by h = h
+gains_text : (p : Plan) (e : End) (events : List Event) (old new : Option (List ℕ)) → IsByText e → PrintsRun p e events old new → Gains old new (text_due p e events)
+gains_text p end.Output events old new by_cases h = h
+gains_text p end.NoneOutput events old new by_cases h = h
+gains_text p end.Aborts events old new by_cases h = h
+gains_text p end.Usage events old new by_cases h = absurd by_cases
+gains_text p (end.Fault fault.WriteFault) events old new by_cases h = absurd by_cases
+gains_text p (end.Fault fault.CannotOpen) events old new by_cases h = h
+gains_text p (end.Fault fault.ReadFault) events old new by_cases h = h
+gains_text p (end.Fault (fault.SyntaxAt k)) events old new by_cases h = h
+gains_text p (end.Fault fault.Truncated) events old new by_cases h = h
+gains_text p (end.Fault (fault.Invalid rule)) events old new by_cases h = h
+gains_text p (end.Fault (fault.Limit which)) events old new by_cases h = h
+gains_text p (end.Fault fault.Memory) events old new by_cases h = h
 
 gains_none : (written : Option (List ℕ)) → Gains written written []
 gains_none None = refl
 gains_none (Some text) = ap Some (sym (append-nil text))
 
 prints_over : (p : Plan) (made : Option ℕ) (ops : List Automaton) (passed before : ℕ) (e : End) (events : List Event) (name : List ℕ) (seen seen' : Seen) (out out' : SinkSeen)
-    → RunsOverAs made p ops passed before e events name seen seen' out out' → Prints p e events out.written out'.written
+    → RunsOverAs made p ops passed before e events name seen seen' out out' → PrintsRun p e events out.written out'.written
 prints_over p None ops passed before e events name seen seen' out out' h = h.prints
 prints_over p (Some n) ops passed before e events name seen seen' out out' h = h.runs.prints
 
 is_written : (p : Plan) (e : End) (taken : List OperandEvent) (events : List Event) (name : List ℕ) (seen seen' : Seen) (out out' : SinkSeen) → IsByText e
     → RunsOver p e taken events name seen seen' out out' → Gains out.written out'.written (text_due p e events)
-is_written p e taken events name seen seen' out out' by (inl h) =
+is_written p e taken events name seen seen' out out' by_cases (inl h) =
     subst (λ (x : End). Gains out.written out'.written (text_due p x events)) (sym h.ends)
     (subst (λ (es : List Event). Gains out.written out'.written (all_written es)) (sym h.none)
     (subst (λ (o : SinkSeen). Gains out.written o.written []) (sym h.output) (gains_none out.written)))
-is_written p e taken events name seen seen' out out' by (inr h) =
-    gains_text p e events out.written out'.written by (prints_over p p.made _ _ _ e events name h.mid seen' out out' h.runs)
+is_written p e taken events name seen seen' out out' by_cases (inr h) =
+    gains_text p e events out.written out'.written by_cases (prints_over p p.made _ _ _ e events name h.mid seen' out out' h.runs)
 
 -- the same text is due under the same plan
 same_due : (p q : Plan) (e : End) (events : List Event) → SamePlan p q → text_due p e events ≡ text_due q e events
-same_due p q e events same = ap (λ (z : Plan). text_due z e events) same.others ∙ by e
+same_due p q e events same = ap (λ (z : Plan). text_due z e events) same.others ∙ by_cases e
   where
-    by : (x : End) → text_due (record q { accept_word = p.accept_word; reject_word = p.reject_word }) x events ≡ text_due q x events
-    by end.Output = refl
-    by end.NoneOutput = refl
-    by end.Aborts = refl
-    by end.Usage = refl
-    by (end.Fault f) = refl
+    by_cases : (x : End) → text_due (record q { accept_word = p.accept_word; reject_word = p.reject_word }) x events ≡ text_due q x events
+    by_cases end.Output = refl
+    by_cases end.NoneOutput = refl
+    by_cases end.Aborts = refl
+    by_cases end.Usage = refl
+    by_cases (end.Fault f) = refl
 
 -- ---- what is noted
 
@@ -187,8 +187,8 @@ came one words plan texts r is d =
     let e = d.of in
     let run = e.runs plan is in
     let same = one words run.0 plan run.1 is in
-    let by = by_end e.end (subst IsByTexts e.shown d.by_texts) in
-    let found = is_ended run.0 texts e.end e.taken e.events e.name r.inputs r.inputs' r.out r.out' d.told by run.2 in
+    let by_cases = by_end e.end (subst IsByTexts e.shown d.by_texts) in
+    let found = is_ended run.0 texts e.end e.taken e.events e.name r.inputs r.inputs' r.out r.out' d.told by_cases run.2 in
     record {
       o = outcome e.taken e.events e.end e.name found.0;
       shown = e.shown;
@@ -196,10 +196,10 @@ came one words plan texts r is d =
       left = same_plan_left run.0 plan texts r.inputs.left (outcome e.taken e.events e.end e.name found.0) r.inputs'.left same found.2;
       noted = e.noted;
       written = subst (Gains r.out.written r.out'.written) (same_due run.0 plan e.end e.events same)
-          (is_written run.0 e.end e.taken e.events e.name r.inputs r.inputs' r.out r.out' by run.2);
+          (is_written run.0 e.end e.taken e.events e.name r.inputs r.inputs' r.out r.out' by_cases run.2);
     }
 
-pub one_answer : OneStanding → OnePlan → OneEnd → OneAnswer
+pub one_answer : OneStanding → OnePlan → RunsEndAlike → OneAnswer
 one_answer one plans ends words plan texts a b is left x y =
     let c = came plans words plan texts a is x in
     let d = came plans words plan texts b is y in
@@ -222,14 +222,14 @@ one_answer one plans ends words plan texts a b is left x y =
 -- ---- all was read
 
 all_read : (t : Tally) → (ended_of (end_of t) ≡ ended.Output) ⊎ ((ended_of (end_of t) ≡ ended.NoneOutput) ⊎ (ended_of (end_of t) ≡ ended.Aborts))
-all_read t = by (t.skipped == 0) (t.kept == 0)
+all_read t = by_cases (t.skipped == 0) (t.kept == 0)
   where
-    by : (none_skipped none_kept : Bool) → (ended_of (cond none_skipped (cond none_kept end.NoneOutput end.Output) end.Aborts) ≡ ended.Output)
+    by_cases : (none_skipped none_kept : Bool) → (ended_of (cond none_skipped (cond none_kept end.NoneOutput end.Output) end.Aborts) ≡ ended.Output)
         ⊎ ((ended_of (cond none_skipped (cond none_kept end.NoneOutput end.Output) end.Aborts) ≡ ended.NoneOutput)
         ⊎ (ended_of (cond none_skipped (cond none_kept end.NoneOutput end.Output) end.Aborts) ≡ ended.Aborts))
-    by true true = inr (inl refl)
-    by true false = inl refl
-    by false k = inr (inr refl)
+    by_cases true true = inr (inl refl)
+    by_cases true false = inl refl
+    by_cases false k = inr (inr refl)
 
 pub answer_completes : OnePlan → Completes → AnswerCompletes
 answer_completes plans completes words plan texts a is readable other d =

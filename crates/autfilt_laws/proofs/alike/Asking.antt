@@ -17,7 +17,7 @@ use Rattle.hoa_parser.proofs.grammar.OneRaw.{whole_goes_no_further}
 use Rattle.hoa_parser.proofs.standing.Halts.{shown}
 use Rattle.hoa_parser.proofs.standing.Hopeless.{next_leaves, next_off}
 use Rattle.hoa_parser.proofs.standing.Readings.{lexes_more, lexes_shorter}
-use Rattle.hoa_parser.specs.Grammar.{AutomatonPhrase, IsViable, Spells, automaton_tokens, item_tokens, state_tokens}
+use Rattle.hoa_parser.specs.Grammar.{AutomatonPhrase, IsViable, SpellsAutomaton, automaton_tokens, item_tokens, state_tokens}
 use Rattle.hoa_parser.specs.Raw.{Written}
 use Rattle.hoa_parser.specs.Reads.{AsksOn, EndsDeep}
 use Rattle.hoa_parser.specs.Standing.{IsAborted, IsBegun, SpellsNothing, most_depth}
@@ -117,8 +117,8 @@ none_asks start text new rest placed a are lexes short =
 -- ---- where an automaton stands whole
 
 -- nothing begun is an automaton, or goes on behind one
-beyond_whole : (tokens whole us : List Token) (w : Written) → IsViable most_depth tokens → SpellsNothing tokens → Spells most_depth whole w → tokens ≡ whole ++ us → ⊥
-beyond_whole tokens whole [] w viable unfinished spelled e = unfinished most_depth w (subst (λ (ts : List Token). Spells most_depth ts w) (sym (e ∙ append-nil whole)) spelled)
+beyond_whole : (tokens whole us : List Token) (w : Written) → IsViable most_depth tokens → SpellsNothing tokens → SpellsAutomaton most_depth whole w → tokens ≡ whole ++ us → ⊥
+beyond_whole tokens whole [] w viable unfinished spelled e = unfinished most_depth w (subst (λ (ts : List Token). SpellsAutomaton most_depth ts w) (sym (e ∙ append-nil whole)) spelled)
 beyond_whole tokens whole (u ∷ us) w viable unfinished spelled e =
     let none : u ∷ us ≡ [] = whole_goes_no_further most_depth most_depth whole (u ∷ us) w spelled (subst (λ (ts : List Token). IsViable most_depth ts) e viable) in
     cc
@@ -175,7 +175,7 @@ none_asks_behind_deep start text left new h a short =
   where
     viable_front : (ts us : List Token) → IsViable most_depth (ts ++ us) → IsViable most_depth ts
     viable_front ts us v =
-        record { more = us ++ v.more; whole = v.whole; spelled = subst (λ (ws : List Token). Spells most_depth ws v.whole) (append_assoc ts us v.more) v.spelled }
+        record { more = us ++ v.more; whole = v.whole; spelled = subst (λ (ws : List Token). SpellsAutomaton most_depth ws v.whole) (append_assoc ts us v.more) v.spelled }
 
     behind_no_shorter : (held : Option ℕ) (left new after : List ℕ) → after ≡ unread held left → length new ≤ length left → length new ≤ length after
     behind_no_shorter None left new after is short = omega (arith, short, ap length is)

@@ -12,11 +12,11 @@ use Rattle.autfilt_laws.proofs.alike.Full.{IsFitted, full_same}
 use Rattle.autfilt_laws.proofs.alike.Looks.{one_stream, whole_is}
 use Rattle.autfilt_laws.specs.Runs.{IsByText, TellsName}
 use Rattle.autfilt_run.proofs.handling.PassedLimits.{told_bytes}
-use Rattle.autfilt_run.specs.Events.{Point, Stream, place}
+use Rattle.autfilt_run.specs.Events.{Point, Stream, bytes_before}
 use Rattle.autfilt_run.specs.Faults.{Told, AtToken, AtByte, OfWhole, when_told}
-use Rattle.autfilt_run.specs.Over.{IsOver}
+use Rattle.autfilt_run.specs.Over.{IsOverLimit}
 use Rattle.autfilt_run.specs.Plans.{asks_on}
-use Rattle.autfilt_run.specs.Runs.{AtNamed, IsCounted, StandsWith, StopsAt, StopsAtLimit, StopsAtOperand, StopsInOperands, StopsWhere}
+use Rattle.autfilt_run.specs.Runs.{AtNamed, IsCounted, StandsWith, StopsReading, StopsAtLimit, StopsAtOperand, StopsInOperands, StopsWhere}
 use Rattle.autfilt_run.specs.declared.fault.RunFault.{RunFault}
 use Rattle.autfilt_run.specs.declared.fault.RunFault.TheVariants as fault
 use Rattle.filter_plan.specs.declared.plan.Plan.{Plan}
@@ -58,7 +58,7 @@ abbrev IsOneLeft : (RunFault → ℕ → List ℕ → List ℕ → Type 0) → R
 IsOneLeft stops f =
     IsByText (end.Fault f) → (start : ℕ) (rest x y : List ℕ) → (f ≡ fault.Limit limit.Bytes → x ≡ y) → stops f start rest x → stops f start rest y → x ≡ y
 
-one_left : OneStanding → (over : Limit → Written → Type 0) (f : RunFault) → IsOneLeft (StopsAt over) f
+one_left : OneStanding → (over : Limit → Written → Type 0) (f : RunFault) → IsOneLeft (StopsReading over) f
 one_left one over (fault.SyntaxAt k) by start rest x y full a b = one_bad_place k start rest x y a b
 one_left one over fault.Truncated by start rest x y full a b = a.nothing ∙ sym b.nothing
 one_left one over (fault.Invalid rule) by start rest x y full a b = one_behind one _ start rest x y a b
@@ -101,18 +101,18 @@ one_place on stops f p n m l k by fitted asking one x c y d =
     let b = at_named on stops f m p k by y in
     let s = a.at.stream in
     let same = one_stream p.stream s b.at.stream a.at.is_open b.at.is_open in
-    let there = subst (λ (z : Stream). stops f (place z.text z.rest) z.rest b.at.now) (sym same) b.at.stands in
+    let there = subst (λ (z : Stream). stops f (bytes_before z.text z.rest) z.rest b.at.now) (sym same) b.at.stands in
     record {
       name = λ tells. sym a.named ∙ ap (λ (z : Stream). z.name) same ∙ b.named;
-      left = a.at.told ∙ ap Some (one by (place s.text s.rest) s.rest a.at.now b.at.now (λ is. full is s a.at.now b.at.now a.at.is_open a.at.told b.at.told a.at.stands there) a.at.stands
+      left = a.at.told ∙ ap Some (one by (bytes_before s.text s.rest) s.rest a.at.now b.at.now (λ is. full is s a.at.now b.at.now a.at.is_open a.at.told b.at.told a.at.stands there) a.at.stands
           there) ∙ sym b.at.told;
     }
   where
-    full : f ≡ fault.Limit limit.Bytes → (s : Stream) (x y : List ℕ) → p.stream ≡ Some s → l ≡ Some x → k ≡ Some y → stops f (place s.text s.rest) s.rest x
-        → stops f (place s.text s.rest) s.rest y → x ≡ y
+    full : f ≡ fault.Limit limit.Bytes → (s : Stream) (x y : List ℕ) → p.stream ≡ Some s → l ≡ Some x → k ≡ Some y → stops f (bytes_before s.text s.rest) s.rest x
+        → stops f (bytes_before s.text s.rest) s.rest y → x ≡ y
     full is s x y open_here left left' a b =
-        let P : List ℕ → RunFault → Type 0 = λ now g. stops g (place s.text s.rest) s.rest now in
-        full_same p s l k x y fitted open_here left left' (asking (place s.text s.rest) s.rest x (subst (P x) is a)) (asking (place s.text s.rest) s.rest y (subst (P y) is b))
+        let P : List ℕ → RunFault → Type 0 = λ now g. stops g (bytes_before s.text s.rest) s.rest now in
+        full_same p s l k x y fitted open_here left left' (asking (bytes_before s.text s.rest) s.rest x (subst (P x) is a)) (asking (bytes_before s.text s.rest) s.rest y (subst (P y) is b))
         (subst (λ (g : RunFault). IsCounted g p l) is c) (subst (λ (g : RunFault). IsCounted g p k) is d)
 
 -- in the files of operands
@@ -129,8 +129,8 @@ place_behind e n m l k none same = record { name = λ tells. absurd (none tells)
 pub one_place_in_streams : OneStanding → (plan : Plan) (ops : List Automaton) (e : End) (p : Point) (n m : List ℕ) (l k : Option (List ℕ)) → IsByText e → IsFitted p
     → EndsAt plan ops e n p l → EndsAt plan ops e m p k → IsOnePlace e n m l k
 one_place_in_streams one plan ops (end.Fault f) p n m l k by fitted x y =
-    one_place (asks_on plan p.kept ≡ true) (StopsAt (λ which w. IsOver which plan ops w)) f p n m l k by fitted (λ start rest now h. h)
-    (one_left one (λ which w. IsOver which plan ops w) f) x.0 x.1 y.0 y.1
+    one_place (asks_on plan p.kept ≡ true) (StopsReading (λ which w. IsOverLimit which plan ops w)) f p n m l k by fitted (λ start rest now h. h)
+    (one_left one (λ which w. IsOverLimit which plan ops w) f) x.0 x.1 y.0 y.1
 one_place_in_streams one plan ops end.Output p n m l k by fitted x y = place_behind end.Output n m l k (λ tells. tells) (x.1 ∙ sym y.1)
 one_place_in_streams one plan ops end.NoneOutput p n m l k by fitted x y = place_behind end.NoneOutput n m l k (λ tells. tells) (x.1 ∙ sym y.1)
 one_place_in_streams one plan ops end.Aborts p n m l k by fitted x y = place_behind end.Aborts n m l k (λ tells. tells) (x.1 ∙ sym y.1)

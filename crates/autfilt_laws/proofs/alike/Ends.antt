@@ -14,17 +14,17 @@ use Rattle.autfilt_laws.proofs.alike.Looks.{look_at, look_behind, look_over}
 use Rattle.autfilt_laws.proofs.alike.Steps.{one_next}
 use Rattle.autfilt_laws.proofs.alike.Verdicts.{AreOne, dropped_is_within, kept_is_within, one_over}
 use Rattle.autfilt_laws.specs.Runs.{AreLike, IsByText}
-use Rattle.autfilt_run.specs.Events.{AreJudged, Dropped, Ended, Event, Goes, Happen, IsJudged, Kept, Opened, Point, Skipped}
-use Rattle.autfilt_run.specs.Over.{IsOver}
+use Rattle.autfilt_run.specs.Events.{AreJudged, Dropped, Ended, Event, EventLeads, Happen, IsEventJudged, Kept, Opened, Point, Skipped}
+use Rattle.autfilt_run.specs.Over.{IsOverLimit}
 use Rattle.autfilt_run.specs.Plans.{asks_on}
-use Rattle.autfilt_run.specs.Runs.{IsDone, StopsAt}
+use Rattle.autfilt_run.specs.Runs.{IsDone, StopsReading}
 use Rattle.autfilt_run.specs.declared.fault.RunFault.{RunFault}
 use Rattle.filter_plan.specs.declared.plan.Plan.{Plan}
 use Rattle.hoa_parser.specs.Standing.{OneStanding}
 
 -- what a plan asks of the automata of its streams
 abbrev pub in_streams : Plan → List Automaton → Asking
-in_streams plan ops = record { over = λ which w. IsOver which plan ops w; blank = λ f. ⊥ }
+in_streams plan ops = record { over = λ which w. IsOverLimit which plan ops w; blank = λ f. ⊥ }
 
 pub one_in_streams : AreOne → (plan : Plan) (ops : List Automaton) → IsOneAsking (in_streams plan ops)
 one_in_streams plain plan ops = record {
@@ -49,13 +49,13 @@ ends_at plan ops passed end.NoneOutput events name p left by fitted t h = (h.0, 
 ends_at plan ops passed end.Aborts events name p left by fitted t h = (h.0, t)
 ends_at plan ops passed end.Usage events name p left by fitted t h = absurd by
 ends_at plan ops passed (end.Fault f) events name p left by fitted t h =
-    let named = at_named (asks_on plan p.kept ≡ true) (StopsAt (λ which w. IsOver which plan ops w)) f name p left by h.0 in
+    let named = at_named (asks_on plan p.kept ≡ true) (StopsReading (λ which w. IsOverLimit which plan ops w)) f name p left by h.0 in
     stopped (asks_on plan p.kept ≡ true) (in_streams plan ops) f p left by fitted named.at h.1
 
 -- ---- nothing happens where the run has ended
 
 none_behind : OneStanding → AreOne → (plan : Plan) (ops : List Automaton) (texts : Texts) (f : RunFault) (e : Event) (p q : Point)
-    → Halted (asks_on plan p.kept ≡ true) (in_streams plan ops) p f → IsJudged plan ops e → Goes texts e p q → ⊥
+    → Halted (asks_on plan p.kept ≡ true) (in_streams plan ops) p f → IsEventJudged plan ops e → EventLeads texts e p q → ⊥
 none_behind one plain plan ops texts f (Opened n) p q h j g = let none : None ≡ Some h.stream = sym g.closed ∙ h.is_open in cc
 none_behind one plain plan ops texts f (Kept w t) p q h j g =
     unfit_whole (in_streams plan ops) w g.next f (halted_look one (asks_on plan p.kept ≡ true) (in_streams plan ops) p q f _ _ h (look_at p q w (p.kept + 1) g)) g.stands.valid g.stands.within
@@ -66,25 +66,25 @@ none_behind one plain plan ops texts f (Dropped w) p q h j g =
 none_behind one plain plan ops texts f (Skipped n) p q h j g = halted_look one (asks_on plan p.kept ≡ true) (in_streams plan ops) p q f _ _ h (look_over p q n g)
 none_behind one plain plan ops texts f Ended p q h j g = halted_look one (asks_on plan p.kept ≡ true) (in_streams plan ops) p q f _ _ h (look_behind p q g)
 
-no_more : OneStanding → AreOne → (plan : Plan) (ops : List Automaton) (texts : Texts) (f : RunFault) (e : Event) (p q : Point) → IsFitted p → IsStopped plan ops p f → IsJudged plan ops e
-    → Goes texts e p q
+no_more : OneStanding → AreOne → (plan : Plan) (ops : List Automaton) (texts : Texts) (f : RunFault) (e : Event) (p q : Point) → IsFitted p → IsStopped plan ops p f → IsEventJudged plan ops e
+    → EventLeads texts e p q
     → ⊥
 no_more one plain plan ops texts f e p q fitted (inl h) j g = none_behind one plain plan ops texts f e p q h.halted j g
 no_more one plain plan ops texts f e p q fitted (inr h) j g = full_goes texts e p q fitted h.full g
 
-closed_goes : (texts : Texts) (e : Event) (p q : Point) → p.stream ≡ None → p.coming ≡ [] → Goes texts e p q → ⊥
+closed_goes : (texts : Texts) (e : Event) (p q : Point) → p.stream ≡ None → p.coming ≡ [] → EventLeads texts e p q → ⊥
 closed_goes texts (Opened n) p q closed none g = let all : (n ∷ g.others) ≡ [] = sym g.next ∙ none in cc
 closed_goes texts (Kept w t) p q closed none g = let some : None ≡ Some g.stream = sym closed ∙ g.is_open in cc
 closed_goes texts (Dropped w) p q closed none g = let some : None ≡ Some g.stream = sym closed ∙ g.is_open in cc
 closed_goes texts (Skipped n) p q closed none g = let some : None ≡ Some g.reads.stream = sym closed ∙ g.reads.is_open in cc
 closed_goes texts Ended p q closed none g = let some : None ≡ Some g.stream = sym closed ∙ g.is_open in cc
 
-done_goes : (plan : Plan) (texts : Texts) (e : Event) (p q : Point) → IsDone plan p → asks_on plan p.kept ≡ true → Goes texts e p q → ⊥
+done_goes : (plan : Plan) (texts : Texts) (e : Event) (p q : Point) → IsDone plan p → asks_on plan p.kept ≡ true → EventLeads texts e p q → ⊥
 done_goes plan texts e p q (inl reached) asks g = false≢true (sym reached ∙ asks)
 done_goes plan texts e p q (inr h) asks g = closed_goes texts e p q h.0 h.1 g
 
 nothing_more : OneStanding → AreOne → (plan : Plan) (ops : List Automaton) (passed : ℕ) (texts : Texts) (events : List Event) (d : End) (e : Event) (p q : Point)
-    → IsFitted p → Ends plan ops passed p events d → IsJudged plan ops e → asks_on plan p.kept ≡ true → Goes texts e p q → ⊥
+    → IsFitted p → Ends plan ops passed p events d → IsEventJudged plan ops e → asks_on plan p.kept ≡ true → EventLeads texts e p q → ⊥
 nothing_more one plain plan ops passed texts events (end.Fault f) e p q fitted h j asks g = no_more one plain plan ops texts f e p q fitted h j g
 nothing_more one plain plan ops passed texts events end.Output e p q fitted h j asks g = done_goes plan texts e p q h.0 asks g
 nothing_more one plain plan ops passed texts events end.NoneOutput e p q fitted h j asks g = done_goes plan texts e p q h.0 asks g

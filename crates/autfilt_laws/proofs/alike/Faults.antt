@@ -9,9 +9,9 @@ use Rattle.autfilt_laws.proofs.alike.Limits.{no_count, one_limit}
 use Rattle.autfilt_laws.proofs.alike.Looks.{Look, one_standing_in}
 use Rattle.autfilt_laws.specs.Runs.{IsByText}
 use Rattle.autfilt_run.proofs.handling.PassedLimits.{told_bytes, told_depth}
-use Rattle.autfilt_run.specs.Events.{Point, Stream, place}
+use Rattle.autfilt_run.specs.Events.{Point, Stream, bytes_before}
 use Rattle.autfilt_run.specs.Faults.{Told, AtToken, AtByte, OfWhole, when_told}
-use Rattle.autfilt_run.specs.Runs.{AtStream, IsCounted, StandsWith, StopsAt, StopsAtLimit, StopsAtOperand}
+use Rattle.autfilt_run.specs.Runs.{AtStream, IsCounted, StandsWith, StopsReading, StopsAtLimit, StopsAtOperand}
 use Rattle.autfilt_run.specs.declared.fault.RunFault.{RunFault}
 use Rattle.autfilt_run.specs.declared.fault.RunFault.TheVariants as fault
 use Rattle.hoa_parser.specs.Raw.{Written}
@@ -82,7 +82,7 @@ pub record Halted (on : Type 0) (a : Asking) (p : Point) (f : RunFault) : Type 0
   pub stream : Stream
   pub is_open : p.stream ≡ Some stream
   pub what : Standing
-  pub stands : Stands what (place stream.text stream.rest) stream.rest
+  pub stands : Stands what (bytes_before stream.text stream.rest) stream.rest
   pub fits : Fits a what f
 
 pub both_halted : OneStanding → (on : Type 0) (a : Asking) → IsOneAsking a → (p : Point) (f g : RunFault) → Halted on a p f → Halted on a p g → f ≡ g
@@ -113,7 +113,7 @@ shown_at a which AtToken start rest left is none h = record { what = standing.De
 shown_at a which AtByte start rest left is none h = absurd (none refl)
 shown_at a which OfWhole start rest left is none h = past a which start rest left h
 
-shown : (a : Asking) (f : RunFault) (start : ℕ) (rest left : List ℕ) → IsByText (end.Fault f) → (f ≡ fault.Limit limit.Bytes → ⊥) → StopsAt (λ which w. a.over which w) f start rest left
+shown : (a : Asking) (f : RunFault) (start : ℕ) (rest left : List ℕ) → IsByText (end.Fault f) → (f ≡ fault.Limit limit.Bytes → ⊥) → StopsReading (λ which w. a.over which w) f start rest left
     → Shown a start rest f
 shown a (fault.SyntaxAt k) start rest left by other h = record { what = standing.Bad k; stands = h.bad; fits = refl }
 shown a fault.Truncated start rest left by other h = record { what = standing.Cut; stands = h.cut; fits = refl }
@@ -125,9 +125,9 @@ shown a fault.WriteFault start rest left by other h = absurd by
 shown a fault.Memory start rest left by other h = absurd by
 
 halted : (on : Type 0) (a : Asking) (f : RunFault) (p : Point) (left : Option (List ℕ)) → IsByText (end.Fault f) → (f ≡ fault.Limit limit.Bytes → ⊥)
-    → AtStream on p left (StopsAt (λ which w. a.over which w) f) → Halted on a p f
+    → AtStream on p left (StopsReading (λ which w. a.over which w) f) → Halted on a p f
 halted on a f p left by other h =
-    let x = shown a f (place h.stream.text h.stream.rest) h.stream.rest h.now by other h.stands in
+    let x = shown a f (bytes_before h.stream.text h.stream.rest) h.stream.rest h.now by other h.stands in
     record { asks = h.asks; stream = h.stream; is_open = h.is_open; what = x.what; stands = x.stands; fits = x.fits }
 
 -- ---- or the limit of bytes ended it
@@ -166,10 +166,10 @@ is_bytes : (f : RunFault) → (f ≡ fault.Limit limit.Bytes) ⊎ (f ≡ fault.L
 is_bytes (fault.Limit limit.Bytes) = inl refl
 is_bytes _ = inr (λ e. cc)
 
-asking_bytes : (over : Limit → Written → Type 0) (f : RunFault) → f ≡ fault.Limit limit.Bytes → (start : ℕ) (rest now : List ℕ) → StopsAt over f start rest now → AsksOn start rest now
-asking_bytes over f is start rest now h = subst (λ (g : RunFault). StopsAt over g start rest now) is h
+asking_bytes : (over : Limit → Written → Type 0) (f : RunFault) → f ≡ fault.Limit limit.Bytes → (start : ℕ) (rest now : List ℕ) → StopsReading over f start rest now → AsksOn start rest now
+asking_bytes over f is start rest now h = subst (λ (g : RunFault). StopsReading over g start rest now) is h
 
-pub stopped : (on : Type 0) (a : Asking) (f : RunFault) (p : Point) (left : Option (List ℕ)) → IsByText (end.Fault f) → IsFitted p → AtStream on p left (StopsAt (λ which w. a.over which w) f)
+pub stopped : (on : Type 0) (a : Asking) (f : RunFault) (p : Point) (left : Option (List ℕ)) → IsByText (end.Fault f) → IsFitted p → AtStream on p left (StopsReading (λ which w. a.over which w) f)
     → IsCounted f p left → Stopped on a p f
 stopped on a f p left by fitted h c = go (is_bytes f)
   where
@@ -179,7 +179,7 @@ stopped on a f p left by fitted h c = go (is_bytes f)
         inr (record {
           asks = h.asks;
           is = is;
-          full = one_full on (StopsAt (λ which w. a.over which w) f) p left (asking_bytes (λ which w. a.over which w) f is) h (subst (λ (g : RunFault). IsCounted g p left) is c);
+          full = one_full on (StopsReading (λ which w. a.over which w) f) p left (asking_bytes (λ which w. a.over which w) f is) h (subst (λ (g : RunFault). IsCounted g p left) is c);
         })
 
 -- ---- where an operand is read
@@ -216,7 +216,7 @@ stopped_in_operand f p left by fitted h c = go (is_bytes f)
   where
     go : (f ≡ fault.Limit limit.Bytes) ⊎ (f ≡ fault.Limit limit.Bytes → ⊥) → Stopped (Unit {0}) in_operands p f
     go (inr other) =
-        let x = shown_in_operand f (place h.stream.text h.stream.rest) h.stream.rest h.now by other h.stands in
+        let x = shown_in_operand f (bytes_before h.stream.text h.stream.rest) h.stream.rest h.now by other h.stands in
         inl (record {
           halted = record { asks = h.asks; stream = h.stream; is_open = h.is_open; what = x.what; stands = x.stands; fits = x.fits };
           within = full_apart_there (Unit {0}) p left fitted f by h c other;

@@ -1,7 +1,7 @@
 -- Events that are alike up to texts that a plan doesn't decide.
 use Rattle.std.proofs.Common.{◌≡◌, ◌⊎◌, ◌∙◌, List, [], ◌∷◌, ap, inl, inr, refl, subst, sym}
 use Rattle.autfilt_laws.specs.Runs.{AreFirst, AreLike, DecidesTexts, IsLike}
-use Rattle.autfilt_run.specs.Events.{Dropped, Ended, Event, Kept, Opened, Skipped, Tally, counted, tally_from}
+use Rattle.autfilt_run.specs.Events.{Dropped, Ended, Event, Kept, Opened, Skipped, Tally, tally_with, tally_from}
 use Rattle.filter_plan.specs.declared.plan.Plan.{Plan}
 
 pub like_back : (plan : Plan) (e f : Event) → IsLike plan e f → IsLike plan f e
@@ -35,18 +35,18 @@ none_like plan [] (f ∷ fs) a b = cc
 none_like plan (e ∷ es) fs a b = cc
 
 -- as many are kept and skipped
-counted_like : (plan : Plan) (t : Tally) (e f : Event) → IsLike plan e f → counted t f ≡ counted t e
-counted_like plan t (Opened name) f h = ap (counted t) h
-counted_like plan t (Kept w text) f h = ap (counted t) h.1
-counted_like plan t (Dropped w) f h = ap (counted t) h
-counted_like plan t (Skipped name) f h = ap (counted t) h
-counted_like plan t Ended f h = ap (counted t) h
+counted_like : (plan : Plan) (t : Tally) (e f : Event) → IsLike plan e f → tally_with t f ≡ tally_with t e
+counted_like plan t (Opened name) f h = ap (tally_with t) h
+counted_like plan t (Kept w text) f h = ap (tally_with t) h.1
+counted_like plan t (Dropped w) f h = ap (tally_with t) h
+counted_like plan t (Skipped name) f h = ap (tally_with t) h
+counted_like plan t Ended f h = ap (tally_with t) h
 
 pub tally_like : (plan : Plan) (t : Tally) (es fs : List Event) → AreLike plan es fs → tally_from t fs ≡ tally_from t es
 tally_like plan t [] [] h = refl
 tally_like plan t [] (f ∷ fs) h = absurd h
 tally_like plan t (e ∷ es) [] h = absurd h
-tally_like plan t (e ∷ es) (f ∷ fs) h = ap (λ x. tally_from x fs) (counted_like plan t e f h.0) ∙ tally_like plan (counted t e) es fs h.1
+tally_like plan t (e ∷ es) (f ∷ fs) h = ap (λ x. tally_from x fs) (counted_like plan t e f h.0) ∙ tally_like plan (tally_with t e) es fs h.1
 
 -- ---- the first of a list
 

@@ -1,7 +1,7 @@
 -- What stands at the rest of the open file, and where it leads.
 use Rattle.std.proofs.Common.{◌≡◌, ℕ, List, [], Option, Some, None, sym, ap, ◌∙◌, subst}
 use Rattle.aut_io.specs.Outside.{Texts}
-use Rattle.autfilt_run.specs.Events.{EndsStream, IsGood, OpensStream, PassesOver, Point, ReadsOn, Stream, ended_at, place, read_on}
+use Rattle.autfilt_run.specs.Events.{EndsStream, IsGood, OpensStream, PassesOver, Point, ReadsOn, Stream, at_stream_end, bytes_before, read_on}
 use Rattle.autfilt_run.specs.OperandEvents.{TakesOperand, taken_at}
 use Rattle.hoa_parser.specs.Raw.{Written}
 use Rattle.hoa_parser.specs.Standing as standing
@@ -12,7 +12,7 @@ pub record Look (p : Point) (what : List ℕ → Standing) (to : Stream → List
   pub stream : Stream
   pub is_open : p.stream ≡ Some stream
   pub next : List ℕ
-  pub stands : Stands (what next) (place stream.text stream.rest) stream.rest
+  pub stands : Stands (what next) (bytes_before stream.text stream.rest) stream.rest
   pub goes : q ≡ to stream next
 
 abbrev pub look_at : (p q : Point) (w : Written) (kept : ℕ) → ReadsOn p (λ start rest next. IsGood start rest w next) kept q → Look p (λ x. standing.Whole w x) (λ s x. read_on p s x kept) q
@@ -21,7 +21,7 @@ look_at p q w kept h = record { stream = h.stream; is_open = h.is_open; next = h
 abbrev pub look_over : (p q : Point) (name : List ℕ) → PassesOver name p q → Look p (λ x. standing.Aborted x) (λ s x. read_on p s x p.kept) q
 look_over p q name h = record { stream = h.reads.stream; is_open = h.reads.is_open; next = h.reads.next; stands = h.reads.stands; goes = h.reads.to }
 
-abbrev pub look_behind : (p q : Point) → EndsStream p q → Look p (λ x. standing.Blank) (λ s x. ended_at p s) q
+abbrev pub look_behind : (p q : Point) → EndsStream p q → Look p (λ x. standing.Blank) (λ s x. at_stream_end p s) q
 look_behind p q h = record { stream = h.stream; is_open = h.is_open; next = []; stands = h.blank; goes = h.to }
 
 abbrev pub look_taken : (p q : Point) (w : Written) → TakesOperand w p q → Look p (λ x. standing.Whole w x) (λ s x. taken_at p s x) q
@@ -33,11 +33,11 @@ pub one_stream : (o : Option Stream) (s t : Stream) → o ≡ Some s → o ≡ S
 one_stream o s t a b = let same : Some s ≡ Some t = sym a ∙ b in cc
 
 -- what stands in the one open file
-pub one_standing_in : OneStanding → (o : Option Stream) (s t : Stream) (a b : Standing) → o ≡ Some s → o ≡ Some t → Stands a (place s.text s.rest) s.rest
-    → Stands b (place t.text t.rest) t.rest → a ≡ b
+pub one_standing_in : OneStanding → (o : Option Stream) (s t : Stream) (a b : Standing) → o ≡ Some s → o ≡ Some t → Stands a (bytes_before s.text s.rest) s.rest
+    → Stands b (bytes_before t.text t.rest) t.rest → a ≡ b
 one_standing_in one o s t a b is is' x y =
-    let P : Stream → Type 0 = λ z. Stands b (place z.text z.rest) z.rest in
-    one (place s.text s.rest) s.rest a b x (subst P (sym (one_stream o s t is is')) y)
+    let P : Stream → Type 0 = λ z. Stands b (bytes_before z.text z.rest) z.rest in
+    one (bytes_before s.text s.rest) s.rest a b x (subst P (sym (one_stream o s t is is')) y)
 
 pub one_look : OneStanding → (p q r : Point) (W V : List ℕ → Standing) (F G : Stream → List ℕ → Point) (a : Look p W F q) (b : Look p V G r) → W a.next ≡ V b.next
 one_look one p q r W V F G a b = one_standing_in one p.stream a.stream b.stream (W a.next) (V b.next) a.is_open b.is_open a.stands b.stands

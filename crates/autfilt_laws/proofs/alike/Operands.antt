@@ -2,7 +2,7 @@
 use Rattle.std.proofs.Common.{◌≡◌, ◌⊎◌, ℕ, List, [], ◌∷◌, ◌++◌, refl, sym, ap, ◌∙◌, subst, inl, inr}
 use Rattle.aut_io.specs.Outside.{Texts, text_of}
 use Rattle.autfilt_laws.proofs.alike.Looks.{Look, aborted_is, look_over, look_taken, one_look, one_point, one_stream, unopened, whole_is}
-use Rattle.autfilt_laws.specs.Runs.{OneOperandFront}
+use Rattle.autfilt_laws.specs.Runs.{OperandRunsAgree}
 use Rattle.autfilt_run.specs.Events.{OpensStream, PassesOver, Point, Stream, opened_at}
 use Rattle.autfilt_run.specs.OperandEvents.{AreRead, FileOpened, OperandEvent, PassedOver, Proceeds, Taken, taken_at}
 use Rattle.hoa_parser.specs.Raw.{Written}
@@ -54,7 +54,7 @@ longer : (e f : OperandEvent) (es fs : List OperandEvent) → e ≡ f → ((more
 longer e f es fs same (inl h) = inl (h.0, ap (λ x. f ∷ x) h.1 ∙ ap (λ x. x ∷ (es ++ h.0)) (sym same))
 longer e f es fs same (inr h) = inr (h.0, ap (λ x. e ∷ x) h.1 ∙ ap (λ x. x ∷ (fs ++ h.0)) same)
 
-pub one_operand_front : OneStanding → OneOperandFront
+pub one_operand_front : OneStanding → OperandRunsAgree
 one_operand_front one texts [] fs p q r a b = inl (fs, refl)
 one_operand_front one texts (e ∷ es) [] p q r a b = inr (e ∷ es, refl)
 one_operand_front one texts (e ∷ es) (f ∷ fs) p q r a b =

@@ -12,10 +12,10 @@ use Rattle.autfilt_laws.proofs.alike.Full.{fitted_happen, fitted_start}
 use Rattle.autfilt_laws.proofs.alike.OperandEnds.{IsStoppedIn}
 use Rattle.autfilt_laws.proofs.alike.Runs.{is_stopped}
 use Rattle.autfilt_laws.specs.Runs.{AreReadable, Completes, EndsBefore, EndsInStreams, IsByText, IsReadable, Outcome, left_or, streams_from, texts_or}
-use Rattle.autfilt_run.specs.Events.{Event, Point, Stream, place}
-use Rattle.autfilt_run.specs.OperandEvents.{all_passed, operands_of}
-use Rattle.autfilt_run.specs.Over.{IsOver}
-use Rattle.autfilt_run.specs.Plans.{asks_on, streams_of}
+use Rattle.autfilt_run.specs.Events.{Event, Point, Stream, bytes_before}
+use Rattle.autfilt_run.specs.OperandEvents.{all_passed, operands_read}
+use Rattle.autfilt_run.specs.Over.{IsOverLimit}
+use Rattle.autfilt_run.specs.Plans.{asks_on, plan_streams}
 use Rattle.autfilt_run.specs.declared.fault.RunFault.{RunFault}
 use Rattle.autfilt_run.specs.declared.fault.RunFault.TheVariants as fault
 use Rattle.filter_plan.specs.declared.plan.Plan.{Plan}
@@ -29,19 +29,19 @@ readable_fits one a start rest what f stands fits (inl good) =
     unfit_whole a good.0 good.1 f (subst (λ (x : Standing). Fits a x f) (one start rest what (standing.Whole good.0 good.1) stands good.2.whole) fits) good.2.valid good.2.within good.3
 readable_fits one a start rest what f stands fits (inr aborted) = subst (λ (x : Standing). Fits a x f) (one start rest what (standing.Aborted aborted.0) stands aborted.1) fits
 
-not_halted : OneStanding → (on : Type 0) (a : Asking) (p : Point) (f : RunFault) → (h : Halted on a p f) → IsReadable a.over (place h.stream.text h.stream.rest) h.stream.rest → ⊥
-not_halted one on a p f h readable = readable_fits one a (place h.stream.text h.stream.rest) h.stream.rest h.what f h.stands h.fits readable
+not_halted : OneStanding → (on : Type 0) (a : Asking) (p : Point) (f : RunFault) → (h : Halted on a p f) → IsReadable a.over (bytes_before h.stream.text h.stream.rest) h.stream.rest → ⊥
+not_halted one on a p f h readable = readable_fits one a (bytes_before h.stream.text h.stream.rest) h.stream.rest h.what f h.stands h.fits readable
 
 -- what is left of a stream in which only blanks may be left, too
 abbrev IsFair : Plan → List Automaton → Stream → Type 0
-IsFair plan ops s = IsBlanks s.rest ⊎ IsReadable (λ which w. IsOver which plan ops w) (place s.text s.rest) s.rest
+IsFair plan ops s = IsBlanks s.rest ⊎ IsReadable (λ which w. IsOverLimit which plan ops w) (bytes_before s.text s.rest) s.rest
 
 not_halted_here : OneStanding → (plan : Plan) (ops : List Automaton) (p : Point) (f : RunFault)
     → (asks_on plan p.kept ≡ true → (s : Stream) → p.stream ≡ Some s → IsFair plan ops s) → Halted (asks_on plan p.kept ≡ true) (in_streams plan ops) p f → ⊥
 not_halted_here one plan ops p f readable h = go (readable h.asks h.stream h.is_open)
   where
     go : IsFair plan ops h.stream → ⊥
-    go (inl blank) = subst (λ (x : Standing). Fits (in_streams plan ops) x f) (one (place h.stream.text h.stream.rest) h.stream.rest h.what standing.Blank h.stands blank) h.fits
+    go (inl blank) = subst (λ (x : Standing). Fits (in_streams plan ops) x f) (one (bytes_before h.stream.text h.stream.rest) h.stream.rest h.what standing.Blank h.stands blank) h.fits
     go (inr good) = not_halted one _ (in_streams plan ops) p f h good
 
 not_stopped : OneStanding → (plan : Plan) (ops : List Automaton) (p : Point) (f : RunFault) → (f ≡ fault.Limit limit.Bytes → ⊥)
@@ -72,9 +72,9 @@ not_before one plan texts left o readable by other h = go (is_stopped plan texts
 behind : OneStanding → (plan : Plan) (texts : Texts) (left : Option (List ℕ)) (o : Outcome) → AreReadable plan texts left → IsByText o.end → IsOther o.end
     → EndsInStreams plan texts left o → o.end ≡ end_of (tally_after (length (all_passed o.taken)) o.events)
 behind one plan texts left o readable by other h =
-    let ops = operands_of o.taken in
+    let ops = operands_read o.taken in
     let passed = length (all_passed o.taken) in
-    let begins = fitted_start (streams_of plan) (left_or plan.made h.point.left) h.point.before in
+    let begins = fitted_start (plan_streams plan) (left_or plan.made h.point.left) h.point.before in
     let fitted = fitted_happen plan (texts_or plan.made texts) o.events (streams_from plan h.point) h.runs.point begins h.runs.happen in
     read_all one plan ops passed h.runs.point o.events o.end other
     (λ asks s is. readable.streams o.taken h.point h.read o.events h.runs.point s h.judged h.runs.happen asks is)

@@ -11,10 +11,10 @@ use Rattle.autfilt_laws.proofs.alike.Full.{IsFitted, fitted_happen, fitted_read,
 use Rattle.autfilt_laws.proofs.alike.Like.{are_same, none_like}
 use Rattle.autfilt_laws.proofs.alike.OperandEnds.{IsStoppedIn, IsThrough, not_through, one_fault, same_operands, stopped_there}
 use Rattle.autfilt_laws.proofs.alike.Verdicts.{AreOne}
-use Rattle.autfilt_laws.specs.Runs.{AreLike, AreSame, EndsBefore, EndsInStreams, IsByText, OneEnd, Outcome, left_or, streams_from, texts_or}
+use Rattle.autfilt_laws.specs.Runs.{AreLike, AreSame, EndsBefore, EndsInStreams, IsByText, RunsEndAlike, Outcome, left_or, streams_from, texts_or}
 use Rattle.autfilt_run.specs.Events.{AreJudged, Happen, Point, start_of}
-use Rattle.autfilt_run.specs.OperandEvents.{OperandEvent, all_passed, operands_of}
-use Rattle.autfilt_run.specs.Plans.{streams_of}
+use Rattle.autfilt_run.specs.OperandEvents.{OperandEvent, all_passed, operands_read}
+use Rattle.autfilt_run.specs.Plans.{plan_streams}
 use Rattle.autfilt_run.specs.Runs.{IsCounted, StopsInOperands}
 use Rattle.autfilt_run.specs.declared.fault.RunFault.{RunFault}
 use Rattle.filter_plan.specs.Words.{operands}
@@ -83,22 +83,23 @@ not_mixed one plan texts left a b x s t =
 -- the same of a run that ended in the streams, where these operands were taken before
 record StreamsEnd (plan : Plan) (texts : Texts) (taken : List OperandEvent) (first : Point) (o : Outcome) : Type 0 where
   point : Point
-  judged : AreJudged plan (operands_of taken) o.events
+  judged : AreJudged plan (operands_read taken) o.events
   happen : Happen plan (texts_or plan.made texts) o.events (streams_from plan first) point
   tallied : EndsByTally o.end (length (all_passed taken)) o.events
-  ends : EndsAt plan (operands_of taken) o.end o.name point o.left
+  ends : EndsAt plan (operands_read taken) o.end o.name point o.left
 
 streams_end : (plan : Plan) (texts : Texts) (left : Option (List ℕ)) (o : Outcome) → (h : EndsInStreams plan texts left o) → StreamsEnd plan texts o.taken h.point o
 streams_end plan texts left o h = record { point = h.runs.point; judged = h.judged; happen = h.runs.happen; tallied = h.tallied; ends = h.runs.ends }
 
 fitted_behind : (plan : Plan) (texts : Texts) (taken : List OperandEvent) (first : Point) (o : Outcome) → (s : StreamsEnd plan texts taken first o) → IsFitted s.point
 fitted_behind plan texts taken first o s =
-    fitted_happen plan (texts_or plan.made texts) o.events (streams_from plan first) s.point (fitted_start (streams_of plan) (left_or plan.made first.left) first.before) s.happen
+    fitted_happen plan (texts_or plan.made texts) o.events (streams_from plan first) s.point (fitted_start (plan_streams plan) (left_or plan.made first.left) first.before) s.happen
 
 -- what ended it
 ends_so : (plan : Plan) (texts : Texts) (taken : List OperandEvent) (first : Point) (o : Outcome) → IsByText o.end → (s : StreamsEnd plan texts taken first o)
-    → Ends plan (operands_of taken) (length (all_passed taken)) s.point o.events o.end
-ends_so plan texts taken first o by s = ends_at plan (operands_of taken) (length (all_passed taken)) o.end o.events o.name s.point o.left by (fitted_behind plan texts taken first o s) s.tallied s.ends
+    → Ends plan (operands_read taken) (length (all_passed taken)) s.point o.events o.end
+ends_so plan texts taken first o by s = ends_at plan (operands_read taken) (length (all_passed taken)) o.end o.events o.name s.point o.left by (fitted_behind plan texts taken first o s)
+    s.tallied s.ends
 
 -- what two such runs have alike
 record EndsAlike (plan : Plan) (a b : Outcome) : Type 0 where
@@ -109,7 +110,7 @@ record EndsAlike (plan : Plan) (a b : Outcome) : Type 0 where
 one_streams_end : OneStanding → AreOne → (plan : Plan) (texts : Texts) (taken : List OperandEvent) (first : Point) (a b : Outcome) → IsByText a.end → IsByText b.end
     → StreamsEnd plan texts taken first a → StreamsEnd plan texts taken first b → EndsAlike plan a b
 one_streams_end one plain plan texts taken first a b x y s t =
-    let ops = operands_of taken in
+    let ops = operands_read taken in
     let passed = length (all_passed taken) in
     let over = texts_or plan.made texts in
     let start = streams_from plan first in
@@ -117,7 +118,7 @@ one_streams_end one plain plan texts taken first a b x y s t =
     let d = ends_so plan texts taken first b y t in
     let same =
     same_events one plain plan ops passed over a.events b.events a.events b.events a.end b.end start s.point t.point
-    (fitted_start (streams_of plan) (left_or plan.made first.left) first.before) s.judged t.judged s.happen t.happen e d in
+    (fitted_start (plan_streams plan) (left_or plan.made first.left) first.before) s.judged t.judged s.happen t.happen e d in
     let there = subst (λ (z : Point). Ends plan ops passed z b.events b.end) (sym same.1) d in
     let ends = alike one plain plan ops passed s.point a.events a.end b.end x y e (ends_like plan ops passed s.point a.events b.events b.end same.0 there) in
     let here = subst (λ (z : Point). EndsAt plan ops b.end b.name z b.left) (sym same.1) t.ends in
@@ -136,8 +137,8 @@ both_behind one plain plan texts left a b x y s t =
     let alike = one_streams_end one plain plan texts a.taken s.point a b x y (streams_end plan texts left a s) here in
     all_same plan a b same.0 alike.like alike.ends alike.place
 
-pub one_end : OneStanding → AreOne → OneEnd
-one_end one plain plan texts left a b x y = go x.ran y.ran
+pub runs_end_alike : OneStanding → AreOne → RunsEndAlike
+runs_end_alike one plain plan texts left a b x y = go x.ran y.ran
   where
     go : EndsBefore plan texts left a ⊎ EndsInStreams plan texts left a → EndsBefore plan texts left b ⊎ EndsInStreams plan texts left b → AreSame plan a b
     go (inl s) (inl t) = both_before one plan texts left a b x.by_text y.by_text s t

@@ -11,13 +11,13 @@ use Rattle.autfilt_command.specs.declared.ended.End.{End}
 use Rattle.autfilt_command.specs.declared.ended.End.TheVariants as end
 use Rattle.autfilt_laws.proofs.alike.LeftBehind.{IsLeftBehind}
 use Rattle.autfilt_laws.specs.Runs.{EndsBefore, EndsInStreams, IsEnded, Outcome, streams_from, texts_or}
-use Rattle.autfilt_run.specs.Due.{IsDueWhere, IsMade, IsPrinted}
-use Rattle.autfilt_run.specs.Events.{AreJudged, Dropped, Ended, Event, IsJudged, Kept, Opened, Point, Skipped}
+use Rattle.autfilt_run.specs.Due.{IsDueWhere, IsResult, IsPrinted}
+use Rattle.autfilt_run.specs.Events.{AreJudged, Dropped, Ended, Event, IsEventJudged, Kept, Opened, Point, Skipped}
 use Rattle.autfilt_run.specs.Faults.{Told, AtToken, AtByte, OfWhole, when_told}
-use Rattle.autfilt_run.specs.OperandEvents.{OperandEvent, operands_of}
-use Rattle.autfilt_run.specs.Over.{IsOver, IsOverPrinting, StopsPrinting}
+use Rattle.autfilt_run.specs.OperandEvents.{OperandEvent, operands_read}
+use Rattle.autfilt_run.specs.Over.{IsOverLimit, IsOverPrinting, StopsPrinting}
 use Rattle.autfilt_run.specs.Plans.{prints_each}
-use Rattle.autfilt_run.specs.Runs.{AtNamed, StandsWith, Stops, StopsAt, StopsAtLimit}
+use Rattle.autfilt_run.specs.Runs.{AtNamed, StandsWith, StopsRun, StopsReading, StopsAtLimit}
 use Rattle.autfilt_run.specs.declared.fault.RunFault.{RunFault}
 use Rattle.autfilt_run.specs.declared.fault.RunFault.TheVariants as fault
 use Rattle.filter_plan.specs.Laws.{SamePlan}
@@ -44,15 +44,15 @@ module _ (over more : Limit → Written → Type 0) (wider : (which : Limit) (w 
   either which w (inl a) = inl a
   either which w (inr o) = inr (wider which w o)
 
-  at_limit : (which : Limit) (start : ℕ) (rest left : List ℕ) → StopsAt over (fault.Limit which) start rest left → StopsAt more (fault.Limit which) start rest left
-  at_limit which start rest left h = by (when_told which) h
+  at_limit : (which : Limit) (start : ℕ) (rest left : List ℕ) → StopsReading over (fault.Limit which) start rest left → StopsReading more (fault.Limit which) start rest left
+  at_limit which start rest left h = by_cases (when_told which) h
     where
-      by : (t : Told) → StopsAtLimit t (λ w. PassesLimit which w ⊎ over which w) start rest left → StopsAtLimit t (λ w. PassesLimit which w ⊎ more which w) start rest left
-      by AtToken h = h
-      by AtByte h = h
-      by OfWhole h = stands_with _ _ start rest left (either which) h
+      by_cases : (t : Told) → StopsAtLimit t (λ w. PassesLimit which w ⊎ over which w) start rest left → StopsAtLimit t (λ w. PassesLimit which w ⊎ more which w) start rest left
+      by_cases AtToken h = h
+      by_cases AtByte h = h
+      by_cases OfWhole h = stands_with _ _ start rest left (either which) h
 
-  at_fault : (f : RunFault) (start : ℕ) (rest left : List ℕ) → StopsAt over f start rest left → StopsAt more f start rest left
+  at_fault : (f : RunFault) (start : ℕ) (rest left : List ℕ) → StopsReading over f start rest left → StopsReading more f start rest left
   at_fault (fault.SyntaxAt k) start rest left h = h
   at_fault fault.Truncated start rest left h = h
   at_fault (fault.Invalid rule) start rest left h = h
@@ -62,7 +62,7 @@ module _ (over more : Limit → Written → Type 0) (wider : (which : Limit) (w 
   at_fault fault.CannotOpen start rest left h = h
   at_fault fault.WriteFault start rest left h = h
 
-  at_named : (on : Type 0) (f : RunFault) (p : Point) (name : List ℕ) (left : Option (List ℕ)) → AtNamed on p name left (StopsAt over f) → AtNamed on p name left (StopsAt more f)
+  at_named : (on : Type 0) (f : RunFault) (p : Point) (name : List ℕ) (left : Option (List ℕ)) → AtNamed on p name left (StopsReading over f) → AtNamed on p name left (StopsReading more f)
   at_named on f p name left h = record {
     at = record { asks = h.at.asks; stream = h.at.stream; is_open = h.at.is_open; now = h.at.now; told = h.at.told; stands = at_fault f _ _ _ h.at.stands };
     named = h.named;
@@ -95,22 +95,22 @@ module _ (q : Plan) (first second : Option Pattern) (same_first : option_map wor
   dropped : (ops : List Automaton) (a : Automaton) → IsDropped r ops a → IsDropped q ops a
   dropped ops a h = subst (λ (fs : List Filter). IsDroppedBy q.invert fs a) (same_filters ops) h
 
-  made : (ops : List Automaton) (w : Written) (m : Automaton) → IsMade r ops w m → IsMade q ops w m
-  made ops w m h = record { makes = h.makes; promises = h.promises; few_sets = λ is. few (h.few_sets is); accepts = h.accepts }
+  same_result : (ops : List Automaton) (w : Written) (m : Automaton) → IsResult r ops w m → IsResult q ops w m
+  same_result ops w m h = record { makes = h.makes; promises = h.promises; few_sets = λ is. few (h.few_sets is); accepts = h.accepts }
     where
       few : HasFewSetsUnder r ops (canonical (described w)) m → HasFewSetsUnder q ops (canonical (described w)) m
       few h = record { before = h.before; makes = h.makes; few = h.few }
 
   printed : (o : Output) (ops : List Automaton) (w : Written) (text : List ℕ) → IsPrinted o r ops w text → IsPrinted o q ops w text
-  printed Hoa ops w text h = record { made = h.made; is_made = made ops w h.made h.is_made; same = h.same; reads_as = h.reads_as }
-  printed (Stats pieces) ops w text h = record { made = h.made; is_made = made ops w h.made h.is_made; line = h.line }
+  printed Hoa ops w text h = record { same_result = h.made; is_made = same_result ops w h.made h.is_made; same = h.same; reads_as = h.reads_as }
+  printed (Stats pieces) ops w text h = record { same_result = h.made; is_made = same_result ops w h.made h.is_made; line = h.line }
   printed (Refute file) ops w text h = h
 
   due_where : (b : Bool) (ops : List Automaton) (w : Written) (text : List ℕ) → IsDueWhere b r ops w text → IsDueWhere b q ops w text
   due_where true ops w text h = printed q.output ops w text h
   due_where false ops w text h = h
 
-  judged : (ops : List Automaton) (e : Event) → IsJudged r ops e → IsJudged q ops e
+  judged : (ops : List Automaton) (e : Event) → IsEventJudged r ops e → IsEventJudged q ops e
   judged ops (Kept w text) h = (kept ops (described w) h.0, due_where (prints_each q) ops w text h.1)
   judged ops (Dropped w) h = dropped ops (described w) h
   judged ops (Opened name) h = tt
@@ -126,14 +126,14 @@ module _ (q : Plan) (first second : Option Pattern) (same_first : option_map wor
   stops_printing (Stats pieces) ops which a h = h
   stops_printing (Refute file) ops which a h = h
 
-  over : (ops : List Automaton) (which : Limit) (w : Written) → IsOver which r ops w → IsOver which q ops w
+  over : (ops : List Automaton) (which : Limit) (w : Written) → IsOverLimit which r ops w → IsOverLimit which q ops w
   over ops which w h = record { valid = h.valid; within = h.within; over = either h.over }
     where
       either : IsOverFilters which r ops (described w) ⊎ IsOverPrinting which r ops w → IsOverFilters which q ops (described w) ⊎ IsOverPrinting which q ops w
       either (inl f) = inl (subst (λ (fs : List Filter). PassesAt which fs (described w)) (same_filters ops) f)
       either (inr c) = inr (record { kept = kept ops (described w) c.kept; prints = c.prints; stops = stops_printing q.output ops which _ c.stops })
 
-  stops : (ops : List Automaton) (f : RunFault) (name : List ℕ) (p : Point) (left : Option (List ℕ)) → Stops r ops f name p left → Stops q ops f name p left
+  stops : (ops : List Automaton) (f : RunFault) (name : List ℕ) (p : Point) (left : Option (List ℕ)) → StopsRun r ops f name p left → StopsRun q ops f name p left
   stops ops fault.CannotOpen name p left h = h
   stops ops fault.WriteFault name p left h = h
   stops ops fault.Memory name p left h = h
@@ -169,15 +169,15 @@ module _ (q : Plan) (first second : Option Pattern) (same_first : option_map wor
   behind texts left o h = record {
     point = h.point;
     read = all_read texts left o.taken h.point h.read;
-    judged = all_judged (operands_of o.taken) o.events h.judged;
+    judged = all_judged (operands_read o.taken) o.events h.judged;
     tallied = h.tallied;
-    runs = runs_to (operands_of o.taken) (texts_or q.made texts) (streams_from q h.point) o.left o.events o.end o.name h.runs;
+    runs = runs_to (operands_read o.taken) (texts_or q.made texts) (streams_from q h.point) o.left o.events o.end o.name h.runs;
   }
 
   left_behind : (texts : Texts) (left : Option (List ℕ)) (o : Outcome) (now : Option (List ℕ)) → IsLeftBehind r texts left o now → IsLeftBehind q texts left o now
   left_behind texts left o now (inl (is, inl none)) = inl (is, inl none)
   left_behind texts left o now (inl (is, inr h)) = inl (is, inr (before texts left o h))
-  left_behind texts left o now (inr (made, point, read, is)) = inr (made, point, all_read texts left o.taken point read, is)
+  left_behind texts left o now (inr (same_result, point, read, is)) = inr (same_result, point, all_read texts left o.taken point read, is)
 
   ended : (texts : Texts) (left : Option (List ℕ)) (o : Outcome) → IsEnded r texts left o → IsEnded q texts left o
   ended texts left o h = record { by_text = h.by_text; ran = either h.ran }

@@ -5,9 +5,9 @@ use Rattle.aut_io.specs.Outside.{Texts, text_of}
 use Rattle.autfilt_laws.proofs.alike.Like.{longer, none_first}
 use Rattle.autfilt_laws.proofs.alike.Looks.{Look, aborted_is, look_at, look_behind, look_over, one_look, one_point, one_stream, unopened, whole_is}
 use Rattle.autfilt_laws.proofs.alike.Verdicts.{AreOne, kept_or_dropped, one_text}
-use Rattle.autfilt_laws.specs.Runs.{IsLike, OneFront}
+use Rattle.autfilt_laws.specs.Runs.{IsLike, RunsAgree}
 use Rattle.autfilt_run.specs.Due.{IsDue}
-use Rattle.autfilt_run.specs.Events.{Dropped, Ended, EndsStream, Event, Goes, Happen, IsJudged, Kept, Opened, OpensStream, PassesOver, Point, Skipped, Stream, opened_at, read_on}
+use Rattle.autfilt_run.specs.Events.{Dropped, Ended, EndsStream, Event, EventLeads, Happen, IsEventJudged, Kept, Opened, OpensStream, PassesOver, Point, Skipped, Stream, opened_at, read_on}
 use Rattle.filter_plan.specs.declared.plan.Plan.{Plan}
 use Rattle.hoa_parser.specs.Raw.{Written}
 use Rattle.hoa_parser.specs.Standing as standing
@@ -48,8 +48,8 @@ both_skipped plan p q r name other h k e =
 both_ended : (plan : Plan) (p q r : Point) → EndsStream p q → EndsStream p r → Same plan Ended Ended q r
 both_ended plan p q r h k = (refl, one_point p q r _ _ _ (look_behind p q h) (look_behind p r k) refl)
 
-pub one_next : OneStanding → AreOne → (plan : Plan) (ops : List Automaton) (texts : Texts) (e f : Event) (p q r : Point) → IsJudged plan ops e → IsJudged plan ops f → Goes texts e p q
-    → Goes texts f p r → Same plan e f q r
+pub one_next : OneStanding → AreOne → (plan : Plan) (ops : List Automaton) (texts : Texts) (e f : Event) (p q r : Point) → IsEventJudged plan ops e → IsEventJudged plan ops f → EventLeads texts e p q
+    → EventLeads texts f p r → Same plan e f q r
 one_next one plain plan ops texts (Opened n) (Opened m) p q r j i a b = both_open plan texts n m p q r a b
 one_next one plain plan ops texts (Opened n) (Kept v u) p q r j i a b = absurd (unopened texts n p q r _ _ a (look_at p r v (p.kept + 1) b))
 one_next one plain plan ops texts (Opened n) (Dropped v) p q r j i a b = absurd (unopened texts n p q r _ _ a (look_at p r v p.kept b))
@@ -86,9 +86,9 @@ one_next one plain plan ops texts Ended Ended p q r j i a b = both_ended plan p 
 
 -- ---- one list begins with the other
 
-pub one_front : OneStanding → AreOne → OneFront
-one_front one plain plan ops texts [] fs p q r j i a b = inl (none_first plan fs)
-one_front one plain plan ops texts (e ∷ es) [] p q r j i a b = inr (none_first plan (e ∷ es))
-one_front one plain plan ops texts (e ∷ es) (f ∷ fs) p q r j i a b =
+pub runs_agree : OneStanding → AreOne → RunsAgree
+runs_agree one plain plan ops texts [] fs p q r j i a b = inl (none_first plan fs)
+runs_agree one plain plan ops texts (e ∷ es) [] p q r j i a b = inr (none_first plan (e ∷ es))
+runs_agree one plain plan ops texts (e ∷ es) (f ∷ fs) p q r j i a b =
     let same = one_next one plain plan ops texts e f p a.1 b.1 j.0 i.0 a.2 b.2 in
-    longer plan e f es fs same.0 (one_front one plain plan ops texts es fs a.1 q r j.1 i.1 a.3 (subst (λ (x : Point). Happen plan texts fs x r) (sym same.1) b.3))
+    longer plan e f es fs same.0 (runs_agree one plain plan ops texts es fs a.1 q r j.1 i.1 a.3 (subst (λ (x : Point). Happen plan texts fs x r) (sym same.1) b.3))

@@ -8,9 +8,9 @@ use Rattle.aut_base.specs.CanonicalLabel.{canonical}
 use Rattle.aut_base.specs.declared.limit.Limit.{Limit}
 use Rattle.aut_ops.specs.Laws.{TrimmedIsDetermined}
 use Rattle.autfilt_laws.specs.Runs.{DecidesPrinted, DecidesTexts}
-use Rattle.autfilt_run.specs.Due.{IsDue, IsDueWhere, IsMade, IsPrinted, name_due}
+use Rattle.autfilt_run.specs.Due.{IsDue, IsDueWhere, IsResult, IsPrinted, name_due}
 use Rattle.autfilt_run.specs.Figures.{IsLine, IsShownAs, ShowsReached}
-use Rattle.autfilt_run.specs.Over.{IsOver, IsOverPrinting, StopsPrinting}
+use Rattle.autfilt_run.specs.Over.{IsOverLimit, IsOverPrinting, StopsPrinting}
 use Rattle.autfilt_run.specs.Plans.{prints_each}
 use Rattle.autfilt_run.specs.RefutationLine.{IsRefutationLine}
 use Rattle.filter_plan.specs.declared.format.Piece.{Piece}
@@ -23,14 +23,14 @@ use Rattle.hoa_reader.specs.Described.{described}
 use Rattle.hoa_writer.specs.CanonicalText.{canonical_text}
 use Rattle.plan_meaning.specs.Changes.{changes_of}
 use Rattle.plan_meaning.specs.Filters.{IsDropped, IsKept, IsOverFilters}
-use Rattle.plan_meaning.specs.Laws.{ChangesAreDetermined, OneLimitOfInclusion, OneVerdict, Verdict}
+use Rattle.plan_meaning.specs.Laws.{ChangesAreDetermined, OneLimitOfInclusion, VerdictIsOne, Verdict}
 use Rattle.plan_meaning.specs.Laws as verdict
 use Rattle.plan_meaning.specs.Limits.{PassesOfInclusion}
 use Rattle.plan_meaning.specs.Operands.{refuted_operand}
 
 -- what each plan says is one
 pub record AreOne : Type 0 where
-  pub verdict : OneVerdict
+  pub verdict : VerdictIsOne
   pub inclusion : OneLimitOfInclusion
   pub changes : ChangesAreDetermined
   pub trimmed : TrimmedIsDetermined
@@ -58,7 +58,7 @@ dropped_or_over one which plan ops a k o = dropped_is_over which (one.verdict pl
 -- ---- the text
 
 -- what is made of an automaton
-one_made : AreOne → (p : Plan) (ops : List Automaton) (w : Written) (m n : Automaton) → IsMade p ops w m → IsMade p ops w n → m ≡ n
+one_made : AreOne → (p : Plan) (ops : List Automaton) (w : Written) (m n : Automaton) → IsResult p ops w m → IsResult p ops w n → m ≡ n
 one_made one p ops w m n x y = (one.changes (changes_of p ops) (canonical (described w))).made m n x.makes y.makes
 
 one_reached : AreOne → (figure : Automaton → ℕ) (a : Automaton) (t u : List ℕ) → ShowsReached figure a t → ShowsReached figure a u → t ≡ u
@@ -121,14 +121,14 @@ due_or_over : AreOne → (which : Limit) (p : Plan) (ops : List Automaton) (w : 
 due_or_over one which p ops w text d o = printed_or_over one p.output which p ops w text (subst (λ (b : Bool). IsDueWhere b p ops w text) o.prints d) o.stops
 
 -- where something is due, no limit is passed
-pub kept_is_within : AreOne → (which : Limit) (p : Plan) (ops : List Automaton) (w : Written) (text : List ℕ) → IsKept p ops (described w) → IsDue p ops w text → IsOver which p ops w → ⊥
+pub kept_is_within : AreOne → (which : Limit) (p : Plan) (ops : List Automaton) (w : Written) (text : List ℕ) → IsKept p ops (described w) → IsDue p ops w text → IsOverLimit which p ops w → ⊥
 kept_is_within one which p ops w text k d o = go o.over
   where
     go : IsOverFilters which p ops (described w) ⊎ IsOverPrinting which p ops w → ⊥
     go (inl f) = kept_or_over one which p ops (described w) k f
     go (inr c) = due_or_over one which p ops w text d c
 
-pub dropped_is_within : AreOne → (which : Limit) (p : Plan) (ops : List Automaton) (w : Written) → IsDropped p ops (described w) → IsOver which p ops w → ⊥
+pub dropped_is_within : AreOne → (which : Limit) (p : Plan) (ops : List Automaton) (w : Written) → IsDropped p ops (described w) → IsOverLimit which p ops w → ⊥
 dropped_is_within one which p ops w d o = go o.over
   where
     go : IsOverFilters which p ops (described w) ⊎ IsOverPrinting which p ops w → ⊥
@@ -147,7 +147,7 @@ one_printing one Hoa which other p ops w h k = (one.changes (changes_of p ops) (
 one_printing one (Stats pieces) which other p ops w h k = (one.changes (changes_of p ops) (canonical (described w))).limit which other h k
 one_printing one (Refute file) which other p ops w h k = one_refuted one (refuted_operand p ops) which other (canonical (described w)) h k
 
-pub one_over : AreOne → (p : Plan) (ops : List Automaton) (which other : Limit) (w : Written) → IsOver which p ops w → IsOver other p ops w → which ≡ other
+pub one_over : AreOne → (p : Plan) (ops : List Automaton) (which other : Limit) (w : Written) → IsOverLimit which p ops w → IsOverLimit other p ops w → which ≡ other
 one_over one p ops which other w a b = go a.over b.over
   where
     over_is : verdict.Over which ≡ verdict.Over other → which ≡ other

@@ -15,11 +15,11 @@ use Rattle.plan_meaning.proofs.changes.PlanChanges.{IsOfPlan, each_of_plan, size
 use Rattle.plan_meaning.proofs.changes.Stepping.{made_then}
 use Rattle.plan_meaning.specs.Changes.{Bring, Change, Complement, Complete, MakesAll, MakesWithin, Product, ProductOr, RemoveAp, Sum, Trim, changes_of}
 use Rattle.plan_meaning.specs.Operands.{IsOfReadSize}
-use Rattle.plan_meaning.specs.inner.Stepping.{IsMade, IsOfComplementSize, IsOfLastSize, IsOfSizeBefore, IsOfSizeFor}
+use Rattle.plan_meaning.specs.inner.Stepping.{IsMadeAsPromised, IsOfComplementSize, IsOfLastSize, IsOfSizeBefore, IsOfSizeFor}
 
 -- what changes make
 pub record AllMade (cs : List Change) (a made : Automaton) : Type 0 where
-  pub is : IsMade cs a made
+  pub is : IsMadeAsPromised cs a made
   pub fine : IsFine IsOfLastSize made
 
 -- ---- one change

@@ -11,12 +11,12 @@ use Rattle.aut_ops.proofs.sinks.CompletedSizes.{completed_sets, completed_states
 use Rattle.aut_ops.proofs.sinks.SinkStates.{completed_accepts, completed_complete, completed_deterministic, completed_names}
 use Rattle.aut_ops.specs.Completion.{completed}
 use Rattle.aut_ops.specs.Pruning.{IsPruned}
-use Rattle.autfilt_laws.proofs.due.FewThings.{few_things}
+use Rattle.autfilt_laws.proofs.due.FewStates.{few_explored}
 use Rattle.autfilt_laws.proofs.due.Formed.{buchi_formed, completed_formed, pruned_formed, subset_form_formed, tree_form_formed}
 use Rattle.autfilt_laws.proofs.due.Sizes.{IsFine, Step, few_states, within_parity}
 use Rattle.degeneralise.proofs.BuchiLaw.{buchi_accepts_the_same, buchi_copies, buchi_one}
 use Rattle.degeneralise.specs.Buchi.{buchi, is_generalised_buchi}
-use Rattle.exploration.specs.Turns.{Arrow}
+use Rattle.exploration.specs.Turns.{Transition}
 use Rattle.filter_plan.specs.declared.plan.Form.TheVariants as form
 use Rattle.monitor_form.proofs.MonitorLaws.{accepts_prefixes, form_deterministic, monitor_excludes_limits}
 use Rattle.monitor_form.specs.Subsets.{IsExploredFrom, IsSubsetForm, start_set, subset_rules}
@@ -25,10 +25,10 @@ use Rattle.parity_det.proofs.Formed.{explored_trees}
 use Rattle.parity_det.proofs.ParityLaws.{form_accepts, form_parity, pruned_formula, same_through}
 use Rattle.parity_det.proofs.Widths.{few_nodes}
 use Rattle.parity_det.specs.Complements.{IsDeterministicForm, by_completion, by_determinisation}
-use Rattle.parity_det.specs.Determinisation.{IsParityOf, start_tree, tree_rules}
+use Rattle.parity_det.specs.Determinisation.{IsParityAutomatonOf, start_tree, tree_rules}
 use Rattle.parity_det.specs.Promises.{IsParityMinOdd}
 use Rattle.parity_laws.proofs.complements.Dual.{complements_of_the_same, dual_is_complement}
-use Rattle.parity_laws.specs.Complement.{AreComplements, dualised}
+use Rattle.parity_laws.specs.Complement.{AreComplementLanguages, dualised}
 use Rattle.plan_meaning.proofs.changes.Determinised.{complement_made, deterministic_itself, deterministic_made, parity_made}
 use Rattle.plan_meaning.proofs.changes.Monitored.{monitor_made}
 use Rattle.plan_meaning.specs.Changes.{Bring, Complement, MakesWithin}
@@ -77,15 +77,15 @@ record IsParityForm (a made : Automaton) : Type 0 where
   states : made.states ≤ MOST_TREES
   sets : made.sets ≤ 2 * MOST_NODES + 1
 
-parity_form : (a made : Automaton) → IsWellFormed a → IsParityOf a made → IsParityForm a made
+parity_form : (a made : Automaton) → IsWellFormed a → IsParityAutomatonOf a made → IsParityForm a made
 parity_form a made formed m =
     let l = left_of a m.pruned formed m.is_pruned in
     let form = m.is in
     let shape = form_parity m.pruned made form in
     let own = form_accepts m.pruned made l.formed (pruned_formula (buchi a) m.pruned m.is_pruned refl) form in
     let some : 1 ≤ MOST_TREES = omega arith in
-    let trees = few_things (tree_rules m.pruned) (start_tree m.pruned) form.trees form.arrows some form.explored in
-    let nodes = few_nodes m.pruned form.trees form.arrows (explored_trees m.pruned form.trees form.arrows form.explored) in
+    let trees = few_explored (tree_rules m.pruned) (start_tree m.pruned) form.trees form.transitions some form.explored in
+    let nodes = few_nodes m.pruned form.trees form.transitions (explored_trees m.pruned form.trees form.transitions form.explored) in
     let sets = ap (λ (b : Automaton). b.sets) form.is in
     record {
       form = record {
@@ -146,7 +146,7 @@ complement_step a made f m =
     let g = s.form in
     let dual = dual_is_complement m.makes.form g.formed g.deterministic g.complete in
     let is = m.makes.is in
-    let complements : AreComplements a made = subst (AreComplements a) (sym is) (complements_of_the_same a m.makes.form (dualised m.makes.form) g.accepts dual) in
+    let complements : AreComplementLanguages a made = subst (AreComplementLanguages a) (sym is) (complements_of_the_same a m.makes.form (dualised m.makes.form) g.accepts dual) in
     let states : made.states ≡ m.makes.form.states = ap (λ (z : Automaton). z.states) is in
     let sets : made.sets ≡ m.makes.form.sets = ap (λ (z : Automaton). z.sets) is in
     record {
@@ -188,9 +188,9 @@ deterministic_step a made f m = elim m.makes [
 ]
 
 -- as many sets as may be
-few_sets : (b : Automaton) (ss : List ℕ) (sets : List (List ℕ)) (arrows : List Arrow) → IsExploredFrom b ss sets arrows → length sets ≤ MOST_SUBSETS
-few_sets b [] sets arrows are = subst (λ (xs : List (List ℕ)). length xs ≤ MOST_SUBSETS) (sym are.0) (omega arith)
-few_sets b (s ∷ ss) sets arrows ends = let some : 1 ≤ MOST_SUBSETS = omega arith in few_things (subset_rules b) (start_set b) sets arrows some ends
+few_sets : (b : Automaton) (ss : List ℕ) (sets : List (List ℕ)) (transitions : List Transition) → IsExploredFrom b ss sets transitions → length sets ≤ MOST_SUBSETS
+few_sets b [] sets transitions are = subst (λ (xs : List (List ℕ)). length xs ≤ MOST_SUBSETS) (sym are.0) (omega arith)
+few_sets b (s ∷ ss) sets transitions ends = let some : 1 ≤ MOST_SUBSETS = omega arith in few_explored (subset_rules b) (start_set b) sets transitions some ends
 
 pub monitor_step : (a made : Automaton) → IsFine IsOfComplementSize a → MakesWithin (Bring form.Monitor) a made → Step (Bring form.Monitor) a made
 monitor_step a made f m =
@@ -199,7 +199,7 @@ monitor_step a made f m =
     let terms = m.within limit.Terms in
     let states = few_states a terms (m.within limit.BuchiStates) in
     let accepts = accepts_prefixes a (buchi a) m.makes.pruned made l.same l.kept l.form_formed refl m.makes.is_pruned l.formed is in
-    let few = few_sets m.makes.pruned m.makes.pruned.starts is.sets is.arrows is.explored in
+    let few = few_sets m.makes.pruned m.makes.pruned.starts is.sets is.transitions is.explored in
     let sets : made.sets ≡ 0 = ap (λ (z : Automaton). z.sets) is.is in
     record {
       is = monitor_made a made terms states (λ g meets. (monitor_excludes_limits a).monitors made g m.makes meets) m.makes

@@ -17,9 +17,9 @@ use Rattle.autfilt_laws.proofs.existence.Silent.{silent}
 use Rattle.autfilt_laws.proofs.refuted.Due.{refuted_is_due}
 use Rattle.autfilt_laws.specs.Runs.{EachIsDue, IsGoodOperand}
 use Rattle.autfilt_run.proofs.printing.ReadsAs.{reads_as}
-use Rattle.autfilt_run.specs.Due.{IsDue, IsDueWhere, IsMade, IsPrinted, name_due}
-use Rattle.autfilt_run.specs.OperandEvents.{FileOpened, OperandEvent, PassedOver, Taken, operands_of}
-use Rattle.autfilt_run.specs.Over.{IsOver, IsOverPrinting, StopsPrinting}
+use Rattle.autfilt_run.specs.Due.{IsDue, IsDueWhere, IsResult, IsPrinted, name_due}
+use Rattle.autfilt_run.specs.OperandEvents.{FileOpened, OperandEvent, PassedOver, Taken, operands_read}
+use Rattle.autfilt_run.specs.Over.{IsOverLimit, IsOverPrinting, StopsPrinting}
 use Rattle.autfilt_run.specs.Plans.{prints_each}
 use Rattle.filter_plan.specs.declared.format.Piece.{Piece}
 use Rattle.filter_plan.specs.declared.plan.Output.{Output}
@@ -27,7 +27,7 @@ use Rattle.filter_plan.specs.declared.plan.Output.TheVariants.{Hoa, Refute, Stat
 use Rattle.filter_plan.specs.declared.plan.Plan.{Plan}
 use Rattle.hoa_parser.specs.Raw.{Written}
 use Rattle.hoa_reader.proofs.description.WellFormed.{valid_is_well_formed}
-use Rattle.hoa_reader.specs.Counts.{Names, PassesNone, Sets, States, count_of}
+use Rattle.hoa_reader.specs.Counts.{Names, PassesNone, Sets, States, value_of_count}
 use Rattle.hoa_reader.specs.Described.{described}
 use Rattle.hoa_reader.specs.Validity.{IsValid}
 use Rattle.hoa_writer.specs.CanonicalText.{canonical_text}
@@ -44,18 +44,18 @@ use Rattle.plan_meaning.specs.Operands.{IsOfReadSize}
 read_fine : (w : Written) → IsValid w → PassesNone w → IsFine IsOfReadSize (canonical (described w))
 read_fine w valid within = record {
   formed = canonical_is_well_formed (described w) (valid_is_well_formed w valid);
-  names = omega (arith, ltb-false MOST_NAMES (count_of Names w) within.0);
+  names = omega (arith, ltb-false MOST_NAMES (value_of_count Names w) within.0);
   size = record {
-    states = omega (arith, ltb-false MOST_STATES (count_of States w) within.1.1.0);
-    sets = omega (arith, ltb-false MOST_SETS (count_of Sets w) within.1.0);
+    states = omega (arith, ltb-false MOST_STATES (value_of_count States w) within.1.1.0);
+    sets = omega (arith, ltb-false MOST_SETS (value_of_count Sets w) within.1.0);
   };
 }
 
-operands_fine : (taken : List OperandEvent) → AllByRecursion IsGoodOperand taken → (b : Automaton) → Contains (operands_of taken) b → IsOperand b
+operands_fine : (taken : List OperandEvent) → AllByRecursion IsGoodOperand taken → (b : Automaton) → Contains (operands_read taken) b → IsOperand b
 operands_fine [] good b there = absurd (none_there b there)
 operands_fine (FileOpened name ∷ taken) good b there = operands_fine taken good.1 b there
 operands_fine (PassedOver name ∷ taken) good b there = operands_fine taken good.1 b there
-operands_fine (Taken w ∷ taken) good b there = elim (there_cases (canonical (described w)) (operands_of taken) b there) [
+operands_fine (Taken w ∷ taken) good b there = elim (there_cases (canonical (described w)) (operands_read taken) b there) [
   | inl here ↦ (let f = read_fine w good.0.0 good.0.1 in subst IsOperand here (record { formed = f.formed; size = f.size }))
   | inr later ↦ operands_fine taken good.1 b later
 ]
@@ -80,7 +80,7 @@ module _ (p : Plan) (ops : List Automaton) (operands : (b : Automaton) → Conta
       let alike = all_alike (changes_of p ops) (λ x y. Accepts read x y) (λ x y. Accepts (described w) x y) same u v some in
       ((λ h. alike.0 (first.0 h)), (λ h. first.1 (alike.1 h)))
 
-  is_made : (made : Automaton) → IsMadeOf made → IsMade p ops w made
+  is_made : (made : Automaton) → IsMadeOf made → IsResult p ops w made
   is_made made m =
       let all = (all_made made m).is.all in
       record { makes = m; promises = promises_kept p ops read made all; few_sets = few_sets_kept p ops read made all; accepts = says made m }
@@ -98,7 +98,7 @@ module _ (p : Plan) (ops : List Automaton) (operands : (b : Automaton) → Conta
   line_due pieces made m none = some_line pieces made (λ text line. none text (record { made = made; is_made = is_made made m; line = line }))
 
   -- a limit is passed, or something is printed
-  module _ (kept : IsKept p ops (described w)) (on : prints_each p ≡ true) (none : ((text : List ℕ) × IsDue p ops w text) ⊎ ((which : Limit) × IsOver which p ops w) → ⊥) where
+  module _ (kept : IsKept p ops (described w)) (on : prints_each p ≡ true) (none : ((text : List ℕ) × IsDue p ops w text) ⊎ ((which : Limit) × IsOverLimit which p ops w) → ⊥) where
     not_printed : (text : List ℕ) → IsPrinted p.output p ops w text → ⊥
     not_printed text printed = none (inl (text, subst (λ (b : Bool). IsDueWhere b p ops w text) (sym on) printed))
 
@@ -126,8 +126,8 @@ each_is_due reads p taken good w valid within kept none = by_printing (prints_ea
   where
     by_output : prints_each p ≡ true → (o : Output) → p.output ≡ o → ⊥
     by_output on (Refute file) is = refuted_is_due p file is taken good w valid within kept none
-    by_output on Hoa is = by_text p (operands_of taken) (operands_fine taken good.good) w valid within kept on none reads is
-    by_output on (Stats pieces) is = by_line p (operands_of taken) (operands_fine taken good.good) w valid within kept on none pieces is
+    by_output on Hoa is = by_text p (operands_read taken) (operands_fine taken good.good) w valid within kept on none reads is
+    by_output on (Stats pieces) is = by_line p (operands_read taken) (operands_fine taken good.good) w valid within kept on none pieces is
 
     by_printing : (b : Bool) → prints_each p ≡ b → ⊥
     by_printing false off = silent p off taken good w valid within kept none

@@ -14,7 +14,7 @@ use Rattle.ap_project.specs.Hiding.{hidden, hidden_label, names_without}
 use Rattle.ap_project.specs.declared.hide.Hide.{Hide}
 use Rattle.aut_base.proofs.canonical.CanonicalBelow.{label_of_below}
 use Rattle.aut_base.proofs.lists.Members.{each_there, there_at}
-use Rattle.aut_base.specs.Automaton.{Automaton, IsEdgeOf, IsWellFormed, TreeEdge}
+use Rattle.aut_base.specs.Automaton.{Automaton, IsEdgeOf, IsWellFormed, LabelledEdge}
 use Rattle.aut_base.specs.Formula.{SetsBelow}
 use Rattle.aut_base.specs.Text.{same_text}
 use Rattle.aut_core.specs.OtherNames.{is_among}
@@ -27,10 +27,10 @@ use Rattle.degeneralise.proofs.BuchiLaw.{buchi_copies, buchi_one}
 use Rattle.degeneralise.proofs.LevelledWhole.{levelled_well_formed}
 use Rattle.degeneralise.proofs.WatchLists.{room_in, room_of, some_room}
 use Rattle.degeneralise.specs.Buchi.{buchi, is_generalised_buchi, levels, most_levels, watch_of, watches}
-use Rattle.exploration.proofs.Edges.{arrows_rise, edge_from}
+use Rattle.exploration.proofs.Edges.{transitions_rise, edge_from}
 use Rattle.exploration.proofs.InOrder.{froms_rise}
 use Rattle.exploration.specs.Reached.{IsExplored}
-use Rattle.exploration.specs.Turns.{Arrow}
+use Rattle.exploration.specs.Turns.{Transition}
 use Rattle.fin_removal.proofs.Conditions.{below_parts, of_terms_holds}
 use Rattle.fin_removal.proofs.CopiedWhole.{copied_well_formed}
 use Rattle.fin_removal.specs.Copies.{copied, without_fin}
@@ -66,15 +66,15 @@ completed_formed a formed = elim (completed_cases a formed) [
 -- ---- a hidden name
 
 others_formed : (how : Hide) (name : List ℕ) (a : Automaton) → IsWellFormed a
-    → IsWellFormed (record a { names = names_without name a.names; edges = map (λ (e : TreeEdge). record e { label = hidden_label how name a.names e.label }) a.edges })
+    → IsWellFormed (record a { names = names_without name a.names; edges = map (λ (e : LabelledEdge). record e { label = hidden_label how name a.names e.label }) a.edges })
 others_formed how name a formed =
-    let without : TreeEdge → TreeEdge = λ e. record e { label = hidden_label how name a.names e.label } in
+    let without : LabelledEdge → LabelledEdge = λ e. record e { label = hidden_label how name a.names e.label } in
     let h : Automaton = record a { names = names_without name a.names; edges = map without a.edges } in
     record {
       names_differ = AllPairs-filter (λ p q. p ≡ q → ⊥) (λ other. not (same_text name other)) a.names formed.names_differ;
       starts_differ = formed.starts_differ;
       starts = formed.starts;
-      in_order = subst IsNonDecreasing (sym (map-map (λ (e : TreeEdge). e.from) without a.edges)) formed.in_order;
+      in_order = subst IsNonDecreasing (sym (map-map (λ (e : LabelledEdge). e.from) without a.edges)) formed.in_order;
       edges = All-map (IsEdgeOf h) without a.edges
           (All-weaker (IsEdgeOf a) (λ e. IsEdgeOf h (without e))
           (λ e is. record { from = is.from; to = is.to; label = label_of_below (length (names_without name a.names)) _; marks = is.marks; marks_rise = is.marks_rise }) a.edges formed.edges);
@@ -82,12 +82,12 @@ others_formed how name a formed =
     }
 
 pub hidden_formed : (how : Hide) (name : List ℕ) (a : Automaton) → IsWellFormed a → IsWellFormed (hidden how name a)
-hidden_formed how name a formed = by (is_among a.names name)
+hidden_formed how name a formed = by_cases (is_among a.names name)
   where
-    by : (b : Bool)
-        → IsWellFormed (if b then record a { names = names_without name a.names; edges = map (λ (e : TreeEdge). record e { label = hidden_label how name a.names e.label }) a.edges } else a)
-    by true = others_formed how name a formed
-    by false = formed
+    by_cases : (b : Bool)
+        → IsWellFormed (if b then record a { names = names_without name a.names; edges = map (λ (e : LabelledEdge). record e { label = hidden_label how name a.names e.label }) a.edges } else a)
+    by_cases true = others_formed how name a formed
+    by_cases false = formed
 
 -- ---- forms of the condition
 
@@ -103,11 +103,11 @@ disjunctive_formed a formed = record {
 }
 
 pub without_fin_formed : (a : Automaton) → IsWellFormed a → IsWellFormed (without_fin a)
-without_fin_formed a formed = by (has_fin a.formula)
+without_fin_formed a formed = by_cases (has_fin a.formula)
   where
-    by : (b : Bool) → IsWellFormed (if b then copied a else a)
-    by true = copied_well_formed a formed
-    by false = formed
+    by_cases : (b : Bool) → IsWellFormed (if b then copied a else a)
+    by_cases true = copied_well_formed a formed
+    by_cases false = formed
 
 pub buchi_formed : (a : Automaton) → IsWellFormed a → IsWellFormed (buchi a)
 buchi_formed a formed =
@@ -123,20 +123,20 @@ pruned_formed a made formed is = subst IsWellFormed (sym is.is) (between_formed 
 
 -- ---- trees
 
-module _ (b : Automaton) (formed : IsWellFormed b) (trees : List (List Node)) (arrows : List Arrow) (is : IsExplored same_nodes (tree_moves b) (start_tree b) trees arrows) where
+module _ (b : Automaton) (formed : IsWellFormed b) (trees : List (List Node)) (transitions : List Transition) (is : IsExplored same_nodes (tree_moves b) (start_tree b) trees transitions) where
   abbrev most : ℕ
   most = width trees
 
   abbrev parity : Automaton
-  parity = parity_on trees arrows b
+  parity = parity_on trees transitions b
 
   one_mark : (m : ℕ) → m < parity.sets → All (λ mark. mark < parity.sets) (m ∷ [])
   one_mark m low zero d within = low
   one_mark m low (suc k) d within = absurd (omega (arith, within))
 
-  tree_edge : (a : Arrow) → Contains arrows a → IsEdgeOf parity (parity_edge b trees most a)
+  tree_edge : (a : Transition) → Contains transitions a → IsEdgeOf parity (parity_edge b trees most a)
   tree_edge a there =
-      let step = step_of b trees arrows is a there in
+      let step = step_of b trees transitions is a there in
       record {
         from = step.inside;
         to = step.below;
@@ -150,14 +150,14 @@ module _ (b : Automaton) (formed : IsWellFormed b) (trees : List (List Node)) (a
     names_differ = formed.names_differ;
     starts_differ = one_start;
     starts = only_first (length trees) (slice_get_within trees 0 (start_tree b) is.first);
-    in_order = subst IsNonDecreasing (sym (map-map (λ (e : TreeEdge). e.from) (parity_edge b trees most) arrows))
-        (froms_rise arrows (arrows_rise (tree_moves b) same_nodes (start_tree b) trees arrows is));
-    edges = All-map (IsEdgeOf parity) (parity_edge b trees most) arrows (each_there (λ a. IsEdgeOf parity (parity_edge b trees most a)) arrows tree_edge);
+    in_order = subst IsNonDecreasing (sym (map-map (λ (e : LabelledEdge). e.from) (parity_edge b trees most) transitions))
+        (froms_rise transitions (transitions_rise (tree_moves b) same_nodes (start_tree b) trees transitions is));
+    edges = All-map (IsEdgeOf parity) (parity_edge b trees most) transitions (each_there (λ a. IsEdgeOf parity (parity_edge b trees most a)) transitions tree_edge);
     formula = parity_below parity.sets (omega arith);
   }
 
 pub tree_form_formed : (b made : Automaton) → IsWellFormed b → IsTreeForm b made → IsWellFormed made
-tree_form_formed b made formed form = subst IsWellFormed (sym form.is) (trees_formed b formed form.trees form.arrows (explored_trees b form.trees form.arrows form.explored))
+tree_form_formed b made formed form = subst IsWellFormed (sym form.is) (trees_formed b formed form.trees form.transitions (explored_trees b form.trees form.transitions form.explored))
 
 -- ---- sets of states
 
@@ -171,9 +171,9 @@ no_monitor b formed none = record {
   formula = tt;
 }
 
-module _ (b : Automaton) (formed : IsWellFormed b) (sets : List (List ℕ)) (arrows : List Arrow) (is : IsExplored (pointwise nat_eq) (subset_moves b) (start_set b) sets arrows) where
+module _ (b : Automaton) (formed : IsWellFormed b) (sets : List (List ℕ)) (transitions : List Transition) (is : IsExplored (pointwise nat_eq) (subset_moves b) (start_set b) sets transitions) where
   abbrev monitor : Automaton
-  monitor = monitor_on sets arrows b
+  monitor = monitor_on sets transitions b
 
   first_differ : (ss : List ℕ) → AllPairs (λ p q. p ≡ q → ⊥) (first_places ss)
   first_differ [] i j d less within = absurd (omega (arith, within))
@@ -183,9 +183,9 @@ module _ (b : Automaton) (formed : IsWellFormed b) (sets : List (List ℕ)) (arr
   first_within [] some k d within = absurd (omega (arith, within))
   first_within (s ∷ ss) some k d within = only_first (length sets) some k d within
 
-  set_edge : (a : Arrow) → Contains arrows a → IsEdgeOf monitor (monitor_edge b sets a)
+  set_edge : (a : Transition) → Contains transitions a → IsEdgeOf monitor (monitor_edge b sets a)
   set_edge a there =
-      let e = edge_from (subset_moves b) (pointwise nat_eq) (start_set b) sets arrows is a (there_at arrows a there) in
+      let e = edge_from (subset_moves b) (pointwise nat_eq) (start_set b) sets transitions is a (there_at transitions a there) in
       record {
         from = slice_get_within sets a.from e.0 e.2;
         to = slice_get_within sets a.to e.1 e.5;
@@ -199,17 +199,17 @@ module _ (b : Automaton) (formed : IsWellFormed b) (sets : List (List ℕ)) (arr
     names_differ = formed.names_differ;
     starts_differ = first_differ b.starts;
     starts = first_within b.starts (slice_get_within sets 0 (start_set b) is.first);
-    in_order = subst IsNonDecreasing (sym (map-map (λ (e : TreeEdge). e.from) (monitor_edge b sets) arrows))
-        (froms_rise arrows (arrows_rise (subset_moves b) (pointwise nat_eq) (start_set b) sets arrows is));
-    edges = All-map (IsEdgeOf monitor) (monitor_edge b sets) arrows (each_there (λ a. IsEdgeOf monitor (monitor_edge b sets a)) arrows set_edge);
+    in_order = subst IsNonDecreasing (sym (map-map (λ (e : LabelledEdge). e.from) (monitor_edge b sets) transitions))
+        (froms_rise transitions (transitions_rise (subset_moves b) (pointwise nat_eq) (start_set b) sets transitions is));
+    edges = All-map (IsEdgeOf monitor) (monitor_edge b sets) transitions (each_there (λ a. IsEdgeOf monitor (monitor_edge b sets a)) transitions set_edge);
     formula = tt;
   }
 
 pub subset_form_formed : (b made : Automaton) → IsWellFormed b → IsSubsetForm b made → IsWellFormed made
-subset_form_formed b made formed form = subst IsWellFormed (sym form.is) (by b.starts refl form.explored)
+subset_form_formed b made formed form = subst IsWellFormed (sym form.is) (by_cases b.starts refl form.explored)
   where
-    by : (ss : List ℕ) → b.starts ≡ ss → IsExploredFrom b ss form.sets form.arrows → IsWellFormed (monitor_on form.sets form.arrows b)
-    by [] none are =
-        subst (λ (xs : List (List ℕ)). IsWellFormed (monitor_on xs form.arrows b)) (sym are.0)
-        (subst (λ (es : List Arrow). IsWellFormed (monitor_on [] es b)) (sym are.1) (no_monitor b formed none))
-    by (s ∷ ss) some ends = sets_formed b formed form.sets form.arrows (explored_sets b form.sets form.arrows ends)
+    by_cases : (ss : List ℕ) → b.starts ≡ ss → IsExploredFrom b ss form.sets form.transitions → IsWellFormed (monitor_on form.sets form.transitions b)
+    by_cases [] none are =
+        subst (λ (xs : List (List ℕ)). IsWellFormed (monitor_on xs form.transitions b)) (sym are.0)
+        (subst (λ (es : List Transition). IsWellFormed (monitor_on [] es b)) (sym are.1) (no_monitor b formed none))
+    by_cases (s ∷ ss) some ends = sets_formed b formed form.sets form.transitions (explored_sets b form.sets form.transitions ends)

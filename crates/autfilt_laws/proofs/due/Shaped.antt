@@ -7,7 +7,7 @@ use Rattle.ap_project.proofs.HiddenAutomata.{hidden_accepts, sets_hidden, states
 use Rattle.ap_project.proofs.OtherNames.{fewer}
 use Rattle.ap_project.specs.Hiding.{AcceptsHidden, hidden, hidden_label, names_without}
 use Rattle.ap_project.specs.declared.hide.Hide.{Hide}
-use Rattle.aut_base.specs.Automaton.{Automaton, IsWellFormed, TreeEdge}
+use Rattle.aut_base.specs.Automaton.{Automaton, IsWellFormed, LabelledEdge}
 use Rattle.aut_base.specs.declared.limit.Limit.TheVariants as limit
 use Rattle.aut_base.specs.declared.limit.TheConstants.{MOST_NAMES}
 use Rattle.aut_core.specs.Deterministic.{IsComplete, IsDeterministic}
@@ -34,13 +34,13 @@ use Rattle.plan_meaning.specs.inner.Stepping.{HasRoom, IsOfComplementSize, IsOfS
 -- ---- before the form
 
 hidden_names : (how : Hide) (name : List ℕ) (a : Automaton) → length (hidden how name a).names ≤ length a.names
-hidden_names how name a = by (is_among a.names name)
+hidden_names how name a = by_cases (is_among a.names name)
   where
-    by : (b : Bool) → length (if b then record a { names = names_without name a.names; edges = map (λ (e : TreeEdge). record e { label = hidden_label how name a.names e.label }) a.edges }
+    by_cases : (b : Bool) → length (if b then record a { names = names_without name a.names; edges = map (λ (e : LabelledEdge). record e { label = hidden_label how name a.names e.label }) a.edges }
         else a).names
         ≤ length a.names
-    by true = fewer name a.names
-    by false = omega arith
+    by_cases true = fewer name a.names
+    by_cases false = omega arith
 
 pub hidden_step : (h : Hidden) (a made : Automaton) → IsFine IsOfSumSize a → MakesWithin (RemoveAp h) a made → Step (RemoveAp h) a made
 hidden_step h a made f m =

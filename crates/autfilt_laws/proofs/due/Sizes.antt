@@ -14,9 +14,9 @@ use Rattle.degeneralise.specs.Buchi.{NeedsTooManyTerms, buchi_states}
 use Rattle.parity_det.specs.Complements.{IsWithinParity}
 use Rattle.parity_det.specs.declared.fault.CompFault.TheVariants as comp
 use Rattle.plan_meaning.specs.Changes.{Change, PassesBuchi}
-use Rattle.plan_meaning.specs.Limits.{HaveFewNames, HaveManyNames, PassesParity}
+use Rattle.plan_meaning.specs.Limits.{HaveFewNames, HaveManyNames, PassesParityLimit}
 use Rattle.plan_meaning.specs.Operands.{IsOfReadSize}
-use Rattle.plan_meaning.specs.inner.Stepping.{IsMade, IsOfSizeBehind}
+use Rattle.plan_meaning.specs.inner.Stepping.{IsMadeAsPromised, IsOfSizeBehind}
 
 -- It is well-formed and of this size.
 pub record IsFine (Size : Automaton → Type 0) (a : Automaton) : Type 0 where
@@ -31,7 +31,7 @@ pub record IsOperand (b : Automaton) : Type 0 where
 
 -- The change makes this of it, as is promised, and of the size that stands behind it.
 pub record Step (c : Change) (a made : Automaton) : Type 0 where
-  pub is : IsMade (c ∷ []) a made
+  pub is : IsMadeAsPromised (c ∷ []) a made
   pub fine : IsFine (IsOfSizeBehind c) made
 
 -- ---- limits that aren't passed
@@ -48,7 +48,7 @@ few_pairs join x y made is none = elim (products_exist join MOST_PAIRS x y) [
   | inr more ↦ absurd (none more)
 ]
 
-pub within_parity : (a : Automaton) → ((which : Limit) → PassesParity which a → ⊥) → IsWithinParity a
+pub within_parity : (a : Automaton) → ((which : Limit) → PassesParityLimit which a → ⊥) → IsWithinParity a
 within_parity a within comp.Terms h = within limit.Terms h
 within_parity a within comp.BuchiStates h = within limit.BuchiStates h
 within_parity a within comp.Trees h = within limit.Trees h

@@ -10,7 +10,7 @@ use Rattle.autfilt_laws.specs.Runs.{IsByText}
 use Rattle.autfilt_run.proofs.handling.PassedLimits.{of_count}
 use Rattle.autfilt_run.proofs.turns.Reading.{past}
 use Rattle.autfilt_run.specs.Events.{IsGood}
-use Rattle.autfilt_run.specs.Runs.{StopsAt}
+use Rattle.autfilt_run.specs.Runs.{StopsReading}
 use Rattle.autfilt_run.specs.declared.fault.RunFault.{RunFault}
 use Rattle.autfilt_run.specs.declared.fault.RunFault.TheVariants as run
 use Rattle.hoa_lexer.specs.Blanks.{IsBlanks}
@@ -35,7 +35,7 @@ pub record IsRefused (over : Limit → Written → Type 0) (start : ℕ) (rest :
   pub by_text : IsByText (end.Fault fault)
   pub other : fault ≡ run.Limit limit.Bytes → ⊥
   pub left : List ℕ
-  pub stops : StopsAt over fault start rest left
+  pub stops : StopsReading over fault start rest left
 
 pub data Found (over : Limit → Written → Type 0) (start : ℕ) (rest : List ℕ) : Type 0 where
   OnlyBlanks : IsBlanks rest → Found over start rest

@@ -5,7 +5,7 @@ use Rattle.aut_io.specs.Outside.{Texts}
 use Rattle.autfilt_command.specs.Run.{AreAllRead}
 use Rattle.autfilt_laws.specs.Runs.{AreGoodOperands, IsGoodOperand}
 use Rattle.autfilt_run.specs.Events.{Point, Stream, start_of}
-use Rattle.autfilt_run.specs.OperandEvents.{AreRead, FileOpened, OperandEvent, PassedOver, Taken, operands_of}
+use Rattle.autfilt_run.specs.OperandEvents.{AreRead, FileOpened, OperandEvent, PassedOver, Taken, operands_read}
 use Rattle.filter_plan.specs.Words.{operands}
 use Rattle.filter_plan.specs.declared.plan.Plan.{Plan}
 
@@ -21,7 +21,7 @@ to_come p = length p.coming + open_in p.stream
 to_come_at : (p : Point) (coming : List (List ℕ)) (stream : Option Stream) → p.coming ≡ coming → p.stream ≡ stream → to_come p ≡ length coming + open_in stream
 to_come_at p coming stream c s = ap (λ x. length x + open_in p.stream) c ∙ ap (λ x. length coming + open_in x) s
 
-number_of : (texts : Texts) (taken : List OperandEvent) (p q : Point) → AreRead texts taken p q → q.coming ≡ [] → q.stream ≡ None → length (operands_of taken) ≡ to_come p
+number_of : (texts : Texts) (taken : List OperandEvent) (p q : Point) → AreRead texts taken p q → q.coming ≡ [] → q.stream ≡ None → length (operands_read taken) ≡ to_come p
 number_of texts [] p q read none closed = sym (ap to_come read ∙ to_come_at q [] None none closed)
 number_of texts (FileOpened name ∷ taken) p q read none closed =
     let rest = number_of texts taken read.0 q read.2 none closed in

@@ -10,7 +10,7 @@ use Rattle.autfilt_laws.proofs.existence.Found.{AreShown, Found, OneAborted, One
 use Rattle.autfilt_laws.proofs.existence.Shorter.{aborted_less}
 use Rattle.autfilt_laws.proofs.existence.Stopping.{is_counted, stops_operand, stops_where}
 use Rattle.autfilt_laws.specs.Runs.{IsByText, size_of}
-use Rattle.autfilt_run.specs.Events.{Point, Stream, opened_at, place, read_on}
+use Rattle.autfilt_run.specs.Events.{Point, Stream, opened_at, bytes_before, read_on}
 use Rattle.autfilt_run.specs.OperandEvents.{AreRead, FileOpened, OperandEvent, PassedOver, Proceeds, Taken, taken_at}
 use Rattle.autfilt_run.specs.Runs.{AtNamed, IsCounted, StopsAtOperand, StopsInOperands}
 use Rattle.autfilt_run.specs.declared.fault.RunFault.{RunFault}
@@ -41,7 +41,7 @@ module _ (some : SomeStanding) (shown : AreShown) (texts : Texts) (spare : ℕ) 
   behind_one e p q goes r = record { taken = e ∷ r.taken; point = r.point; read = (q, goes, r.read); ends = r.ends }
 
   stopped : (p : Point) (s : Stream) (more : ℕ) → p.stream ≡ Some s → p.before + (length s.text + more) < MOST_BYTES
-      → (f : RunFault) (left : List ℕ) → IsByText (end.Fault f) → (f ≡ fault.Limit limit.Bytes → ⊥) → StopsAtOperand f (place s.text s.rest) s.rest left → ReadsThere texts spare p
+      → (f : RunFault) (left : List ℕ) → IsByText (end.Fault f) → (f ≡ fault.Limit limit.Bytes → ⊥) → StopsAtOperand f (bytes_before s.text s.rest) s.rest left → ReadsThere texts spare p
   stopped p s more is few f left by other h =
       let at : AtNamed (Unit {0}) p s.name (Some left) (StopsAtOperand f) = record { at = record { asks = tt; stream = s; is_open = is; now = left; told = refl; stands = h }; named = refl } in
       let here : IsStoppedThere p = record {
@@ -59,17 +59,17 @@ module _ (some : SomeStanding) (shown : AreShown) (texts : Texts) (spare : ℕ) 
       → ((next : List ℕ) → length next < length s.rest → NotNone (ReadsThere texts spare (read_on p s next p.kept)))
       → ((next : List ℕ) → NotNone (ReadsThere texts spare (taken_at p s next)))
       → NotNone (ReadsThere texts spare p)
-  at_rest p s more is few deeper behind none = something_found (λ which w. ⊥) (place s.text s.rest) s.rest some shown go
+  at_rest p s more is few deeper behind none = something_found (λ which w. ⊥) (bytes_before s.text s.rest) s.rest some shown go
     where
-      go : Found (λ which w. ⊥) (place s.text s.rest) s.rest → ⊥
+      go : Found (λ which w. ⊥) (bytes_before s.text s.rest) s.rest → ⊥
       go (OnlyBlanks h) = none (stopped p s more is few fault.Truncated [] tt (λ e. cc) (inr (h, refl)))
       go (OneGood w next h) =
           behind next (λ r. none (behind_one (Taken w) p (taken_at p s next) (record { stream = s; is_open = is; next = next; good = h; few = omega (arith, few); to = refl }) r))
       go (OneAborted next h) =
-          deeper next (aborted_less (place s.text s.rest) s.rest next h)
+          deeper next (aborted_less (bytes_before s.text s.rest) s.rest next h)
           (λ r. none (behind_one (PassedOver s.name) p (read_on p s next p.kept)
           (record { reads = record { stream = s; is_open = is; next = next; stands = h; few = omega (arith, few); to = refl }; named = refl }) r))
-      go (OneRefused h) = none (stopped p s more is few h.fault h.left h.by_text h.other (stops_operand h.fault (place s.text s.rest) s.rest h.left h.stops))
+      go (OneRefused h) = none (stopped p s more is few h.fault h.left h.by_text h.other (stops_operand h.fault (bytes_before s.text s.rest) s.rest h.left h.stops))
 
   -- what follows the file
   abbrev Behind : List (List ℕ) → ℕ → Type 0

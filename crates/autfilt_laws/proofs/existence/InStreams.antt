@@ -15,10 +15,10 @@ use Rattle.autfilt_laws.specs.Runs.{IsByText, size_of}
 use Rattle.autfilt_run.proofs.handling.PassedLimits.{plan_passes}
 use Rattle.autfilt_run.proofs.turns.Reading.{past}
 use Rattle.autfilt_run.specs.Due.{IsDue}
-use Rattle.autfilt_run.specs.Events.{AreJudged, Dropped, Ended, Event, Goes, Happen, IsGood, IsJudged, Kept, Opened, Point, Skipped, Stream, ended_at, opened_at, place, read_on}
-use Rattle.autfilt_run.specs.Over.{IsOver}
+use Rattle.autfilt_run.specs.Events.{AreJudged, Dropped, Ended, Event, EventLeads, Happen, IsGood, IsEventJudged, Kept, Opened, Point, Skipped, Stream, at_stream_end, opened_at, bytes_before, read_on}
+use Rattle.autfilt_run.specs.Over.{IsOverLimit}
 use Rattle.autfilt_run.specs.Plans.{asks_on}
-use Rattle.autfilt_run.specs.Runs.{AtNamed, IsCounted, IsDone, Stops, StopsAt}
+use Rattle.autfilt_run.specs.Runs.{AtNamed, IsCounted, IsDone, StopsRun, StopsReading}
 use Rattle.autfilt_run.specs.declared.fault.RunFault.{RunFault}
 use Rattle.autfilt_run.specs.declared.fault.RunFault.TheVariants as fault
 use Rattle.filter_plan.specs.declared.plan.Plan.{Plan}
@@ -29,7 +29,7 @@ use Rattle.hoa_reader.specs.Described.{described}
 use Rattle.hoa_reader.specs.Validity.{IsValid}
 use Rattle.plan_meaning.specs.Filters.{IsKept}
 use Rattle.plan_meaning.specs.Laws as verdict
-use Rattle.plan_meaning.specs.Laws.{IsVerdict, SomeVerdict, Verdict}
+use Rattle.plan_meaning.specs.Laws.{IsVerdict, AVerdictExists, Verdict}
 
 -- a fault ends the run here
 pub record IsStopped (plan : Plan) (ops : List Automaton) (p : Point) : Type 0 where
@@ -37,7 +37,7 @@ pub record IsStopped (plan : Plan) (ops : List Automaton) (p : Point) : Type 0 w
   pub by_text : IsByText (end.Fault fault)
   pub name : List ℕ
   pub left : Option (List ℕ)
-  pub stops : Stops plan ops fault name p left
+  pub stops : StopsRun plan ops fault name p left
   pub counted : IsCounted fault p left
 
 -- from here on all is read that is asked for, or a fault ends the run
@@ -52,48 +52,48 @@ pub record Reads (plan : Plan) (ops : List Automaton) (texts : Texts) (p : Point
 pub record Existing (plan : Plan) (ops : List Automaton) : Type 0 where
   pub some : SomeStanding
   pub shown : AreShown
-  pub verdict : SomeVerdict
-  pub due : (w : Written) → IsValid w → PassesNone w → IsKept plan ops (described w) → NotNone (((text : List ℕ) × IsDue plan ops w text) ⊎ ((which : Limit) × IsOver which plan ops w))
+  pub verdict : AVerdictExists
+  pub due : (w : Written) → IsValid w → PassesNone w → IsKept plan ops (described w) → NotNone (((text : List ℕ) × IsDue plan ops w text) ⊎ ((which : Limit) × IsOverLimit which plan ops w))
 
 module _ (plan : Plan) (ops : List Automaton) (on : Existing plan ops) (texts : Texts) where
   done : (p : Point) → IsDone plan p → Reads plan ops texts p
   done p h = record { events = []; judged = tt; point = p; happen = refl; ends = inl h }
 
-  behind_one : (e : Event) (p q : Point) → asks_on plan p.kept ≡ true → IsJudged plan ops e → Goes texts e p q → Reads plan ops texts q → Reads plan ops texts p
+  behind_one : (e : Event) (p q : Point) → asks_on plan p.kept ≡ true → IsEventJudged plan ops e → EventLeads texts e p q → Reads plan ops texts q → Reads plan ops texts p
   behind_one e p q asks judged goes r = record { events = e ∷ r.events; judged = (judged, r.judged); point = r.point; happen = (asks, q, goes, r.happen); ends = r.ends }
 
   stopped : (p : Point) (s : Stream) (more : ℕ) → asks_on plan p.kept ≡ true → p.stream ≡ Some s → p.before + (length s.text + more) < MOST_BYTES
-      → (f : RunFault) (left : List ℕ) → IsByText (end.Fault f) → (f ≡ fault.Limit limit.Bytes → ⊥) → StopsAt (λ which w. IsOver which plan ops w) f (place s.text s.rest) s.rest left
+      → (f : RunFault) (left : List ℕ) → IsByText (end.Fault f) → (f ≡ fault.Limit limit.Bytes → ⊥) → StopsReading (λ which w. IsOverLimit which plan ops w) f (bytes_before s.text s.rest) s.rest left
       → Reads plan ops texts p
   stopped p s more asks is few f left by other h =
-      let at : AtNamed (asks_on plan p.kept ≡ true) p s.name (Some left) (StopsAt (λ which w. IsOver which plan ops w) f) =
+      let at : AtNamed (asks_on plan p.kept ≡ true) p s.name (Some left) (StopsReading (λ which w. IsOverLimit which plan ops w) f) =
       record { at = record { asks = asks; stream = s; is_open = is; now = left; told = refl; stands = h }; named = refl } in
       let here : IsStopped plan ops p = record {
         fault = f;
         by_text = by;
         name = s.name;
         left = Some left;
-        stops = stops_where (asks_on plan p.kept ≡ true) (StopsAt (λ which w. IsOver which plan ops w)) f s.name p (Some left) by at;
+        stops = stops_where (asks_on plan p.kept ≡ true) (StopsReading (λ which w. IsOverLimit which plan ops w)) f s.name p (Some left) by at;
         counted = is_counted f p s left more by other is few;
       } in
       record { events = []; judged = tt; point = p; happen = refl; ends = inr here }
 
   -- a limit is passed behind the reader
   passed : (p : Point) (s : Stream) (more : ℕ) → asks_on plan p.kept ≡ true → p.stream ≡ Some s → p.before + (length s.text + more) < MOST_BYTES
-      → (which : Limit) (w : Written) (next : List ℕ) → IsGood (place s.text s.rest) s.rest w next → IsOver which plan ops w → Reads plan ops texts p
+      → (which : Limit) (w : Written) (next : List ℕ) → IsGood (bytes_before s.text s.rest) s.rest w next → IsOverLimit which plan ops w → Reads plan ops texts p
   passed p s more asks is few which w next good h =
       let whole = plan_passes which plan ops w h in
       stopped p s more asks is few (fault.Limit which) next tt (passed_other which whole)
-      (past (λ x v. IsOver x plan ops v) which (place s.text s.rest) s.rest next whole (record { automaton = w; whole = good.whole; holds = inr h }))
+      (past (λ x v. IsOverLimit x plan ops v) which (bytes_before s.text s.rest) s.rest next whole (record { automaton = w; whole = good.whole; holds = inr h }))
 
   -- an automaton that is good
   at_good : (p : Point) (s : Stream) (more : ℕ) → asks_on plan p.kept ≡ true → p.stream ≡ Some s → p.before + (length s.text + more) < MOST_BYTES
-      → (w : Written) (next : List ℕ) → IsGood (place s.text s.rest) s.rest w next
+      → (w : Written) (next : List ℕ) → IsGood (bytes_before s.text s.rest) s.rest w next
       → ((kept : ℕ) → NotNone (Reads plan ops texts (read_on p s next kept)))
       → NotNone (Reads plan ops texts p)
   at_good p s more asks is few w next good deeper none = on.verdict plan ops (described w) by_verdict
     where
-      due_or_over : IsKept plan ops (described w) → ((text : List ℕ) × IsDue plan ops w text) ⊎ ((which : Limit) × IsOver which plan ops w) → ⊥
+      due_or_over : IsKept plan ops (described w) → ((text : List ℕ) × IsDue plan ops w text) ⊎ ((which : Limit) × IsOverLimit which plan ops w) → ⊥
       due_or_over k (inl d) =
           deeper (p.kept + 1)
           (λ r. none (behind_one (Kept w d.0) p (read_on p s next (p.kept + 1)) asks (k, d.1) (record { stream = s; is_open = is; next = next; stands = good; few = omega (arith, few); to = refl }) r))
@@ -109,15 +109,15 @@ module _ (plan : Plan) (ops : List Automaton) (on : Existing plan ops) (texts : 
   -- in an open stream
   at_rest : (p : Point) (s : Stream) (more : ℕ) → asks_on plan p.kept ≡ true → p.stream ≡ Some s → p.before + (length s.text + more) < MOST_BYTES
       → ((next : List ℕ) (kept : ℕ) → length next < length s.rest → NotNone (Reads plan ops texts (read_on p s next kept)))
-      → NotNone (Reads plan ops texts (ended_at p s))
+      → NotNone (Reads plan ops texts (at_stream_end p s))
       → NotNone (Reads plan ops texts p)
-  at_rest p s more asks is few deeper behind none = something_found (λ which w. IsOver which plan ops w) (place s.text s.rest) s.rest on.some on.shown go
+  at_rest p s more asks is few deeper behind none = something_found (λ which w. IsOverLimit which plan ops w) (bytes_before s.text s.rest) s.rest on.some on.shown go
     where
-      go : Found (λ which w. IsOver which plan ops w) (place s.text s.rest) s.rest → ⊥
-      go (OnlyBlanks h) = behind (λ r. none (behind_one Ended p (ended_at p s) asks tt (record { stream = s; is_open = is; blank = h; few = omega (arith, few); to = refl }) r))
-      go (OneGood w next h) = at_good p s more asks is few w next h (λ kept. deeper next kept (whole_less (place s.text s.rest) s.rest w next h.whole)) none
+      go : Found (λ which w. IsOverLimit which plan ops w) (bytes_before s.text s.rest) s.rest → ⊥
+      go (OnlyBlanks h) = behind (λ r. none (behind_one Ended p (at_stream_end p s) asks tt (record { stream = s; is_open = is; blank = h; few = omega (arith, few); to = refl }) r))
+      go (OneGood w next h) = at_good p s more asks is few w next h (λ kept. deeper next kept (whole_less (bytes_before s.text s.rest) s.rest w next h.whole)) none
       go (OneAborted next h) =
-          deeper next p.kept (aborted_less (place s.text s.rest) s.rest next h)
+          deeper next p.kept (aborted_less (bytes_before s.text s.rest) s.rest next h)
           (λ r. none (behind_one (Skipped s.name) p (read_on p s next p.kept) asks tt
           (record { reads = record { stream = s; is_open = is; next = next; stands = h; few = omega (arith, few); to = refl }; named = refl }) r))
       go (OneRefused h) = none (stopped p s more asks is few h.fault h.left h.by_text h.other h.stops)
@@ -135,13 +135,13 @@ module _ (plan : Plan) (ops : List Automaton) (on : Existing plan ops) (texts : 
       → NotNone (Reads plan ops texts p)
   in_stream zero p s more is small few behind =
       asked_or_done p (asks_on plan p.kept) refl
-      (λ asks. at_rest p s more asks is few (λ next kept l. absurd (omega (arith, l, small))) (behind (ended_at p s) refl refl (omega (arith, few))))
+      (λ asks. at_rest p s more asks is few (λ next kept l. absurd (omega (arith, l, small))) (behind (at_stream_end p s) refl refl (omega (arith, few))))
   in_stream (suc n) p s more is small few behind =
       asked_or_done p (asks_on plan p.kept) refl
       (λ asks.
       at_rest p s more asks is few
       (λ next kept l. in_stream n (read_on p s next kept) (record { name = s.name; text = s.text; rest = next }) more refl (omega (arith, l, small)) few behind)
-      (behind (ended_at p s) refl refl (omega (arith, few))))
+      (behind (at_stream_end p s) refl refl (omega (arith, few))))
 
   pub in_streams : (names : List (List ℕ)) (p : Point) → p.coming ≡ names → p.stream ≡ None → p.before + size_of texts names < MOST_BYTES → NotNone (Reads plan ops texts p)
   in_streams [] p is closed few none = none (done p (inr (closed, is)))

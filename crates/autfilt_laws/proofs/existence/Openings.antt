@@ -2,24 +2,24 @@
 use Rattle.std.proofs.Common.{◌≡◌, ◌∙◌, ℕ, List, [], ◌∷◌, ◌++◌, ap, length, refl, sym, take}
 use Rattle.std.proofs.lemmas.List.{append-nil, append_assoc}
 use Rattle.aut_io.specs.Outside.{Texts}
-use Rattle.autfilt_run.specs.Events.{Dropped, Ended, Event, Goes, Happen, Kept, Opened, Point, Skipped, opened_stream, opened_streams}
+use Rattle.autfilt_run.specs.Events.{Dropped, Ended, Event, EventLeads, Happen, Kept, Opened, Point, Skipped, opened_stream, opened_streams}
 use Rattle.autfilt_run.specs.OperandEvents.{AreRead, FileOpened, OperandEvent, PassedOver, Proceeds, Taken, opened_file, opened_files}
 use Rattle.filter_plan.specs.declared.plan.Plan.{Plan}
 
 coming_of : (p q : Point) → p ≡ q → p.coming ≡ q.coming
 coming_of p q same = ap (λ (x : Point). x.coming) same
 
-goes_on : (texts : Texts) (e : Event) (p q : Point) → Goes texts e p q → p.coming ≡ opened_stream e ++ q.coming
-goes_on texts (Opened name) p q g = g.next ∙ ap (λ (names : List (List ℕ)). name ∷ names) (sym (ap (λ (x : Point). x.coming) g.to))
-goes_on texts (Kept w text) p q g = sym (ap (λ (x : Point). x.coming) g.to)
-goes_on texts (Dropped w) p q g = sym (ap (λ (x : Point). x.coming) g.to)
-goes_on texts (Skipped name) p q g = sym (ap (λ (x : Point). x.coming) g.reads.to)
-goes_on texts Ended p q g = sym (ap (λ (x : Point). x.coming) g.to)
+coming_after_event : (texts : Texts) (e : Event) (p q : Point) → EventLeads texts e p q → p.coming ≡ opened_stream e ++ q.coming
+coming_after_event texts (Opened name) p q g = g.next ∙ ap (λ (names : List (List ℕ)). name ∷ names) (sym (ap (λ (x : Point). x.coming) g.to))
+coming_after_event texts (Kept w text) p q g = sym (ap (λ (x : Point). x.coming) g.to)
+coming_after_event texts (Dropped w) p q g = sym (ap (λ (x : Point). x.coming) g.to)
+coming_after_event texts (Skipped name) p q g = sym (ap (λ (x : Point). x.coming) g.reads.to)
+coming_after_event texts Ended p q g = sym (ap (λ (x : Point). x.coming) g.to)
 
 pub streams_opened : (plan : Plan) (texts : Texts) (events : List Event) (p q : Point) → Happen plan texts events p q → p.coming ≡ opened_streams events ++ q.coming
 streams_opened plan texts [] p q h = coming_of p q h
 streams_opened plan texts (e ∷ events) p q h =
-    goes_on texts e p h.1 h.2
+    coming_after_event texts e p h.1 h.2
     ∙ (ap (λ (names : List (List ℕ)). opened_stream e ++ names) (streams_opened plan texts events h.1 q h.3) ∙ sym (append_assoc (opened_stream e) (opened_streams events) q.coming))
 
 proceeds_on : (texts : Texts) (e : OperandEvent) (p q : Point) → Proceeds texts e p q → p.coming ≡ opened_file e ++ q.coming

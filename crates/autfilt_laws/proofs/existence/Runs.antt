@@ -10,15 +10,15 @@ use Rattle.autfilt_laws.proofs.existence.Found.{AreShown}
 use Rattle.autfilt_laws.proofs.existence.GoodOperands.{good_operands}
 use Rattle.autfilt_laws.proofs.existence.InOperands.{IsStoppedThere, ReadsThere, in_files}
 use Rattle.autfilt_laws.proofs.existence.InStreams.{Existing, IsStopped, Reads, in_streams}
-use Rattle.autfilt_laws.specs.Runs.{EachIsDue, IsByText, IsEnded, Outcome, SomeEnd, size_of, streams_from, texts_or}
+use Rattle.autfilt_laws.specs.Runs.{EachIsDue, IsByText, IsEnded, Outcome, ARunExists, size_of, streams_from, texts_or}
 use Rattle.autfilt_run.specs.Events.{Point, Tally, start_of}
-use Rattle.autfilt_run.specs.OperandEvents.{AreRead, OperandEvent, all_passed, operands_of}
-use Rattle.autfilt_run.specs.Plans.{streams_of}
+use Rattle.autfilt_run.specs.OperandEvents.{AreRead, OperandEvent, all_passed, operands_read}
+use Rattle.autfilt_run.specs.Plans.{plan_streams}
 use Rattle.autfilt_run.specs.Runs.{IsDone}
 use Rattle.filter_plan.specs.Words.{operands}
 use Rattle.filter_plan.specs.declared.plan.Plan.{Plan}
 use Rattle.hoa_parser.specs.Standing.{SomeStanding}
-use Rattle.plan_meaning.specs.Laws.{SomeVerdict}
+use Rattle.plan_meaning.specs.Laws.{AVerdictExists}
 
 -- an end of a run that read all
 abbrev IsOfAll : End → Type 0
@@ -37,13 +37,13 @@ of_all t = one_of_three (t.skipped == 0) (t.kept == 0)
 
 module _ (plan : Plan) (texts : Texts) (left : Option (List ℕ)) (taken : List OperandEvent) (first : Point) (read : AreAllRead plan texts left taken first) where
   abbrev ReadsBehind : Type 0
-  ReadsBehind = Reads plan (operands_of taken) (texts_or plan.made texts) (streams_from plan first)
+  ReadsBehind = Reads plan (operands_read taken) (texts_or plan.made texts) (streams_from plan first)
 
   abbrev outcome : ReadsBehind → End → List ℕ → Option (List ℕ) → Outcome
   outcome r e name now = record { taken = taken; events = r.events; end = e; name = name; left = now }
 
   ended : (r : ReadsBehind) (e : End) (name : List ℕ) (now : Option (List ℕ)) → IsByText e → EndsByTally e (length (all_passed taken)) r.events
-      → EndsAt plan (operands_of taken) e name r.point now → IsEnded plan texts left (outcome r e name now)
+      → EndsAt plan (operands_read taken) e name r.point now → IsEnded plan texts left (outcome r e name now)
   ended r e name now by tallied ends = record {
     by_text = by;
     ran = inr (record {
@@ -64,7 +64,7 @@ module _ (plan : Plan) (texts : Texts) (left : Option (List ℕ)) (taken : List 
   ended_of_all r end.Usage all is h = absurd all
   ended_of_all r (end.Fault f) all is h = absurd all
 
-  some_end_of : (r : ReadsBehind) → IsDone plan r.point ⊎ IsStopped plan (operands_of taken) r.point → (o : Outcome) × IsEnded plan texts left o
+  some_end_of : (r : ReadsBehind) → IsDone plan r.point ⊎ IsStopped plan (operands_read taken) r.point → (o : Outcome) × IsEnded plan texts left o
   some_end_of r (inl h) =
       let t = tally_after (length (all_passed taken)) r.events in
       (outcome r (end_of t) [] r.point.left, ended_of_all r (end_of t) (of_all t) refl h)
@@ -80,17 +80,17 @@ stopped_before plan texts left taken p read h = record {
 
 -- how many bytes the streams may have
 abbrev spare : Plan → Texts → ℕ
-spare plan texts = size_of (texts_or plan.made texts) (streams_of plan)
+spare plan texts = size_of (texts_or plan.made texts) (plan_streams plan)
 
-pub some_end : SomeStanding → AreShown → SomeVerdict → EachIsDue → SomeEnd
-some_end some shown verdict due plan texts left few none =
+pub a_run_exists : SomeStanding → AreShown → AVerdictExists → EachIsDue → ARunExists
+a_run_exists some shown verdict due plan texts left few none =
     in_files some shown texts (spare plan texts) (operands plan) (start_of (operands plan) left 0) refl refl (omega (arith, few)) (λ r. go r r.ends)
   where
     go : (r : ReadsThere texts (spare plan texts) (start_of (operands plan) left 0))
         → (IsThrough r.point × (r.point.before + spare plan texts < MOST_BYTES)) ⊎ IsStoppedThere r.point → ⊥
     go r (inl h) =
         let read : AreAllRead plan texts left r.taken r.point = record { read = r.read; none_coming = h.0.none; none_open = h.0.closed } in
-        let exists : Existing plan (operands_of r.taken) = record { some = some; shown = shown; verdict = verdict; due = due plan r.taken (good_operands plan texts left r.taken r.point read) } in
-        in_streams plan (operands_of r.taken) exists (texts_or plan.made texts) (streams_of plan) (streams_from plan r.point) refl refl h.1
+        let exists : Existing plan (operands_read r.taken) = record { some = some; shown = shown; verdict = verdict; due = due plan r.taken (good_operands plan texts left r.taken r.point read) } in
+        in_streams plan (operands_read r.taken) exists (texts_or plan.made texts) (plan_streams plan) (streams_from plan r.point) refl refl h.1
         (λ x. let found = some_end_of plan texts left r.taken r.point read x x.ends in none found.0 found.1)
     go r (inr h) = none _ (stopped_before plan texts left r.taken r.point r.read h)

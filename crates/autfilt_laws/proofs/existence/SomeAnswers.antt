@@ -5,18 +5,18 @@ use Rattle.aut_io.specs.Outside.{Gains, Texts, raised_by}
 use Rattle.aut_io.specs.Seen.{Seen, SinkSeen}
 use Rattle.autfilt_command.specs.Ends.{ended_of}
 use Rattle.autfilt_command.specs.Notes.{line_of}
-use Rattle.autfilt_command.specs.Run.{AreAllRead, EndsBecause, EndsInOperands, EndsOpened, Prints, Runs, RunsOver, RunsOverAs, RunsTo, all_noted, passed_noted}
+use Rattle.autfilt_command.specs.Run.{AreAllRead, EndsBecause, EndsInOperands, EndsOpened, PrintsRun, Runs, RunsOver, RunsOverAs, RunsTo, all_noted, passed_noted}
 use Rattle.autfilt_command.specs.declared.ended.End.{End}
 use Rattle.autfilt_command.specs.declared.ended.End.TheVariants as end
 use Rattle.autfilt_laws.proofs.alike.Answers.{text_due}
 use Rattle.autfilt_laws.proofs.existence.GoodOperands.{good_operands}
 use Rattle.autfilt_laws.proofs.existence.Openings.{all_of, files_opened, front_of, streams_opened}
 use Rattle.autfilt_laws.specs.Answers.{IsByTexts, SomeAnswer}
-use Rattle.autfilt_laws.specs.Runs.{EndsBefore, EndsInStreams, IsByText, IsEnded, Outcome, SomeEnd, left_or, streams_from, texts_or}
+use Rattle.autfilt_laws.specs.Runs.{EndsBefore, EndsInStreams, IsByText, IsEnded, Outcome, ARunExists, left_or, streams_from, texts_or}
 use Rattle.autfilt_run.specs.Events.{Event, opened_streams, start_of}
-use Rattle.autfilt_run.specs.OperandEvents.{all_passed, opened_files, operands_of}
+use Rattle.autfilt_run.specs.OperandEvents.{all_passed, opened_files, operands_read}
 use Rattle.autfilt_run.specs.Openings.{MayEnd}
-use Rattle.autfilt_run.specs.Plans.{streams_of}
+use Rattle.autfilt_run.specs.Plans.{plan_streams}
 use Rattle.autfilt_run.specs.declared.fault.RunFault.{RunFault}
 use Rattle.autfilt_run.specs.declared.fault.RunFault.TheVariants as fault
 use Rattle.filter_plan.specs.Words.{operands}
@@ -87,7 +87,7 @@ module _ (inputs inputs' : Seen) (out out' : SinkSeen) (opens : inputs'.open_fau
   because (end.Fault fault.WriteFault) by = absurd by
   because (end.Fault fault.Memory) by = absurd by
 
-prints : (p : Plan) (e : End) (events : List Event) (old : Option (List ℕ)) → IsByText e → Prints p e events old (with_text old (text_due p e events))
+prints : (p : Plan) (e : End) (events : List Event) (old : Option (List ℕ)) → IsByText e → PrintsRun p e events old (with_text old (text_due p e events))
 prints p end.Output events old by = gains old _
 prints p end.NoneOutput events old by = gains old _
 prints p end.Aborts events old by = gains old _
@@ -149,7 +149,7 @@ module _ (plan : Plan) (texts : Texts) (inputs : Seen) (told : inputs.texts ≡ 
 
   module _ (h : EndsInStreams plan texts inputs.left o) where
     abbrev ops : List Automaton
-    ops = operands_of o.taken
+    ops = operands_read o.taken
 
     abbrev passed : ℕ
     passed = length (all_passed o.taken)
@@ -161,12 +161,12 @@ module _ (plan : Plan) (texts : Texts) (inputs : Seen) (told : inputs.texts ≡ 
     abbrev written : SinkSeen
     written = gained out (text_due plan o.end o.events)
 
-    streams_named : (k : ℕ) × (opened_streams o.events ≡ take k (streams_of plan))
-    streams_named = front_of (opened_streams o.events) (streams_of plan) h.runs.point.coming
+    streams_named : (k : ℕ) × (opened_streams o.events ≡ take k (plan_streams plan))
+    streams_named = front_of (opened_streams o.events) (plan_streams plan) h.runs.point.coming
         (streams_opened plan (texts_or plan.made texts) o.events (streams_from plan h.point) h.runs.point h.runs.happen)
 
     -- over the streams that these inputs tell
-    over : (seen seen' : Seen) → ((other : Texts) → seen.texts ≡ Some other → RunsTo plan ops other (start_of (streams_of plan) seen.left h.point.before) seen'.left o.events o.end o.name)
+    over : (seen seen' : Seen) → ((other : Texts) → seen.texts ≡ Some other → RunsTo plan ops other (start_of (plan_streams plan) seen.left h.point.before) seen'.left o.events o.end o.name)
         → seen'.openings ≡ raised_by (length (opened_streams o.events)) seen.openings → Runs plan ops passed h.point.before o.end o.events o.name seen seen' out written
     over seen seen' happened openings = record {
       judged = h.judged;
@@ -194,8 +194,8 @@ module _ (plan : Plan) (texts : Texts) (inputs : Seen) (told : inputs.texts ≡ 
           opens = refl;
           reads = refl;
           runs = subst (λ (m : Option ℕ). RunsOverAs m plan ops passed h.point.before o.end o.events o.name mid seen' out written) (sym made)
-              (over mid seen' (λ other is. subst (λ (t : Texts). RunsTo plan ops t (start_of (streams_of plan) h.point.left h.point.before) o.left o.events o.end o.name) (told_so other is)
-              (subst (λ (l : Option (List ℕ)). RunsTo plan ops (texts_or plan.made texts) (start_of (streams_of plan) l h.point.before) o.left o.events o.end o.name) left_there h.runs)) refl);
+              (over mid seen' (λ other is. subst (λ (t : Texts). RunsTo plan ops t (start_of (plan_streams plan) h.point.left h.point.before) o.left o.events o.end o.name) (told_so other is)
+              (subst (λ (l : Option (List ℕ)). RunsTo plan ops (texts_or plan.made texts) (start_of (plan_streams plan) l h.point.before) o.left o.events o.end o.name) left_there h.runs)) refl);
         }
     streams (Some n) made =
         let begun = seen_of_made (record { count = n; left = []; openings = 0 }) in
@@ -210,8 +210,8 @@ module _ (plan : Plan) (texts : Texts) (inputs : Seen) (told : inputs.texts ≡ 
           runs = subst (λ (m : Option ℕ). RunsOverAs m plan ops passed h.point.before o.end o.events o.name mid mid out written) (sym made) (record {
             untouched = refl;
             made = seen';
-            runs = over begun seen' (λ other is. subst (λ (t : Texts). RunsTo plan ops t (start_of (streams_of plan) (Some []) h.point.before) o.left o.events o.end o.name) (told_so other is)
-                (subst (λ (l : Option (List ℕ)). RunsTo plan ops (texts_or plan.made texts) (start_of (streams_of plan) l h.point.before) o.left o.events o.end o.name) left_there h.runs)) refl;
+            runs = over begun seen' (λ other is. subst (λ (t : Texts). RunsTo plan ops t (start_of (plan_streams plan) (Some []) h.point.before) o.left o.events o.end o.name) (told_so other is)
+                (subst (λ (l : Option (List ℕ)). RunsTo plan ops (texts_or plan.made texts) (start_of (plan_streams plan) l h.point.before) o.left o.events o.end o.name) left_there h.runs)) refl;
           });
         }
 
@@ -253,7 +253,7 @@ behind_it plan texts inputs told out o e = go e.ran
 
 -- ---- the answer
 
-pub some_answer : SomeEnd → SomeAnswer
+pub some_answer : ARunExists → SomeAnswer
 some_answer ends words plan texts inputs out notes is told few none =
     ends plan texts inputs.left few (λ o e. (
     let b = behind_it plan texts inputs told out o e in

@@ -11,7 +11,7 @@ use Rattle.aut_base.proofs.lists.Members.{any_found, any_from, each_from, each_i
 use Rattle.aut_base.proofs.words.SameEdges.{Alike, met_alike}
 use Rattle.aut_base.proofs.words.Texts.{same_text}
 use Rattle.aut_base.proofs.numbers.Truth.{same_truth}
-use Rattle.aut_base.specs.Automaton.{TreeEdge}
+use Rattle.aut_base.specs.Automaton.{LabelledEdge}
 use Rattle.aut_base.specs.Formula.{FormulaTree, met}
 
 -- ---- how many items pass a test
@@ -20,13 +20,13 @@ abbrev pub tally : {A : Type 0} → (A → Bool) → List A → ℕ
 tally p [] = 0
 tally p (x ∷ xs) = cond (p x) (suc (tally p xs)) (tally p xs)
 
-one_more : (b : Bool) (m n : ℕ) → m ≤ n → cond b (suc m) m ≤ suc n
-one_more true m n h = omega (arith, h)
-one_more false m n h = omega (arith, h)
+counted_at_most : (b : Bool) (m n : ℕ) → m ≤ n → cond b (suc m) m ≤ suc n
+counted_at_most true m n h = omega (arith, h)
+counted_at_most false m n h = omega (arith, h)
 
 pub tally_most : {A : Type 0} (p : A → Bool) (xs : List A) → tally p xs ≤ length xs
 tally_most p [] = omega arith
-tally_most p (x ∷ xs) = one_more (p x) (tally p xs) (length xs) (tally_most p xs)
+tally_most p (x ∷ xs) = counted_at_most (p x) (tally p xs) (length xs) (tally_most p xs)
 
 both_more : (b c : Bool) (m n : ℕ) → (b ≡ true → c ≡ true) → m ≤ n → cond b (suc m) m ≤ cond c (suc n) n
 both_more true true m n f h = omega (arith, h)
@@ -75,35 +75,35 @@ in_longer (suc m) (suc n) (y ∷ ys) x less there = elim (there_cases y (take m 
 -- ---- the same marks
 
 -- each edge of the first list has the marks of one of the second
-abbrev pub Covers : List TreeEdge → List TreeEdge → Type 0
-Covers es fs = (e : TreeEdge) → Contains es e → (f : TreeEdge) × Contains fs f × (f.marks ≡ e.marks)
+abbrev pub Covers : List LabelledEdge → List LabelledEdge → Type 0
+Covers es fs = (e : LabelledEdge) → Contains es e → (f : LabelledEdge) × Contains fs f × (f.marks ≡ e.marks)
 
-pub covers_itself : (es : List TreeEdge) → Covers es es
+pub covers_itself : (es : List LabelledEdge) → Covers es es
 covers_itself es e there = (e, there, refl)
 
-pub covers_on : (es fs gs : List TreeEdge) → Covers es fs → Covers fs gs → Covers es gs
+pub covers_on : (es fs gs : List LabelledEdge) → Covers es fs → Covers fs gs → Covers es gs
 covers_on es fs gs first second e there =
     let f = first e there in
     let g = second f.0 f.1 in
     (g.0, g.1, g.2 ∙ f.2)
 
 -- an edge of the list has the marks of this one
-abbrev pub is_seen : List TreeEdge → TreeEdge → Bool
-is_seen es e = list_any (λ (f : TreeEdge). pointwise nat_eq f.marks e.marks) es
+abbrev pub is_seen : List LabelledEdge → LabelledEdge → Bool
+is_seen es e = list_any (λ (f : LabelledEdge). pointwise nat_eq f.marks e.marks) es
 
-pub seen_there : (es : List TreeEdge) (e : TreeEdge) → Contains es e → is_seen es e ≡ true
-seen_there es e there = any_from (λ (f : TreeEdge). pointwise nat_eq f.marks e.marks) es e there (nat_list_eq_equiv.refl e.marks)
+pub seen_there : (es : List LabelledEdge) (e : LabelledEdge) → Contains es e → is_seen es e ≡ true
+seen_there es e there = any_from (λ (f : LabelledEdge). pointwise nat_eq f.marks e.marks) es e there (nat_list_eq_equiv.refl e.marks)
 
-pub there_seen : (es : List TreeEdge) (e : TreeEdge) → is_seen es e ≡ true → (f : TreeEdge) × Contains es f × (f.marks ≡ e.marks)
+pub there_seen : (es : List LabelledEdge) (e : LabelledEdge) → is_seen es e ≡ true → (f : LabelledEdge) × Contains es f × (f.marks ≡ e.marks)
 there_seen es e seen =
-    let found = any_found (λ (f : TreeEdge). pointwise nat_eq f.marks e.marks) es seen in
+    let found = any_found (λ (f : LabelledEdge). pointwise nat_eq f.marks e.marks) es seen in
     (found.0, found.1, same_text found.0.marks e.marks found.2)
 
 any_there : {A : Type 0} (p : A → Bool) (xs ys : List A) → ((x : A) → Contains xs x → Contains ys x) → list_any p xs ≡ true → list_any p ys ≡ true
 any_there p xs ys within some = let found = any_found p xs some in any_from p ys found.0 (within found.0 found.1) found.2
 
-pub seen_longer : (es fs : List TreeEdge) → ((e : TreeEdge) → Contains es e → Contains fs e) → (e : TreeEdge) → is_seen es e ≡ true → is_seen fs e ≡ true
-seen_longer es fs within e seen = any_there (λ (f : TreeEdge). pointwise nat_eq f.marks e.marks) es fs within seen
+pub seen_longer : (es fs : List LabelledEdge) → ((e : LabelledEdge) → Contains es e → Contains fs e) → (e : LabelledEdge) → is_seen es e ≡ true → is_seen fs e ≡ true
+seen_longer es fs within e seen = any_there (λ (f : LabelledEdge). pointwise nat_eq f.marks e.marks) es fs within seen
 
 all_there : {A : Type 0} (p : A → Bool) (xs ys : List A) → ((x : A) → Contains ys x → Contains xs x) → list_all p xs ≡ true → list_all p ys ≡ true
 all_there p xs ys within all = each_from p ys (λ y there. each_is p xs y all (within y there))
@@ -114,12 +114,12 @@ same_items xs ys to from = record {
   each = λ p. same_truth (list_all p xs) (list_all p ys) (all_there p xs ys from) (all_there p ys xs to);
 }
 
-marks_there : (es fs : List TreeEdge) → Covers es fs → (m : List ℕ) → Contains (marks_of es) m → Contains (marks_of fs) m
+marks_there : (es fs : List LabelledEdge) → Covers es fs → (m : List ℕ) → Contains (marks_of es) m → Contains (marks_of fs) m
 marks_there es fs covers m there =
-    let e = from_map (λ (d : TreeEdge). d.marks) es m there in
+    let e = from_map (λ (d : LabelledEdge). d.marks) es m there in
     let f = covers e.0 e.1 in
-    subst (Contains (marks_of fs)) (f.2 ∙ e.2) (there_map (λ (d : TreeEdge). d.marks) fs f.0 f.1)
+    subst (Contains (marks_of fs)) (f.2 ∙ e.2) (there_map (λ (d : LabelledEdge). d.marks) fs f.0 f.1)
 
 -- such lists of edges meet the same conditions
-pub met_covering : (es fs : List TreeEdge) → Covers es fs → Covers fs es → (f : FormulaTree) → met (marks_of es) f ≡ met (marks_of fs) f
+pub met_covering : (es fs : List LabelledEdge) → Covers es fs → Covers fs es → (f : FormulaTree) → met (marks_of es) f ≡ met (marks_of fs) f
 met_covering es fs to from = met_alike (marks_of es) (marks_of fs) (same_items (marks_of es) (marks_of fs) (marks_there es fs to) (marks_there fs es from))

@@ -6,7 +6,7 @@ use Rattle.std.proofs.lemmas.List.Elements.{All-contains}
 use Rattle.aut_base.proofs.runs.LassoRuns.{marks_of}
 use Rattle.aut_base.proofs.runs.Paths.{path_join, path_split}
 use Rattle.aut_base.specs.Acceptance.{Accepts, IsPath}
-use Rattle.aut_base.specs.Automaton.{Automaton, IsEdgeOf, IsWellFormed, TreeEdge}
+use Rattle.aut_base.specs.Automaton.{Automaton, IsEdgeOf, IsWellFormed, LabelledEdge}
 use Rattle.aut_base.specs.Formula.{met}
 use Rattle.aut_base.specs.Word.{NameSet, copies}
 use Rattle.autfilt_laws.proofs.refuted.Covering.{met_covering}
@@ -15,7 +15,7 @@ use Rattle.autfilt_laws.proofs.refuted.Shortening.{StaysBelow, bound, end_below,
 
 module _ (a : Automaton) (u v : List NameSet) where
   -- the path comes back, and its edges meet the condition
-  abbrev Closes : ℕ → List TreeEdge → ℕ → Type 0
+  abbrev Closes : ℕ → List LabelledEdge → ℕ → Type 0
   Closes q es r = (r ≡ q) × (met (marks_of es) a.formula ≡ true)
 
   abbrev Round : ℕ → ℕ → Type 0
@@ -36,7 +36,7 @@ module _ (a : Automaton) (u v : List NameSet) where
   abbrev Starts : ℕ → Type 0
   Starts s = Found a s u (λ es p. Reaches p)
 
-  closes_or_not : (q : ℕ) (es : List TreeEdge) (r : ℕ) → OrNot (Closes q es r)
+  closes_or_not : (q : ℕ) (es : List LabelledEdge) (r : ℕ) → OrNot (Closes q es r)
   closes_or_not q es r = both_or_not (cases_eq r q) (true_or_not (met (marks_of es) a.formula))
 
   recurs_or_not : (q : ℕ) → OrNot (Recurs q)

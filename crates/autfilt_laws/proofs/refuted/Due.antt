@@ -15,12 +15,12 @@ use Rattle.autfilt_laws.proofs.existence.Silent.{silent}
 use Rattle.autfilt_laws.proofs.refuted.Refuting.{included}
 use Rattle.autfilt_laws.specs.Runs.{IsAlwaysDue, IsGoodOperand}
 use Rattle.autfilt_run.specs.Due.{IsDue, IsDueWhere, IsPrinted}
-use Rattle.autfilt_run.specs.OperandEvents.{FileOpened, OperandEvent, PassedOver, Taken, operands_of}
-use Rattle.autfilt_run.specs.Over.{IsOver, IsOverPrinting, StopsPrinting}
+use Rattle.autfilt_run.specs.OperandEvents.{FileOpened, OperandEvent, PassedOver, Taken, operands_read}
+use Rattle.autfilt_run.specs.Over.{IsOverLimit, IsOverPrinting, StopsPrinting}
 use Rattle.autfilt_run.specs.Plans.{prints_each}
 use Rattle.autfilt_run.specs.RefutationLine.{IsRefutationLine, SaysOfInclusion}
 use Rattle.filter_plan.specs.Table.{refuted}
-use Rattle.filter_plan.specs.Words.{listed, operands}
+use Rattle.filter_plan.specs.Words.{file_list, operands}
 use Rattle.filter_plan.specs.declared.plan.Output.{Output}
 use Rattle.filter_plan.specs.declared.plan.Output.TheVariants.{Refute}
 use Rattle.filter_plan.specs.declared.plan.Plan.{Plan}
@@ -37,34 +37,34 @@ use Rattle.word_syntax.specs.Printing.{word_text}
 
 -- ---- the operand
 
-operands_formed : (taken : List OperandEvent) → AllByRecursion IsGoodOperand taken → (b : Automaton) → Contains (operands_of taken) b → IsWellFormed b
+operands_formed : (taken : List OperandEvent) → AllByRecursion IsGoodOperand taken → (b : Automaton) → Contains (operands_read taken) b → IsWellFormed b
 operands_formed [] good b there = absurd (none_there b there)
 operands_formed (FileOpened name ∷ taken) good b there = operands_formed taken good.1 b there
 operands_formed (PassedOver name ∷ taken) good b there = operands_formed taken good.1 b there
-operands_formed (Taken w ∷ taken) good b there = elim (there_cases (canonical (described w)) (operands_of taken) b there) [
+operands_formed (Taken w ∷ taken) good b there = elim (there_cases (canonical (described w)) (operands_read taken) b there) [
   | inl here ↦ subst IsWellFormed here (canonical_is_well_formed (described w) (valid_is_well_formed w good.0.0))
   | inr later ↦ operands_formed taken good.1 b later
 ]
 
 refuted_within : (p : Plan) (file : List ℕ) (ops : List Automaton) → length ops ≡ length (operands p) → refuted p.output ≡ Some file → place_of_refuted p < length ops
 refuted_within p file ops number is =
-    let last = listed (refuted p.output) in
-    let sums = listed p.sum ++ last in
-    let unions = listed p.product_or ++ sums in
-    let products = listed p.product ++ unions in
-    let met = listed p.intersect ++ products in
-    let compared = listed p.equivalent_to ++ met in
-    let one : length last ≡ 1 = ap (λ o. length (listed o)) is in
+    let last = file_list (refuted p.output) in
+    let sums = file_list p.sum ++ last in
+    let unions = file_list p.product_or ++ sums in
+    let products = file_list p.product ++ unions in
+    let met = file_list p.intersect ++ products in
+    let compared = file_list p.equivalent_to ++ met in
+    let one : length last ≡ 1 = ap (λ o. length (file_list o)) is in
     omega (
       arith,
       one,
       number,
-      length-append (listed p.sum) last,
-      length-append (listed p.product_or) sums,
-      length-append (listed p.product) unions,
-      length-append (listed p.intersect) products,
-      length-append (listed p.equivalent_to) met,
-      length-append (listed p.included_in) compared,
+      length-append (file_list p.sum) last,
+      length-append (file_list p.product_or) sums,
+      length-append (file_list p.product) unions,
+      length-append (file_list p.intersect) products,
+      length-append (file_list p.equivalent_to) met,
+      length-append (file_list p.included_in) compared,
     )
 
 -- the operand that automata are refuted against, which is one of those that were read
@@ -89,7 +89,7 @@ operand_read p file ops number output =
 
 module _ (p : Plan) (file : List ℕ) (output : p.output ≡ Refute file) (on : prints_each p ≡ true) (ops : List Automaton) (r : IsRead p ops) (w : Written) where
   abbrev Nothing : Type 0
-  Nothing = ((text : List ℕ) × IsDue p ops w text) ⊎ ((which : Limit) × IsOver which p ops w) → ⊥
+  Nothing = ((text : List ℕ) × IsDue p ops w text) ⊎ ((which : Limit) × IsOverLimit which p ops w) → ⊥
 
   within_limits : IsValid w → PassesNone w → IsKept p ops (described w) → Nothing → IsWithinInclusion (canonical (described w)) r.operand
   within_limits valid within kept none which passes =
@@ -119,6 +119,6 @@ refuted_is_due p file output taken good w valid within kept none = go (prints_ea
     go : (b : Bool) → prints_each p ≡ b → ⊥
     go false off = silent p off taken good w valid within kept none
     go true on =
-        let ops = operands_of taken in
+        let ops = operands_read taken in
         let r = operand_read p file ops good.number output in
         something p file output on ops r w (operands_formed taken good.good r.operand r.there) valid within kept none

@@ -3,7 +3,7 @@ use Rattle.std.proofs.Common.{◌≡◌, ◌∙◌, ◌⊎◌, ◌<◌, ◌≤�
 use Rattle.std.proofs.lemmas.Bool.{cases_Bool, cases_eq, cases_lt, true≢false}
 use Rattle.aut_base.proofs.lists.Members.{first_there, later_there, none_there, there_cases}
 use Rattle.aut_base.specs.Acceptance.{IsPath}
-use Rattle.aut_base.specs.Automaton.{Automaton, TreeEdge}
+use Rattle.aut_base.specs.Automaton.{Automaton, LabelledEdge}
 use Rattle.aut_base.specs.Label.{holds_at, truth}
 use Rattle.aut_base.specs.Word.{NameSet}
 
@@ -47,19 +47,19 @@ up_to_or_not Q test (suc n) = elim (test (suc n)) [
 ]
 
 -- a path that reads these letters, of whose edges and end this holds
-pub record Found (a : Automaton) (p : ℕ) (xs : List NameSet) (P : List TreeEdge → ℕ → Type 0) : Type 0 where
-  pub path : List TreeEdge
+pub record Found (a : Automaton) (p : ℕ) (xs : List NameSet) (P : List LabelledEdge → ℕ → Type 0) : Type 0 where
+  pub path : List LabelledEdge
   pub stop : ℕ
   pub leads : IsPath a p xs path stop
   pub holds : P path stop
 
 -- the same, begun with this edge
-record Begins (a : Automaton) (p : ℕ) (x : NameSet) (xs : List NameSet) (P : List TreeEdge → ℕ → Type 0) (e : TreeEdge) : Type 0 where
+record Begins (a : Automaton) (p : ℕ) (x : NameSet) (xs : List NameSet) (P : List LabelledEdge → ℕ → Type 0) (e : LabelledEdge) : Type 0 where
   from : p ≡ e.from
   meets : truth (holds_at a.names x) e.label ≡ true
   rest : Found a e.to xs (λ es q. P (e ∷ es) q)
 
-begins_or_not : (a : Automaton) (p : ℕ) (x : NameSet) (xs : List NameSet) (P : List TreeEdge → ℕ → Type 0) (e : TreeEdge)
+begins_or_not : (a : Automaton) (p : ℕ) (x : NameSet) (xs : List NameSet) (P : List LabelledEdge → ℕ → Type 0) (e : LabelledEdge)
     → OrNot (Found a e.to xs (λ es q. P (e ∷ es) q)) → OrNot (Begins a p x xs P e)
 begins_or_not a p x xs P e (inr none) = inr (λ b. none b.rest)
 begins_or_not a p x xs P e (inl rest) = elim (cases_eq p e.from) [
@@ -70,25 +70,25 @@ begins_or_not a p x xs P e (inl rest) = elim (cases_eq p e.from) [
   | inr other ↦ inr (λ b. other b.from)
 ]
 
-no_letters : (a : Automaton) (P : List TreeEdge → ℕ → Type 0) (p : ℕ) (es : List TreeEdge) (q : ℕ) → IsPath a p [] es q → P es q → P [] p
+no_letters : (a : Automaton) (P : List LabelledEdge → ℕ → Type 0) (p : ℕ) (es : List LabelledEdge) (q : ℕ) → IsPath a p [] es q → P es q → P [] p
 no_letters a P p [] q path h = subst (P []) (sym path) h
 no_letters a P p (e ∷ es) q path h = absurd path
 
-abbrev BeginsOne : (a : Automaton) (p : ℕ) (x : NameSet) (xs : List NameSet) (P : List TreeEdge → ℕ → Type 0) → Type 0
-BeginsOne a p x xs P = (e : TreeEdge) × Contains a.edges e × Begins a p x xs P e
+abbrev BeginsOne : (a : Automaton) (p : ℕ) (x : NameSet) (xs : List NameSet) (P : List LabelledEdge → ℕ → Type 0) → Type 0
+BeginsOne a p x xs P = (e : LabelledEdge) × Contains a.edges e × Begins a p x xs P e
 
-one_letter : (a : Automaton) (P : List TreeEdge → ℕ → Type 0) (p : ℕ) (x : NameSet) (xs : List NameSet) (es : List TreeEdge) (q : ℕ)
+one_letter : (a : Automaton) (P : List LabelledEdge → ℕ → Type 0) (p : ℕ) (x : NameSet) (xs : List NameSet) (es : List LabelledEdge) (q : ℕ)
     → IsPath a p (x ∷ xs) es q → P es q → BeginsOne a p x xs P
 one_letter a P p x xs [] q path h = absurd path
 one_letter a P p x xs (e ∷ es) q path h = (e, path.1, record { from = path.0; meets = path.2; rest = record { path = es; stop = q; leads = path.3; holds = h } })
 
-pub path_or_not : (a : Automaton) (xs : List NameSet) (p : ℕ) (P : List TreeEdge → ℕ → Type 0) → ((es : List TreeEdge) (q : ℕ) → OrNot (P es q)) → OrNot (Found a p xs P)
+pub path_or_not : (a : Automaton) (xs : List NameSet) (p : ℕ) (P : List LabelledEdge → ℕ → Type 0) → ((es : List LabelledEdge) (q : ℕ) → OrNot (P es q)) → OrNot (Found a p xs P)
 path_or_not a [] p P test = elim (test [] p) [
   | inl here ↦ inl (record { path = []; stop = p; leads = refl; holds = here })
   | inr fails ↦ inr (λ f. fails (no_letters a P p f.path f.stop f.leads f.holds))
 ]
 path_or_not a (x ∷ xs) p P test =
-    let begun : (e : TreeEdge) → OrNot (Begins a p x xs P e) =
+    let begun : (e : LabelledEdge) → OrNot (Begins a p x xs P e) =
     λ e. begins_or_not a p x xs P e (path_or_not a xs e.to (λ es q. P (e ∷ es) q) (λ es q. test (e ∷ es) q)) in
     elim (listed_or_not (Begins a p x xs P) begun a.edges) [
       | inl b ↦ inl (record {

@@ -12,25 +12,25 @@ use Rattle.aut_base.proofs.runs.Paths.{path_join}
 use Rattle.aut_base.proofs.numbers.Pigeonhole.{pigeons}
 use Rattle.aut_base.proofs.runs.Walks.{ends}
 use Rattle.aut_base.specs.Acceptance.{IsPath}
-use Rattle.aut_base.specs.Automaton.{Automaton, TreeEdge}
+use Rattle.aut_base.specs.Automaton.{Automaton, LabelledEdge}
 use Rattle.aut_base.specs.Word.{NameSet, copies}
 use Rattle.autfilt_laws.proofs.refuted.Covering.{Covers, covers_itself, covers_on, in_back, in_front, in_longer, is_seen, seen_longer, seen_there, tally, tally_most, tally_same, there_seen}
 
 -- ---- paths
 
 -- a path in two, cut where the first list is read
-record Cut (a : Automaton) (p q : ℕ) (xs ys : List NameSet) (es : List TreeEdge) : Type 0 where
+record Cut (a : Automaton) (p q : ℕ) (xs ys : List NameSet) (es : List LabelledEdge) : Type 0 where
   first : IsPath a p xs (take (length xs) es) (ends p (take (length xs) es))
   second : IsPath a (ends p (take (length xs) es)) ys (drop (length xs) es) q
 
-cut : (a : Automaton) (p q : ℕ) (xs ys : List NameSet) (es : List TreeEdge) → IsPath a p (xs ++ ys) es q → Cut a p q xs ys es
+cut : (a : Automaton) (p q : ℕ) (xs ys : List NameSet) (es : List LabelledEdge) → IsPath a p (xs ++ ys) es q → Cut a p q xs ys es
 cut a p q [] ys es path = record { first = refl; second = path }
 cut a p q (x ∷ xs) ys [] path = absurd path
 cut a p q (x ∷ xs) ys (e ∷ es) path =
     let rest = cut a e.to q xs ys es path.3 in
     record { first = (path.0, path.1, path.2, rest.first); second = rest.second }
 
-own_edges : (a : Automaton) (p q : ℕ) (xs : List NameSet) (es : List TreeEdge) → IsPath a p xs es q → (e : TreeEdge) → Contains es e → Contains a.edges e
+own_edges : (a : Automaton) (p q : ℕ) (xs : List NameSet) (es : List LabelledEdge) → IsPath a p xs es q → (e : LabelledEdge) → Contains es e → Contains a.edges e
 own_edges a p q [] [] path e there = absurd (none_there e there)
 own_edges a p q [] (d ∷ es) path e there = absurd path
 own_edges a p q (x ∷ xs) [] path e there = absurd path
@@ -41,9 +41,9 @@ own_edges a p q (x ∷ xs) (d ∷ es) path e there = elim (there_cases d es e th
 
 -- edges lead to states of the automaton
 abbrev pub StaysBelow : Automaton → Type 0
-StaysBelow a = (e : TreeEdge) → Contains a.edges e → e.to < a.states
+StaysBelow a = (e : LabelledEdge) → Contains a.edges e → e.to < a.states
 
-pub end_below : (a : Automaton) → StaysBelow a → (p q : ℕ) (xs : List NameSet) (es : List TreeEdge) → p < a.states → IsPath a p xs es q → q < a.states
+pub end_below : (a : Automaton) → StaysBelow a → (p q : ℕ) (xs : List NameSet) (es : List LabelledEdge) → p < a.states → IsPath a p xs es q → q < a.states
 end_below a stays p q [] [] below path = subst (λ s. s < a.states) path below
 end_below a stays p q [] (e ∷ es) below path = absurd path
 end_below a stays p q (x ∷ xs) [] below path = absurd path
@@ -55,45 +55,45 @@ end_below a stays p q (x ∷ xs) (e ∷ es) below path = end_below a stays e.to 
 abbrev pub bound : Automaton → ℕ
 bound a = (length a.edges + 1) * a.states
 
-abbrev front : List NameSet → ℕ → List TreeEdge → List TreeEdge
+abbrev front : List NameSet → ℕ → List LabelledEdge → List LabelledEdge
 front v i es = take (length (copies i v)) es
 
-abbrev back : List NameSet → ℕ → List TreeEdge → List TreeEdge
+abbrev back : List NameSet → ℕ → List LabelledEdge → List LabelledEdge
 back v i es = drop (length (copies i v)) es
 
 -- the state behind so many rounds, and how many edges of the automaton have marks that were seen by then
-abbrev state_at : List NameSet → ℕ → List TreeEdge → ℕ → ℕ
+abbrev state_at : List NameSet → ℕ → List LabelledEdge → ℕ → ℕ
 state_at v p es i = ends p (front v i es)
 
-abbrev seen_at : Automaton → List NameSet → List TreeEdge → ℕ → ℕ
+abbrev seen_at : Automaton → List NameSet → List LabelledEdge → ℕ → ℕ
 seen_at a v es i = tally (is_seen (front v i es)) a.edges
 
-abbrev moment : Automaton → List NameSet → ℕ → List TreeEdge → ℕ → ℕ
+abbrev moment : Automaton → List NameSet → ℕ → List LabelledEdge → ℕ → ℕ
 moment a v p es i = state_at v p es (i + 1) * (length a.edges + 1) + seen_at a v es (i + 1)
 
-seen_few : (a : Automaton) (v : List NameSet) (es : List TreeEdge) (i : ℕ) → seen_at a v es i < length a.edges + 1
+seen_few : (a : Automaton) (v : List NameSet) (es : List LabelledEdge) (i : ℕ) → seen_at a v es i < length a.edges + 1
 seen_few a v es i = omega (arith, tally_most (is_seen (front v i es)) a.edges)
 
 -- the path in two, behind so many rounds
-cut_at : (a : Automaton) (v : List NameSet) (p q k i : ℕ) (es : List TreeEdge) → i ≤ k → IsPath a p (copies k v) es q → Cut a p q (copies i v) (copies (k - i) v) es
+cut_at : (a : Automaton) (v : List NameSet) (p q k i : ℕ) (es : List LabelledEdge) → i ≤ k → IsPath a p (copies k v) es q → Cut a p q (copies i v) (copies (k - i) v) es
 cut_at a v p q k i es less path =
     let e : k ≡ i + (k - i) = omega (arith, less) in
     cut a p q (copies i v) (copies (k - i) v) es (subst (λ xs. IsPath a p xs es q) (ap (λ n. copies n v) e ∙ copies-add i (k - i) v) path)
 
-moment_below : (a : Automaton) → StaysBelow a → (v : List NameSet) (p q k : ℕ) (es : List TreeEdge) → p < a.states → IsPath a p (copies k v) es q
+moment_below : (a : Automaton) → StaysBelow a → (v : List NameSet) (p q k : ℕ) (es : List LabelledEdge) → p < a.states → IsPath a p (copies k v) es q
     → (i : ℕ) → i < k → moment a v p es i < bound a
 moment_below a stays v p q k es below path i less =
     let here = cut_at a v p q k (i + 1) es (omega (arith, less)) path in
     let state : state_at v p es (i + 1) < a.states = end_below a stays p (state_at v p es (i + 1)) (copies (i + 1) v) (front v (i + 1) es) below here.first in
     mul-add-lt (state_at v p es (i + 1)) (length a.edges + 1) (seen_at a v es (i + 1)) a.states state (seen_few a v es (i + 1))
 
-front_longer : (v : List NameSet) (i j : ℕ) (es : List TreeEdge) → i ≤ j → (e : TreeEdge) → Contains (front v i es) e → Contains (front v j es) e
+front_longer : (v : List NameSet) (i j : ℕ) (es : List LabelledEdge) → i ≤ j → (e : LabelledEdge) → Contains (front v i es) e → Contains (front v j es) e
 front_longer v i j es less e there =
     let wide : i * length v ≤ j * length v = mul-le-mul_right (length v) less in
     in_longer (length (copies i v)) (length (copies j v)) es e (omega (arith, wide, length-copies i v, length-copies j v)) there
 
 -- what is left out has no marks of its own
-left_out_seen : (a : Automaton) (v : List NameSet) (p q i j : ℕ) (es : List TreeEdge) → i ≤ j → IsPath a p (copies j v) (front v j es) q
+left_out_seen : (a : Automaton) (v : List NameSet) (p q i j : ℕ) (es : List LabelledEdge) → i ≤ j → IsPath a p (copies j v) (front v j es) q
     → seen_at a v es i ≡ seen_at a v es j → Covers es (front v i es ++ back v j es)
 left_out_seen a v p q i j es less path same e there =
     elim (Contains-append_cases (front v j es) (back v j es) e (subst (λ ds. Contains ds e) (sym (take-append-drop (length (copies j v)) es)) there)) [
@@ -106,23 +106,23 @@ left_out_seen a v p q i j es less path same e there =
       | inr late ↦ (e, Contains-append_right (front v i es) (back v j es) e late, refl)
     ]
 
-what_is_left : (v : List NameSet) (i j : ℕ) (es : List TreeEdge) → Covers (front v i es ++ back v j es) es
+what_is_left : (v : List NameSet) (i j : ℕ) (es : List LabelledEdge) → Covers (front v i es ++ back v j es) es
 what_is_left v i j es e there = elim (Contains-append_cases (front v i es) (back v j es) e there) [
   | inl early ↦ (e, in_front (length (copies i v)) es e early, refl)
   | inr late ↦ (e, in_back (length (copies j v)) es e late, refl)
 ]
 
 -- a path by fewer rounds, and at least one, with the same marks
-record Fewer (a : Automaton) (v : List NameSet) (p q k : ℕ) (es : List TreeEdge) : Type 0 where
+record Fewer (a : Automaton) (v : List NameSet) (p q k : ℕ) (es : List LabelledEdge) : Type 0 where
   rounds : ℕ
   fewer : rounds < k
   some : 0 < rounds
-  path : List TreeEdge
+  path : List LabelledEdge
   leads : IsPath a p (copies rounds v) path q
   to : Covers path es
   from : Covers es path
 
-leave_out : (a : Automaton) (v : List NameSet) (p q k i j : ℕ) (es : List TreeEdge) → 0 < i → i < j → j ≤ k → IsPath a p (copies k v) es q
+leave_out : (a : Automaton) (v : List NameSet) (p q k i j : ℕ) (es : List LabelledEdge) → 0 < i → i < j → j ≤ k → IsPath a p (copies k v) es q
     → state_at v p es i ≡ state_at v p es j → seen_at a v es i ≡ seen_at a v es j → Fewer a v p q k es
 leave_out a v p q k i j es some later inside path state seen =
     let one = cut_at a v p q k i es (omega (arith, later, inside)) path in
@@ -139,7 +139,7 @@ leave_out a v p q k i j es some later inside path state seen =
       from = left_out_seen a v p (state_at v p es j) i j es (omega (arith, later)) two.first seen;
     }
 
-fewer : (a : Automaton) → StaysBelow a → (v : List NameSet) (p q k : ℕ) (es : List TreeEdge) → p < a.states → bound a < k → IsPath a p (copies k v) es q → Fewer a v p q k es
+fewer : (a : Automaton) → StaysBelow a → (v : List NameSet) (p q k : ℕ) (es : List LabelledEdge) → p < a.states → bound a < k → IsPath a p (copies k v) es q → Fewer a v p q k es
 fewer a stays v p q k es below many path =
     let again = pigeons (bound a) (moment a v p es) k many (moment_below a stays v p q k es below path) in
     let i = again.first + 1 in
@@ -148,19 +148,19 @@ fewer a stays v p q k es below many path =
     leave_out a v p q k i j es (omega arith) (omega (arith, again.later)) (omega (arith, again.within)) path same.0 same.1
 
 -- a path by few rounds, with the same marks
-pub record Short (a : Automaton) (v : List NameSet) (p q k : ℕ) (es : List TreeEdge) : Type 0 where
+pub record Short (a : Automaton) (v : List NameSet) (p q k : ℕ) (es : List LabelledEdge) : Type 0 where
   pub rounds : ℕ
   pub few : rounds ≤ bound a
   pub some : 0 < k → 0 < rounds
-  pub path : List TreeEdge
+  pub path : List LabelledEdge
   pub leads : IsPath a p (copies rounds v) path q
   pub to : Covers path es
   pub from : Covers es path
 
-as_it_is : (a : Automaton) (v : List NameSet) (p q k : ℕ) (es : List TreeEdge) → k ≤ bound a → IsPath a p (copies k v) es q → Short a v p q k es
+as_it_is : (a : Automaton) (v : List NameSet) (p q k : ℕ) (es : List LabelledEdge) → k ≤ bound a → IsPath a p (copies k v) es q → Short a v p q k es
 as_it_is a v p q k es few path = record { rounds = k; few = few; some = λ h. h; path = es; leads = path; to = covers_itself es; from = covers_itself es }
 
-pub shortened : (a : Automaton) → StaysBelow a → (v : List NameSet) (fuel p q k : ℕ) (es : List TreeEdge) → k ≤ fuel → p < a.states → IsPath a p (copies k v) es q → Short a v p q k es
+pub shortened : (a : Automaton) → StaysBelow a → (v : List NameSet) (fuel p q k : ℕ) (es : List LabelledEdge) → k ≤ fuel → p < a.states → IsPath a p (copies k v) es q → Short a v p q k es
 shortened a stays v zero p q k es less below path = as_it_is a v p q k es (omega (arith, less)) path
 shortened a stays v (suc fuel) p q k es less below path = elim (cases_lt (bound a) k) [
   | inl many ↦ (

@@ -1,7 +1,7 @@
 -- The byte that closes a token, and what is left behind it.
 use Rattle.std.proofs.Common.{List, None, Option, Some, [], is_some, not, refl, suc, zero, ℕ, ◌∷◌, ◌≡◌}
 use Rattle.hoa_lexer.specs.Reading.{unread}
-use Rattle.hoa_lexer.specs.Spelling.{Ends, closes_itself}
+use Rattle.hoa_lexer.specs.Spelling.{IsDelimited, closes_itself}
 use Rattle.hoa_lexer.specs.declared.token.Token.{Token}
 use Rattle.hoa_lexer.specs.declared.token.Token.TheVariants.{Identifier, Int, Alias}
 
@@ -12,7 +12,7 @@ pub record IsClosed (t : Token) (after : List ℕ) : Type 0 where
   pub follows : after ≡ unread held left
   pub needed : is_some held ≡ not (closes_itself t)
 
-pub closing : (t : Token) (after : List ℕ) → Ends t after → IsClosed t after
+pub closing : (t : Token) (after : List ℕ) → IsDelimited t after → IsClosed t after
 closing (Identifier name) [] e = absurd e.0
 closing (Identifier name) (b ∷ rest) e = record { held = Some b; left = rest; follows = refl; needed = refl }
 closing (Int zero) after e = record { held = None; left = after; follows = refl; needed = refl }

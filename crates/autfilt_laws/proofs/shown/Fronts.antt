@@ -1,6 +1,6 @@
 -- Bytes that begin no token are refused after the first of them that shows it.
 use Rattle.std.proofs.Common.{ℕ, List, Err, refl}
-use Rattle.hoa_lexer.specs.Reading.{Answers}
+use Rattle.hoa_lexer.specs.Reading.{AnswersToken}
 use Rattle.hoa_lexer.specs.Text.{IsFront, IsNoToken}
 use Rattle.hoa_lexer.specs.declared.token.LexFault.TheVariants.{BadToken}
 use Rattle.hoa_lexer.specs.declared.token.Token.{Token}
@@ -11,7 +11,7 @@ use Rattle.hoa_lexer.proofs.next_token.Fronts.{skips_none, token_err}
 -- a lexer refuses the bytes, at offset k, and these are left
 pub record IsRefused (k : ℕ) (bytes : List ℕ) : Type 0 where
   pub left : List ℕ
-  pub answers : Answers (Err (BadToken k)) k 0 bytes left
+  pub answers : AnswersToken (Err (BadToken k)) k 0 bytes left
 
 pub refused_here : (k : ℕ) (bytes left : List ℕ) → ReadsToken (Err (BadToken k)) k bytes left → IsRefused k bytes
 refused_here k bytes left r = record { left = left; answers = token_err (BadToken k) k k bytes bytes left (skips_none bytes) refl r }

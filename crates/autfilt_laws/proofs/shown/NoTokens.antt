@@ -2,7 +2,7 @@
 use Rattle.std.proofs.Common.{◌≡◌, ℕ, false, List, [], ◌∷◌, ◌++◌, Err, inl, inr, refl, sym, subst, ap}
 use Rattle.std.proofs.lemmas.Bool.{cases_Bool, cases_eq}
 use Rattle.hoa_lexer.specs.Bytes.{is_digit, is_letter, is_space}
-use Rattle.hoa_lexer.specs.Reading.{Answers}
+use Rattle.hoa_lexer.specs.Reading.{AnswersToken}
 use Rattle.hoa_lexer.specs.Spelling.{Quotes}
 use Rattle.hoa_lexer.specs.Text.{IsNoToken}
 use Rattle.hoa_lexer.specs.declared.token.LexFault.TheVariants.{BadToken}
@@ -82,7 +82,7 @@ refused k (b ∷ x) n = elim (cases_Bool (is_letter b)) [
 -- Bytes that begin no token stand behind blanks: a lexer refuses them, and these are left.
 pub record RefusesAt (k used : ℕ) (rest : List ℕ) : Type 0 where
   pub left : List ℕ
-  pub answers : Answers (Err (BadToken k)) used 0 rest left
+  pub answers : AnswersToken (Err (BadToken k)) used 0 rest left
 
 pub refuses_at : (k used : ℕ) (rest : List ℕ) → IsNoTokenAt k used rest → RefusesAt k used rest
 refuses_at k used rest a =

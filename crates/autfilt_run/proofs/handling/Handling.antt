@@ -10,13 +10,13 @@ use Rattle.aut_io.specs.Seen.{SinkSeen}
 use Rattle.autfilt_run.proofs.printing.ReadsAs.{reads_as}
 use Rattle.autfilt_run.proofs.printing.Said.{made_as}
 use Rattle.autfilt_run.proofs.handling.Taking.{accepts_read, core_is}
-use Rattle.autfilt_run.specs.Due.{IsDue, IsDueWhere, IsMade, IsPrinted, name_due}
+use Rattle.autfilt_run.specs.Due.{IsDue, IsDueWhere, IsResult, IsPrinted, name_due}
 use Rattle.autfilt_run.specs.Faults.{fault_of_plan}
 use Rattle.autfilt_run.specs.Plans.{prints_each}
 use Rattle.autfilt_run.specs.RefutationLine.{IsRefutationLine, SaysOfInclusion}
 use Rattle.autfilt_run.specs.declared.fault.RunFault.{RunFault}
 use Rattle.autfilt_run.specs.declared.fault.RunFault.TheVariants as fault
-use Rattle.autfilt_run.specs.inner.Handling.{Handles, IsUnwanted, IsWanted, Prints, PrintsOrStops, ShowsInclusion, ShowsMade}
+use Rattle.autfilt_run.specs.inner.Handling.{Handles, IsUnwanted, IsWanted, PrintsAutomaton, PrintsOrStops, ShowsInclusion, ShowsMade}
 use Rattle.autfilt_run.specs.inner.Taking.{IsReadAs, TakesAutomaton}
 use Rattle.filter_plan.specs.Words.{changes}
 use Rattle.filter_plan.specs.declared.plan.Output.{Output}
@@ -59,7 +59,7 @@ pub is_wanted_silent : (b c : Bool) (p : Plan) (ops : List Automaton) (w : Writt
 is_wanted_silent b c p ops w core r is h e off =
     record { valid = r.valid; within = r.within; kept = kept b p ops w core r is h; due = silent p ops w c e off }
 
-made_of : {S : Automaton → Type 0} (p : Plan) (ops : List Automaton) (w : Written) (core : Automaton) → IsReadAs w core → (h : ShowsMade p ops core S) → IsMade p ops w h.made
+made_of : {S : Automaton → Type 0} (p : Plan) (ops : List Automaton) (w : Written) (core : Automaton) → IsReadAs w core → (h : ShowsMade p ops core S) → IsResult p ops w h.made
 made_of p ops w core r h =
     record {
       makes = subst (λ (x : Automaton). MakesAll (changes_of p ops) x h.made) (core_is w core r) h.makes;
@@ -98,7 +98,7 @@ refuted_as None w core text r h = h
 refuted_as (Some b) w core text r h = (subst (λ (x : Automaton). IsWithinInclusion x b) (core_is w core r) h.0, said_of w core b text r h.1)
 
 printed_as : (o : Output) (p : Plan) (ops : List Automaton) (w : Written) (core : Automaton) (name : Option (List ℕ)) (text : List ℕ) → IsReadAs w core → name ≡ name_of w
-    → Prints o p ops core name text → IsPrinted o p ops w text
+    → PrintsAutomaton o p ops core name text → IsPrinted o p ops w text
 printed_as Hoa p ops w core name text r named h =
     let due = name_as p w name named in
     let same : text ≡ canonical_text h.made (name_due p w) = h.shown.0 ∙ ap (canonical_text h.made) due in
@@ -119,7 +119,7 @@ due_text p ops w false text e is h = cc
 
 pub is_wanted : (b c : Bool) (p : Plan) (ops : List Automaton) (w : Written) (core : Automaton) (name : Option (List ℕ)) (text bytes : List ℕ) → IsReadAs w core → b ≡ true
     → Judged (Ok b) p ops core → c ≡ prints_each p → c ≡ true
-    → bytes ≡ text → Prints p.output p ops core name text → name ≡ name_of w → IsWanted p ops w bytes
+    → bytes ≡ text → PrintsAutomaton p.output p ops core name text → name ≡ name_of w → IsWanted p ops w bytes
 is_wanted b c p ops w core name text bytes r is h e on shown printed named = record {
   valid = r.valid;
   within = r.within;

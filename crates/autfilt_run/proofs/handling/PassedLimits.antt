@@ -8,8 +8,8 @@ use Rattle.std.proofs.lemmas.List.Sums.{AllPass-from_list_all}
 use Rattle.aut_base.specs.Automaton.{Automaton}
 use Rattle.aut_base.specs.declared.limit.Limit.{Limit}
 use Rattle.aut_base.specs.declared.limit.Limit.TheVariants as limit
-use Rattle.autfilt_run.specs.Faults.{Told, AtToken, AtByte, OfWhole, stop_of_fault, stop_of_limit, when_told}
-use Rattle.autfilt_run.specs.Over.{IsOver, IsOverPrinting, StopsPrinting}
+use Rattle.autfilt_run.specs.Faults.{Told, AtToken, AtByte, OfWhole, stop_of_run_fault, stop_of_limit, when_told}
+use Rattle.autfilt_run.specs.Over.{IsOverLimit, IsOverPrinting, StopsPrinting}
 use Rattle.autfilt_run.specs.declared.fault.RunFault.TheVariants as fault
 use Rattle.filter_plan.specs.declared.plan.Form.{Form}
 use Rattle.filter_plan.specs.declared.plan.Form.TheVariants as form
@@ -103,17 +103,17 @@ printing_pass which Hoa p ops a h = changes_pass which (changes_of p ops) a h
 printing_pass which (Stats pieces) p ops a h = changes_pass which (changes_of p ops) a h
 printing_pass which (Refute file) p ops a h = refuted_pass which (refuted_operand p ops) a h
 
-pub plan_passes : (which : Limit) (p : Plan) (ops : List Automaton) (w : Written) → IsOver which p ops w → IsOfWhole which
-plan_passes which p ops w h = by h.over
+pub plan_passes : (which : Limit) (p : Plan) (ops : List Automaton) (w : Written) → IsOverLimit which p ops w → IsOfWhole which
+plan_passes which p ops w h = by_cases h.over
   where
-    by : IsOverFilters which p ops (described w) ⊎ IsOverPrinting which p ops w → IsOfWhole which
-    by (inl f) = one_of (limits_of_filter f.filter) which (of_filter f.filter) (only_own_limits.filter f.filter which (described w) f.passes)
-    by (inr c) = printing_pass which p.output p ops _ c.stops
+    by_cases : IsOverFilters which p ops (described w) ⊎ IsOverPrinting which p ops w → IsOfWhole which
+    by_cases (inl f) = one_of (limits_of_filter f.filter) which (of_filter f.filter) (only_own_limits.filter f.filter which (described w) f.passes)
+    by_cases (inr c) = printing_pass which p.output p ops _ c.stops
 
-pub both_ways : (which : Limit) (p : Plan) (ops : List Automaton) (w : Written) → PassesLimit which w ⊎ IsOver which p ops w → IsOfWhole which
+pub both_ways : (which : Limit) (p : Plan) (ops : List Automaton) (w : Written) → PassesLimit which w ⊎ IsOverLimit which p ops w → IsOfWhole which
 both_ways which p ops w (inl h) = counts_pass which w h
 both_ways which p ops w (inr h) = plan_passes which p ops w h
 
 -- so they stop nowhere in particular
-pub elsewhere : (which : Limit) → IsOfWhole which → stop_of_fault (fault.Limit which) ≡ Elsewhere
+pub elsewhere : (which : Limit) → IsOfWhole which → stop_of_run_fault (fault.Limit which) ≡ Elsewhere
 elsewhere which whole = ap stop_of_limit whole

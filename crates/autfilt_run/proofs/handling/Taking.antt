@@ -8,10 +8,10 @@ use Rattle.aut_base.specs.Automaton.{Automaton}
 use Rattle.aut_base.specs.CanonicalLabel.{canonical}
 use Rattle.aut_base.specs.Word.{NameSet}
 use Rattle.aut_base.specs.declared.limit.TheConstants.{MOST_SETS, MOST_STATES}
-use Rattle.aut_core.specs.Core.{automaton_of}
+use Rattle.aut_core.specs.SymbolicAutomata.{automaton_of}
 use Rattle.autfilt_run.specs.inner.Taking.{IsReadAs}
 use Rattle.hoa_parser.specs.Raw.{Written}
-use Rattle.hoa_reader.specs.Counts.{Sets, States, count_of}
+use Rattle.hoa_reader.specs.Counts.{Sets, States, value_of_count}
 use Rattle.hoa_reader.specs.Described as reader
 use Rattle.hoa_reader.specs.Elaborating.{IsBuilt}
 use Rattle.hoa_reader.specs.declared.elaborate.Named.{Named}
@@ -27,7 +27,7 @@ read_as w n built = record {
   same = refl;
   formed = built.formed;
   size = subst IsOfReadSize (sym built.same)
-      (record { states = ltb-false MOST_STATES (count_of States w) built.within.1.1.0; sets = ltb-false MOST_SETS (count_of Sets w) built.within.1.0 });
+      (record { states = ltb-false MOST_STATES (value_of_count States w) built.within.1.1.0; sets = ltb-false MOST_SETS (value_of_count Sets w) built.within.1.0 });
 }
 
 -- it is the one in canonical form

@@ -2,7 +2,7 @@
 use Rattle.std.proofs.Common.{◌≡◌, ℕ, ◌+◌, ◌-◌, ◌≤◌, List, [], ◌++◌, None, length, ap, ◌∙◌, arith}
 use Rattle.std.specs.List.{slice_index_or}
 use Rattle.std.proofs.lemmas.List.{get_or-append-add}
-use Rattle.autfilt_run.specs.Plans.{streams_of, streams_or}
+use Rattle.autfilt_run.specs.Plans.{plan_streams, streams_or}
 use Rattle.filter_plan.specs.declared.plan.Plan.{Plan}
 
 -- a place behind the first list is one of the second
@@ -11,5 +11,5 @@ stream_behind ops streams place n is behind =
     let split : place ≡ length ops + (place - n) = omega (arith, is, behind) in
     ap (λ (k : ℕ). slice_index_or (ops ++ streams) k []) split ∙ get_or-append-add ops streams (place - n) []
 
-pub streams_are : (p : Plan) → p.made ≡ None → streams_of p ≡ p.streams
+pub streams_are : (p : Plan) → p.made ≡ None → plan_streams p ≡ p.streams
 streams_are p none = ap (streams_or p.streams) none

@@ -1,7 +1,7 @@
 -- Openings are counted, one after the other.
 use Rattle.std.proofs.Common.{◌≡◌, ℕ, suc, zero, ◌+◌, ◌<◌, Bool, false, List, length, take, refl, sym, ap, ◌∙◌, subst, arith}
 use Rattle.std.proofs.lemmas.List.{length-take-le}
-use Rattle.aut_io.specs.Outside.{raised, raised_by}
+use Rattle.aut_io.specs.Outside.{incremented, raised_by}
 use Rattle.aut_io.specs.Seen.{Seen}
 use Rattle.autfilt_run.specs.Openings.{AreOpened, AreTried, MayEnd, WantsFile}
 use Rattle.autfilt_run.specs.declared.fault.RunFault.{RunFault}
@@ -11,10 +11,10 @@ raised_then a zero n = ap (λ k. raised_by k n) (zero_more a)
   where
     zero_more : (a : ℕ) → a ≡ a + 0
     zero_more a = omega arith
-raised_then a (suc b) n = ap raised (raised_then a b n) ∙ ap (λ k. raised_by k n) (one_more a b)
+raised_then a (suc b) n = ap incremented (raised_then a b n) ∙ ap (λ k. raised_by k n) (suc_inside a b)
   where
-    one_more : (a b : ℕ) → suc (a + b) ≡ a + suc b
-    one_more a b = omega arith
+    suc_inside : (a b : ℕ) → suc (a + b) ≡ a + suc b
+    suc_inside a b = omega arith
 
 -- more were opened
 pub opened_then : (a b : ℕ) (s m t : Seen) → AreOpened a s m → AreOpened b m t → AreOpened (a + b) s t

@@ -6,7 +6,7 @@ use Rattle.std.proofs.lemmas.List.{map-append}
 use Rattle.aut_base.proofs.Outcomes.{hands_on}
 use Rattle.aut_base.specs.Automaton.{Automaton}
 use Rattle.aut_base.specs.declared.limit.Limit.{Limit}
-use Rattle.aut_core.specs.Core.{Core, automaton_of}
+use Rattle.aut_core.specs.SymbolicAutomata.{SymbolicAutomaton, automaton_of}
 use Rattle.aut_io.specs.Seen.{Seen}
 use Rattle.autfilt_run.proofs.handling.PassedLimits.{counts_pass, elsewhere}
 use Rattle.autfilt_run.proofs.turns.Reading.{AnswersAt, is_broken, is_past, is_wanting, stops}
@@ -20,7 +20,7 @@ use Rattle.autfilt_run.specs.declared.session.operand_reading.OperandTurn.{Opera
 use Rattle.autfilt_run.specs.inner.OperandTurns.{FailsOperand, KeepsAll, TurnsOperands}
 use Rattle.autfilt_run.specs.inner.Taking.{TakesAutomaton}
 use Rattle.hoa_lexer.proofs.next_token.Between.{between_as}
-use Rattle.hoa_lexer.specs.Moves.{Elsewhere, Moves, Stop}
+use Rattle.hoa_lexer.specs.Moves.{Elsewhere, MovesLexer, Stop}
 use Rattle.hoa_lexer.specs.Reading.{Between, held_count}
 use Rattle.hoa_lexer.specs.declared.lexer.Lexer.{Lexer}
 use Rattle.hoa_parser.specs.Raw.{Written}
@@ -38,7 +38,7 @@ none_over which w = ⊥
 
 -- a fault of the reader
 pub not_read : (f : ReadFault) (old new : Session) (s t : Seen) (held' : Option ℕ) → old.is_open ≡ true → new.tried ≡ old.tried → new.skipped ≡ old.skipped → HoldsBehind (Err f) held'
-    → Between s.left t.left (AnswersAt (Err f) old.lexer.since held') → Moves (reads.stop_of_fault f) old.lexer new.lexer s t → FailsOperand (fault_of_reading f) old new s t
+    → Between s.left t.left (AnswersAt (Err f) old.lexer.since held') → MovesLexer (reads.stop_of_read_fault f) old.lexer new.lexer s t → FailsOperand (fault_of_reading f) old new s t
 not_read (reading.Syntax k) old new s t held' r hand same n at moves =
     record { reads = record { was_open = r; in_hand = hand; read = stops none_over (reading.Syntax k) old.lexer.since held' s.left t.left n at; moves = moves }; skipped = same }
 not_read reading.Truncated old new s t held' r hand same n at moves = record {
@@ -57,7 +57,7 @@ not_read reading.Memory old new s t held' r hand same n at moves =
 -- it was read whole, and is not taken
 pub not_taken : (f : RunFault) (w : Written) (old new : Session) (s t : Seen) → old.is_open ≡ true → new.tried ≡ old.tried → new.skipped ≡ old.skipped
     → Between s.left t.left (λ rest next. Stands (Whole w next) old.lexer.since rest)
-    → Moves Elsewhere old.lexer new.lexer s t → TakesAutomaton (Err f) w → FailsOperand f old new s t
+    → MovesLexer Elsewhere old.lexer new.lexer s t → TakesAutomaton (Err f) w → FailsOperand f old new s t
 not_taken (fault.Invalid rule) w old new s t r hand same whole moves h =
     record { reads = record { was_open = r; in_hand = hand; read = is_broken none_over rule w old.lexer.since s.left t.left h whole; moves = moves }; skipped = same }
 not_taken (fault.Limit which) w old new s t r hand same whole moves h = record {
@@ -65,7 +65,7 @@ not_taken (fault.Limit which) w old new s t r hand same whole moves h = record {
     was_open = r;
     in_hand = hand;
     read = is_past none_over which w old.lexer.since s.left t.left (counts_pass which w h) (inl h) whole;
-    moves = subst (λ (x : Stop). Moves x old.lexer new.lexer s t) (sym (elsewhere which (counts_pass which w h))) moves;
+    moves = subst (λ (x : Stop). MovesLexer x old.lexer new.lexer s t) (sym (elsewhere which (counts_pass which w h))) moves;
   };
   skipped = same;
 }
@@ -89,8 +89,9 @@ pub counted : (kept skipped before after : ℕ) → kept + skipped ≤ before �
 counted kept skipped before after a b = omega (arith, a, b)
 
 -- one operand more
-pub one_more : (old new : List Core) (core : Core) (a : Automaton) → new ≡ old ++ core ∷ [] → automaton_of core ≡ a → map automaton_of new ≡ map automaton_of old ++ a ∷ []
-one_more old new core a is same = ap (map automaton_of) is ∙ map-append automaton_of old (core ∷ []) ∙ ap (λ x. map automaton_of old ++ x ∷ []) same
+pub automata_of_pushed : (old new : List SymbolicAutomaton) (core : SymbolicAutomaton) (a : Automaton) → new ≡ old ++ core ∷ [] → automaton_of core ≡ a
+    → map automaton_of new ≡ map automaton_of old ++ a ∷ []
+automata_of_pushed old new core a is same = ap (map automaton_of) is ∙ map-append automaton_of old (core ∷ []) ∙ ap (λ x. map automaton_of old ++ x ∷ []) same
 
 -- a session that is over is neither new nor prepared
 pub not_over : (stage : Stage) → stage ≡ stages.Over → (stage ≡ stages.New) ⊎ (stage ≡ stages.Prepared) → ⊥

@@ -11,29 +11,29 @@ use Rattle.std.specs.Result.{IsErrAnd}
 use Rattle.aut_base.specs.declared.fault.OpenFail.TheVariants as opening
 use Rattle.aut_base.specs.declared.limit.Limit.{Limit}
 use Rattle.aut_base.specs.declared.limit.TheConstants.{MOST_BYTES}
-use Rattle.aut_core.specs.Core.{automaton_of}
+use Rattle.aut_core.specs.SymbolicAutomata.{automaton_of}
 use Rattle.aut_io.specs.Outside.{Closed, Texts}
 use Rattle.aut_io.specs.Seen.{Seen}
 use Rattle.autfilt_run.proofs.turns.Openings.{opened_as, opened_then, tried_behind, tried_for, tried_none, wants_next}
 use Rattle.autfilt_run.proofs.turns.Stepping.{KeepsOn, closed_counted, is_closed, name_as, one_name, opens_stream, reads_on, rest_from, stops_at, stops_named, stream_counted, takes_operand}
 use Rattle.autfilt_run.proofs.printing.Writing.{rose_from}
 use Rattle.autfilt_run.specs.Events.{Point, ReadsOn}
-use Rattle.autfilt_run.specs.Faults.{Told, AtToken, AtByte, OfWhole, stop_of_fault, stop_of_limit, when_told}
+use Rattle.autfilt_run.specs.Faults.{Told, AtToken, AtByte, OfWhole, stop_of_run_fault, stop_of_limit, when_told}
 use Rattle.autfilt_run.specs.Openings.{AreOpened, AreTried, MayEnd, WantsFile}
 use Rattle.autfilt_run.specs.OperandEvents.{AreRead, FileOpened, OperandEvent, PassedOver, Proceeds, Taken, all_passed, file_open_after, file_open_by}
-use Rattle.autfilt_run.specs.OperandEvents.{opened_file, opened_files, operand_of, operands_of, passed_of}
+use Rattle.autfilt_run.specs.OperandEvents.{opened_file, opened_files, operand_of, operands_read, passed_of}
 use Rattle.autfilt_run.specs.Points.{IsAt, StandsIn, name_in, open_count, operands_in}
-use Rattle.autfilt_run.specs.Preparing.{CountsAt, FailsToPrepare, HasRead, HasSkipped, IsReady, Prepares, WantsOperand, opened_names}
-use Rattle.autfilt_run.specs.Runs.{AtNamed, IsCounted, StopsAtOperand, StopsInOperands, WantsMemory, WantsStream, taken_of}
+use Rattle.autfilt_run.specs.Preparing.{CountsAt, FailsToPrepare, HasReadOperands, HasSkipped, HasAllOperands, Prepares, WantsOperand, opened_names}
+use Rattle.autfilt_run.specs.Runs.{AtNamed, IsCounted, StopsAtOperand, StopsInOperands, WantsMemory, WantsStream, taken_until}
 use Rattle.autfilt_run.specs.declared.fault.RunFault.{RunFault}
 use Rattle.autfilt_run.specs.declared.fault.RunFault.TheVariants as fault
 use Rattle.autfilt_run.specs.declared.session.Prep.{Prep}
 use Rattle.autfilt_run.specs.declared.session.Session.{Session}
-use Rattle.autfilt_run.specs.inner.OperandTurns.{FailsOperand, FailsReading, IsAllTaken, KeepsAll, OpensFile, PassesOne, TakesNext, TriesFile}
+use Rattle.autfilt_run.specs.inner.OperandTurns.{FailsOperand, FailsReading, IsAllTaken, KeepsAll, OpensOperandFile, PassesOne, TakesNext, TriesFile}
 use Rattle.filter_plan.specs.Words.{operands}
 use Rattle.filter_plan.specs.declared.plan.Plan.{Plan}
 use Rattle.hoa_lexer.proofs.next_token.Between.{between_as}
-use Rattle.hoa_lexer.specs.Moves.{CountsReads, Elsewhere, IsWithin, Moves, Stop}
+use Rattle.hoa_lexer.specs.Moves.{CountsReads, Elsewhere, IsWithinByteLimit, MovesLexer, Stop}
 use Rattle.hoa_parser.specs.Standing.{Aborted, Stands}
 
 -- ---- lists of events
@@ -44,9 +44,9 @@ are_read_push texts [] event p m q h goes =
     subst P (sym h) (q, goes, refl)
 are_read_push texts (e ∷ es) event p m q h goes = (h.0, h.1, are_read_push texts es event h.0 m q h.2 goes)
 
-operands_push : (events : List OperandEvent) (event : OperandEvent) → operands_of (events ++ event ∷ []) ≡ operands_of events ++ operand_of event
+operands_push : (events : List OperandEvent) (event : OperandEvent) → operands_read (events ++ event ∷ []) ≡ operands_read events ++ operand_of event
 operands_push [] event = append-nil (operand_of event)
-operands_push (e ∷ es) event = ap (λ x. operand_of e ++ x) (operands_push es event) ∙ sym (append_assoc (operand_of e) (operands_of es) (operand_of event))
+operands_push (e ∷ es) event = ap (λ x. operand_of e ++ x) (operands_push es event) ∙ sym (append_assoc (operand_of e) (operands_read es) (operand_of event))
 
 pub passed_push : (events : List OperandEvent) (event : OperandEvent) → all_passed (events ++ event ∷ []) ≡ all_passed events ++ passed_of event
 passed_push [] event = append-nil (passed_of event)
@@ -110,7 +110,7 @@ next_is : (old : Session) (left : Option (List ℕ)) (p : Point) (name : List �
 next_is old left p name stands closed next = stands.coming ∙ coming_at old (length old.operands) (counted_closed old (length old.operands) closed refl)
     ∙ rest_from (operands old.plan) (length old.operands) name next
 
-pub opened : (old new : Session) (s t : Seen) → KeepsAll old new → (h : OpensFile old new s t) → Turned (FileOpened h.tries.name) old new s t
+pub opened : (old new : Session) (s t : Seen) → KeepsAll old new → (h : OpensOperandFile old new s t) → Turned (FileOpened h.tries.name) old new s t
 opened old new s t keeps h =
     let k = length old.operands in
     record {
@@ -195,7 +195,7 @@ passed old new s t keeps few h =
 -- ---- the turns so far
 
 -- nothing happened yet
-pub read_none : (old : Session) (s : Seen) → HasRead [] old old s s
+pub read_none : (old : Session) (s : Seen) → HasReadOperands [] old old s s
 read_none old s = record {
   operands = sym (append-nil (operands_in old));
   happened = λ texts told p stands. (p, refl, stands);
@@ -208,10 +208,10 @@ read_none old s = record {
 }
 
 -- one event more
-pub read_more : (events : List OperandEvent) (event : OperandEvent) (first old new : Session) (s m t : Seen) → HasRead events first old s m → Turned event old new m t
-    → HasRead (events ++ event ∷ []) first new s t
+pub read_more : (events : List OperandEvent) (event : OperandEvent) (first old new : Session) (s m t : Seen) → HasReadOperands events first old s m → Turned event old new m t
+    → HasReadOperands (events ++ event ∷ []) first new s t
 read_more events event first old new s m t h turned = record {
-  operands = turned.operands ∙ ap (λ x. x ++ operand_of event) h.operands ∙ append_assoc (operands_in first) (operands_of events) (operand_of event)
+  operands = turned.operands ∙ ap (λ x. x ++ operand_of event) h.operands ∙ append_assoc (operands_in first) (operands_read events) (operand_of event)
       ∙ ap (λ x. operands_in first ++ x) (sym (operands_push events event));
   happened = λ texts told p stands.
       let a = h.happened texts told p stands in
@@ -229,7 +229,7 @@ read_more events event first old new s m t h turned = record {
 -- What a loop over turns keeps.
 pub record IsPreparing (first now : Session) (s t : Seen) : Type 0 where
   pub events : List OperandEvent
-  pub read : HasRead events first now s t
+  pub read : HasReadOperands events first now s t
   pub passed : all_passed events ≡ []
   pub keeps : KeepsAll first now
   pub skipped : now.skipped ≡ first.skipped
@@ -260,7 +260,7 @@ more event first old new s m t h turned none keeps skipped later = record {
   later = omega (arith, h.later, later);
 }
 
-pub more_opened : (first old new : Session) (s m t : Seen) → IsPreparing first old s m → KeepsAll old new → OpensFile old new m t → IsPreparing first new s t
+pub more_opened : (first old new : Session) (s m t : Seen) → IsPreparing first old s m → KeepsAll old new → OpensOperandFile old new m t → IsPreparing first new s t
 more_opened first old new s m t h keeps turn = more (FileOpened turn.tries.name) first old new s m t h (opened old new m t keeps turn) refl keeps turn.tries.skipped
     (omega (arith, turn.tries.begins.taken))
 
@@ -269,10 +269,10 @@ more_taken first old new s m t h keeps few turn = more (Taken turn.automaton) fi
 
 -- ---- the answers
 
-pub is_ready : (first old new : Session) (s m t : Seen) → IsPreparing first old s m → IsAllTaken old new m t → IsReady first new s t
+pub is_ready : (first old new : Session) (s m t : Seen) → IsPreparing first old s m → IsAllTaken old new m t → HasAllOperands first new s t
 is_ready first old new s m t h done =
-    let ready : IsReady first old s m = record { events = h.events; read = h.read; passed = h.passed; all = done.all; skipped = h.skipped } in
-    subst (λ (x : Session). IsReady first x s t) (sym done.same) (subst (λ (x : Seen). IsReady first old s x) (sym done.inputs) ready)
+    let ready : HasAllOperands first old s m = record { events = h.events; read = h.read; passed = h.passed; all = done.all; skipped = h.skipped } in
+    subst (λ (x : Session). HasAllOperands first x s t) (sym done.same) (subst (λ (x : Seen). HasAllOperands first old s x) (sym done.inputs) ready)
 
 pub has_skipped : (first old new : Session) (s m t : Seen) → IsPreparing first old s m → KeepsAll old new → new.lexer.taken ≤ MOST_BYTES → PassesOne old new m t → HasSkipped first new s t
 has_skipped first old new s m t h keeps few turn = record {
@@ -297,11 +297,11 @@ pub untold_closed : (texts : Option Texts) (left : Option (List ℕ)) (t : Texts
 untold_closed None left t e h = cc
 untold_closed (Some x) left t e h = h
 
-tries_counted : (f : RunFault) (old : Session) (left left' : Option (List ℕ)) (q : Point) → IsAt old left q → old.is_open ≡ false → old.lexer.taken ≤ MOST_BYTES → stop_of_fault f ≡ Elsewhere
+tries_counted : (f : RunFault) (old : Session) (left left' : Option (List ℕ)) (q : Point) → IsAt old left q → old.is_open ≡ false → old.lexer.taken ≤ MOST_BYTES → stop_of_run_fault f ≡ Elsewhere
     → IsCounted f q left'
 tries_counted f old left left' q stands closed few stop = record {
   few = subst (λ (n : ℕ). n ≤ MOST_BYTES) (sym (closed_counted old left left' q stands closed)) few;
-  within = subst (λ (x : Stop). IsWithin x (taken_of q left') MOST_BYTES) (sym stop) tt;
+  within = subst (λ (x : Stop). IsWithinByteLimit x (taken_until q left') MOST_BYTES) (sym stop) tt;
 }
 
 wants : (old new : Session) (left : Option (List ℕ)) (q : Point) (name : List ℕ) → StandsIn old left q → old.is_open ≡ false → slice_get (operands old.plan) (length old.operands) ≡ Some name
@@ -340,12 +340,12 @@ unopened_for_memory old new m t few h = record {
 }
 
 file_counted : (f : RunFault) (old new : Session) (m t : Seen) (q : Point) → new.lexer.most ≡ MOST_BYTES → new.lexer.taken ≤ MOST_BYTES → old.is_open ≡ true → IsAt old m.left q
-    → Moves (stop_of_fault f) old.lexer new.lexer m t → IsCounted f q t.left
+    → MovesLexer (stop_of_run_fault f) old.lexer new.lexer m t → IsCounted f q t.left
 file_counted f old new m t q most few opened_so stands moves =
-    let same = stream_counted old new m t q (stop_of_fault f) stands opened_so moves in
+    let same = stream_counted old new m t q (stop_of_run_fault f) stands opened_so moves in
     record {
       few = subst (λ (n : ℕ). n ≤ MOST_BYTES) (sym same) few;
-      within = subst (λ (n : ℕ). IsWithin (stop_of_fault f) n MOST_BYTES) (sym same) (subst (λ (n : ℕ). IsWithin (stop_of_fault f) new.lexer.taken n) most moves.within);
+      within = subst (λ (n : ℕ). IsWithinByteLimit (stop_of_run_fault f) n MOST_BYTES) (sym same) (subst (λ (n : ℕ). IsWithinByteLimit (stop_of_run_fault f) new.lexer.taken n) most moves.within);
     }
 
 -- what stands at the rest of the open file
@@ -362,13 +362,13 @@ named f old new m t keeps most few stops counts may h = record {
   tried = tried_none f _ m t may h.reads.moves.openings;
 }
 
-pub calm_limit : (which : Limit) (a b : ℕ) → CountsReads (stop_of_fault (fault.Limit which)) a b → b ≡ a
-calm_limit which a b h = by (when_told which) h
+pub calm_limit : (which : Limit) (a b : ℕ) → CountsReads (stop_of_run_fault (fault.Limit which)) a b → b ≡ a
+calm_limit which a b h = by_cases (when_told which) h
   where
-    by : (t : Told) → CountsReads (stop_of_limit t) a b → b ≡ a
-    by AtToken h = h
-    by AtByte h = h
-    by OfWhole h = h
+    by_cases : (t : Told) → CountsReads (stop_of_limit t) a b → b ≡ a
+    by_cases AtToken h = h
+    by_cases AtByte h = h
+    by_cases OfWhole h = h
 
 halted : (f : RunFault) (old new : Session) (m t : Seen) → KeepsAll old new → new.lexer.most ≡ MOST_BYTES → old.lexer.taken ≤ MOST_BYTES → new.lexer.taken ≤ MOST_BYTES
     → FailsOperand f old new m t → HaltsAt f old new m t
@@ -464,7 +464,7 @@ ahead_is s p n b plan len is =
 less_as : (a b c d : ℕ) → a ≡ c → b ≡ d → c < d → a < b
 less_as a b c d e f h = omega (arith, e, f, h)
 
-pub shorter_opened : (old new : Session) (s t : Seen) → KeepsAll old new → OpensFile old new s t → ahead_of new < ahead_of old
+pub shorter_opened : (old new : Session) (s t : Seen) → KeepsAll old new → OpensOperandFile old new s t → ahead_of new < ahead_of old
 shorter_opened old new s t keeps h =
     let n = length old.operands in
     less_as _ _ _ _ (ahead_is new old.plan n true keeps.plan (ap length h.tries.operands_same) h.now_open) (ahead_is old old.plan n false refl refl h.tries.closed)

@@ -4,15 +4,15 @@ use Rattle.std.proofs.lemmas.Bool.{false≢true}
 use Rattle.aut_base.specs.declared.limit.TheConstants.{MOST_BYTES}
 use Rattle.aut_io.specs.Outside.{Opened, Texts, text_of}
 use Rattle.aut_io.specs.Seen.{Opens, Seen}
-use Rattle.autfilt_run.specs.Events.{EndsStream, IsGood, OpensStream, Point, ReadsOn, Stream, ended_at, opened_at, place, read_on}
+use Rattle.autfilt_run.specs.Events.{EndsStream, IsGood, OpensStream, Point, ReadsOn, Stream, at_stream_end, opened_at, bytes_before, read_on}
 use Rattle.autfilt_run.specs.OperandEvents.{TakesOperand, taken_at}
-use Rattle.autfilt_run.specs.Plans.{files_of, name_at}
-use Rattle.autfilt_run.specs.Points.{IsAt, IsIn, name_in}
-use Rattle.autfilt_run.specs.Runs.{AtNamed, AtStream, IsAllRead, taken_in, taken_of}
-use Rattle.autfilt_run.specs.Turns.{Begins}
+use Rattle.autfilt_run.specs.Plans.{files_of, tried_name}
+use Rattle.autfilt_run.specs.Points.{IsAt, IsInStream, name_in}
+use Rattle.autfilt_run.specs.Runs.{AtNamed, AtStream, IsAllRead, taken_in, taken_until}
+use Rattle.autfilt_run.specs.Turns.{BeginsText}
 use Rattle.autfilt_run.specs.declared.session.Session.{Session}
 use Rattle.filter_plan.specs.declared.plan.Plan.{Plan}
-use Rattle.hoa_lexer.specs.Moves.{AtEnd, Moves, Stop}
+use Rattle.hoa_lexer.specs.Moves.{AtEnd, MovesLexer, Stop}
 use Rattle.hoa_lexer.specs.Reading.{Between}
 use Rattle.hoa_parser.specs.Raw.{Written}
 
@@ -38,7 +38,7 @@ pub record IsOpen (s : Session) (left : Option (List ℕ)) (p : Point) : Type 0 
   pub since : s.lexer.since + length stream.rest ≡ length stream.text
   pub taken : s.lexer.taken ≡ p.before + s.lexer.since
 
-open_as : (s : Session) (left : Option (List ℕ)) (p : Point) (o : Option Stream) → p.stream ≡ o → IsIn o s left p.before → s.is_open ≡ true → IsOpen s left p
+open_as : (s : Session) (left : Option (List ℕ)) (p : Point) (o : Option Stream) → p.stream ≡ o → IsInStream o s left p.before → s.is_open ≡ true → IsOpen s left p
 open_as s left p None is h opened_so = absurd (false≢true (sym h.0 ∙ opened_so))
 open_as s left p (Some t) is h opened_so = record { stream = t; is = is; told = h.1; named = h.2; since = h.3; taken = h.4 }
 
@@ -49,14 +49,14 @@ pub record IsClosed (s : Session) (p : Point) : Type 0 where
   pub is : p.stream ≡ None
   pub taken : s.lexer.taken ≡ p.before
 
-closed_as : (s : Session) (left : Option (List ℕ)) (p : Point) (o : Option Stream) → p.stream ≡ o → IsIn o s left p.before → s.is_open ≡ false → IsClosed s p
+closed_as : (s : Session) (left : Option (List ℕ)) (p : Point) (o : Option Stream) → p.stream ≡ o → IsInStream o s left p.before → s.is_open ≡ false → IsClosed s p
 closed_as s left p None is h closed = record { is = is; taken = h.1 }
 closed_as s left p (Some t) is h closed = absurd (false≢true (sym closed ∙ h.0))
 
 pub is_closed : (s : Session) (left : Option (List ℕ)) (p : Point) → IsAt s left p → s.is_open ≡ false → IsClosed s p
 is_closed s left p h closed = closed_as s left p p.stream refl h.stream closed
 
-place_is : (n : ℕ) (text rest : List ℕ) → n + length rest ≡ length text → n ≡ place text rest
+place_is : (n : ℕ) (text rest : List ℕ) → n + length rest ≡ length text → n ≡ bytes_before text rest
 place_is n text rest h = omega arith
 
 -- ---- more of the open file is read
@@ -75,7 +75,7 @@ pub record GoesTo (P : Point → Type 0) (coming : List (List ℕ)) (new : Sessi
   pub comes : point.coming ≡ coming
 
 pub name_as : (old new : Session) → new.plan ≡ old.plan → new.tried ≡ old.tried → name_in new ≡ name_in old
-name_as old new plan tried = ap (λ (p : Plan). name_at (files_of p) new.tried) plan ∙ ap (name_at (files_of old.plan)) tried
+name_as old new plan tried = ap (λ (p : Plan). tried_name (files_of p) new.tried) plan ∙ ap (tried_name (files_of old.plan)) tried
 
 since_after : (since since' taken taken' rest next text : ℕ) → since + rest ≡ text → taken' + next ≡ taken + rest → since' + taken ≡ since + taken' → since' + next ≡ text
 since_after since since' taken taken' rest next text a b c = omega (arith, a, b, c)
@@ -87,13 +87,13 @@ taken_after since since' taken taken' before a b = omega (arith, a, b)
 record ReadTo (R : ℕ → List ℕ → List ℕ → Type 0) (new : Session) (left : Option (List ℕ)) (p : Point) (stream : Stream) : Type 0 where
   next : List ℕ
   told : left ≡ Some next
-  stands : R (place stream.text stream.rest) stream.rest next
-  few : p.before + place stream.text next ≤ MOST_BYTES
+  stands : R (bytes_before stream.text stream.rest) stream.rest next
+  few : p.before + bytes_before stream.text next ≤ MOST_BYTES
   since : new.lexer.since + length next ≡ length stream.text
   taken : new.lexer.taken ≡ p.before + new.lexer.since
 
 read_to : (R : ℕ → List ℕ → List ℕ → Type 0) (old new : Session) (s t : Seen) (p : Point) (stop : Stop) → (at : IsOpen old s.left p) → Between s.left t.left (R old.lexer.since)
-    → Moves stop old.lexer new.lexer s t
+    → MovesLexer stop old.lexer new.lexer s t
     → new.lexer.taken ≤ MOST_BYTES → ReadTo R new t.left p at.stream
 read_to R old new s t p stop at read moves few =
     let stream = at.stream in
@@ -114,7 +114,7 @@ read_to R old new s t p stop at read moves few =
     }
 
 pub reads_on : (R : ℕ → List ℕ → List ℕ → Type 0) (old new : Session) (s t : Seen) (p : Point) (stop : Stop) → IsAt old s.left p → old.is_open ≡ true → new.is_open ≡ true
-    → Between s.left t.left (R old.lexer.since) → Moves stop old.lexer new.lexer s t → KeepsOn old new → GoesTo (λ q. ReadsOn p R new.kept q) p.coming new t.left
+    → Between s.left t.left (R old.lexer.since) → MovesLexer stop old.lexer new.lexer s t → KeepsOn old new → GoesTo (λ q. ReadsOn p R new.kept q) p.coming new t.left
 reads_on R old new s t p stop stands opened_so opened_now read moves keeps =
     let at = is_open old s.left p stands opened_so in
     let to = read_to R old new s t p stop at read moves keeps.few in
@@ -127,7 +127,7 @@ reads_on R old new s t p stop stands opened_so opened_now read moves keeps =
 
 -- an automaton of it is taken as an operand, and the rest is left
 pub takes_operand : (w : Written) (old new : Session) (s t : Seen) (p : Point) (stop : Stop) → IsAt old s.left p → old.is_open ≡ true → new.is_open ≡ false → new.kept ≡ old.kept
-    → Between s.left t.left (λ rest next. IsGood old.lexer.since rest w next) → Moves stop old.lexer new.lexer s t → KeepsOn old new → GoesTo (λ q. TakesOperand w p q) p.coming new t.left
+    → Between s.left t.left (λ rest next. IsGood old.lexer.since rest w next) → MovesLexer stop old.lexer new.lexer s t → KeepsOn old new → GoesTo (λ q. TakesOperand w p q) p.coming new t.left
 takes_operand w old new s t p stop stands opened_so closed kept read moves keeps =
     let at = is_open old s.left p stands opened_so in
     let to = read_to (λ start rest next. IsGood start rest w next) old new s t p stop at read moves keeps.few in
@@ -139,14 +139,15 @@ takes_operand w old new s t p stop stands opened_so closed kept read moves keeps
     }
 
 -- so many bytes were taken
-pub stream_counted : (old new : Session) (s t : Seen) (p : Point) (stop : Stop) → IsAt old s.left p → old.is_open ≡ true → Moves stop old.lexer new.lexer s t → taken_of p t.left ≡ new.lexer.taken
+pub stream_counted : (old new : Session) (s t : Seen) (p : Point) (stop : Stop) → IsAt old s.left p → old.is_open ≡ true → MovesLexer stop old.lexer new.lexer s t
+    → taken_until p t.left ≡ new.lexer.taken
 stream_counted old new s t p stop stands opened_so moves =
     let at = is_open old s.left p stands opened_so in
     let stream = at.stream in
     let n = told s.left t.left stream.rest (λ a b. new.lexer.taken + length b ≡ old.lexer.taken + length a) at.told moves.taken in
     let since = since_after old.lexer.since new.lexer.since old.lexer.taken new.lexer.taken (length stream.rest) (length n.now) (length stream.text) at.since n.holds moves.since in
     let taken = taken_after old.lexer.since new.lexer.since old.lexer.taken new.lexer.taken p.before at.taken moves.since in
-    let here : taken_of p t.left ≡ p.before + place stream.text n.now = ap (λ o. p.before + taken_in o t.left) at.is ∙ ap (λ l. p.before + taken_in (Some stream) l) n.told in
+    let here : taken_until p t.left ≡ p.before + bytes_before stream.text n.now = ap (λ o. p.before + taken_in o t.left) at.is ∙ ap (λ l. p.before + taken_in (Some stream) l) n.told in
     omega (arith, here, place_is new.lexer.since stream.text n.now since, taken)
 
 -- what stands at the rest of the open file ends the run
@@ -178,7 +179,7 @@ stops_named on R old s t p name is stands opened_so asks read =
 -- ---- the end of the file
 
 pub ends_stream : (old new : Session) (s t : Seen) (p : Point) → IsAt old s.left p → old.is_open ≡ true → new.is_open ≡ false → new.kept ≡ old.kept
-    → Between s.left t.left IsAllRead → Moves AtEnd old.lexer new.lexer s t → new.lexer.most ≡ MOST_BYTES → KeepsOn old new → GoesTo (λ q. EndsStream p q) p.coming new t.left
+    → Between s.left t.left IsAllRead → MovesLexer AtEnd old.lexer new.lexer s t → new.lexer.most ≡ MOST_BYTES → KeepsOn old new → GoesTo (λ q. EndsStream p q) p.coming new t.left
 ends_stream old new s t p stands opened_so closed kept read moves most keeps =
     let at = is_open old s.left p stands opened_so in
     let stream = at.stream in
@@ -191,7 +192,7 @@ ends_stream old new s t p stands opened_so closed kept read moves most keeps =
     let taken = taken_after old.lexer.since new.lexer.since old.lexer.taken new.lexer.taken p.before at.taken moves.since in
     let none : length x.now ≡ 0 = ap length x.holds.1 in
     record {
-      point = ended_at p stream;
+      point = at_stream_end p stream;
       goes = record { stream = stream; is_open = at.is; blank = x.holds.0; few = omega (arith, since, taken, none, moves.within, most); to = refl };
       at = record { kept = stands.kept ∙ sym kept; left_is = ap Some (sym x.holds.1) ∙ sym x.told; stream = (closed, omega (arith, since, taken, none)) };
       comes = refl;
@@ -206,7 +207,7 @@ rest_from (x ∷ xs) (suc k) name h = rest_from xs k name h
 
 pub opens_stream : (texts : Texts) (old new : Session) (s t : Seen) (p : Point) (name : List ℕ) (others : List (List ℕ)) → s.texts ≡ Some texts → IsAt old s.left p → old.is_open ≡ false
     → p.coming ≡ name ∷ others
-    → Opens s name (Ok tt) t → Begins old new → name_in new ≡ name → new.is_open ≡ true → new.kept ≡ old.kept → GoesTo (λ q. OpensStream texts name p q) others new t.left
+    → Opens s name (Ok tt) t → BeginsText old new → name_in new ≡ name → new.is_open ≡ true → new.kept ≡ old.kept → GoesTo (λ q. OpensStream texts name p q) others new t.left
 opens_stream texts old new s t p name others told_texts stands closed next opens begins named opened_so kept =
     let at = is_closed old s.left p stands closed in
     let left : t.left ≡ Some (text_of texts name) = subst (λ (x : Option Texts). Opened x name t.left) told_texts opens.opened in
@@ -219,8 +220,8 @@ opens_stream texts old new s t p name others told_texts stands closed next opens
     }
 
 -- what was taken of the files before, where none is open
-pub closed_counted : (old : Session) (left left' : Option (List ℕ)) (p : Point) → IsAt old left p → old.is_open ≡ false → taken_of p left' ≡ old.lexer.taken
+pub closed_counted : (old : Session) (left left' : Option (List ℕ)) (p : Point) → IsAt old left p → old.is_open ≡ false → taken_until p left' ≡ old.lexer.taken
 closed_counted old left left' p stands closed =
     let c = is_closed old left p stands closed in
-    let none : taken_of p left' ≡ p.before = ap (λ o. p.before + taken_in o left') c.is ∙ omega arith in
+    let none : taken_until p left' ≡ p.before = ap (λ o. p.before + taken_in o left') c.is ∙ omega arith in
     none ∙ sym c.taken

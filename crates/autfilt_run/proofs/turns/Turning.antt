@@ -7,15 +7,15 @@ use Rattle.aut_io.specs.Seen.{Seen, SinkSeen}
 use Rattle.autfilt_run.proofs.handling.PassedLimits.{both_ways, elsewhere}
 use Rattle.autfilt_run.proofs.turns.Reading.{AnswersAt, is_broken, is_good, is_past, is_wanting, stops}
 use Rattle.autfilt_run.specs.Faults.{fault_of_reading}
-use Rattle.autfilt_run.specs.Over.{IsOver}
+use Rattle.autfilt_run.specs.Over.{IsOverLimit}
 use Rattle.autfilt_run.specs.Points.{operands_in}
-use Rattle.autfilt_run.specs.Turns.{Fails, IsReading, IsStep, progress}
+use Rattle.autfilt_run.specs.Turns.{FailsAfter, IsReading, IsStep, progress}
 use Rattle.autfilt_run.specs.inner.Handling.{Handles}
 use Rattle.autfilt_run.specs.declared.fault.RunFault.{RunFault}
 use Rattle.autfilt_run.specs.declared.fault.RunFault.TheVariants as fault
 use Rattle.autfilt_run.specs.declared.session.Session.{Session}
 use Rattle.autfilt_run.specs.declared.session.Turn.{Turn}
-use Rattle.hoa_lexer.specs.Moves.{Elsewhere, Moves, Stop}
+use Rattle.hoa_lexer.specs.Moves.{Elsewhere, MovesLexer, Stop}
 use Rattle.hoa_lexer.specs.Reading.{Between, held_count}
 use Rattle.hoa_lexer.specs.declared.lexer.Lexer.{Lexer}
 use Rattle.hoa_parser.specs.Raw.{Written}
@@ -30,12 +30,12 @@ use Rattle.hoa_parser.specs.declared.read.Front.TheVariants as front
 
 -- the limits that are passed behind the reader
 abbrev pub over_in : Session → Limit → Written → Type 0
-over_in s which w = IsOver which s.plan (operands_in s) w
+over_in s which w = IsOverLimit which s.plan (operands_in s) w
 
 -- a fault of the reader
 pub not_read : (f : ReadFault) (old new : Session) (s t : Seen) (o : SinkSeen) (held' : Option ℕ) → IsReading old → new.tried ≡ old.tried → HoldsBehind (Err f) held'
     → Between s.left t.left (AnswersAt (Err f) old.lexer.since held')
-    → Moves (reads.stop_of_fault f) old.lexer new.lexer s t → Fails (fault_of_reading f) old new s t o o
+    → MovesLexer (reads.stop_of_read_fault f) old.lexer new.lexer s t → FailsAfter (fault_of_reading f) old new s t o o
 not_read (reading.Syntax k) old new s t o held' r hand n at moves =
     record { reading = r; in_hand = hand; read = stops (over_in old) (reading.Syntax k) old.lexer.since held' s.left t.left n at; moves = moves; output = refl }
 not_read reading.Truncated old new s t o held' r hand n at moves =
@@ -52,7 +52,7 @@ not_read reading.Memory old new s t o held' r hand n at moves =
 -- it was read whole, and is not kept or dropped
 pub not_handled : (f : RunFault) (w : Written) (old new : Session) (s t : Seen) (o o' : SinkSeen) → IsReading old → new.tried ≡ old.tried
     → Between s.left t.left (λ rest next. Stands (Whole w next) old.lexer.since rest)
-    → Moves Elsewhere old.lexer new.lexer s t → Handles (Err f) old.plan (operands_in old) w o o' → Fails f old new s t o o'
+    → MovesLexer Elsewhere old.lexer new.lexer s t → Handles (Err f) old.plan (operands_in old) w o o' → FailsAfter f old new s t o o'
 not_handled fault.WriteFault w old new s t o o' r hand whole moves h = record {
   prints = h.1;
   reading = r;
@@ -72,7 +72,7 @@ not_handled (fault.Limit which) w old new s t o o' r hand whole moves h = record
   reading = r;
   in_hand = hand;
   read = is_past (over_in old) which w old.lexer.since s.left t.left (both_ways which old.plan (operands_in old) w h.0) h.0 whole;
-  moves = subst (λ (x : Stop). Moves x old.lexer new.lexer s t) (sym (elsewhere which (both_ways which old.plan (operands_in old) w h.0))) moves;
+  moves = subst (λ (x : Stop). MovesLexer x old.lexer new.lexer s t) (sym (elsewhere which (both_ways which old.plan (operands_in old) w h.0))) moves;
   output = h.1;
 }
 not_handled fault.Memory w old new s t o o' r hand whole moves h = inr (record { reading = r; in_hand = hand; read = is_wanting w old.lexer.since s.left t.left whole; moves = moves; output = h })
@@ -86,7 +86,7 @@ pub record IsUnmoved (old new : Session) : Type 0 where
   pub counts : progress new ≡ progress old
 
 -- a fault that `?` hands on
-pub steps_on : (r : Result Turn RunFault) (f : RunFault) (old new : Session) (s t : Seen) (o o' : SinkSeen) → IsErrAnd r (λ y. y ≡ f) → Fails f old new s t o o' → IsUnmoved old new
+pub steps_on : (r : Result Turn RunFault) (f : RunFault) (old new : Session) (s t : Seen) (o o' : SinkSeen) → IsErrAnd r (λ y. y ≡ f) → FailsAfter f old new s t o o' → IsUnmoved old new
     → IsStep r old new s t o o'
 steps_on r f old new s t o o' h fails same = hands_on r f (λ x. IsStep x old new s t o o') h (record {
   steps = fails;

@@ -7,7 +7,7 @@ use Rattle.aut_io.specs.Outside.{Gains, GainsPrefix, Rose}
 use Rattle.aut_io.specs.Seen.{SinkSeen}
 use Rattle.autfilt_run.specs.Due.{IsDue}
 use Rattle.autfilt_run.specs.Figures.{IsLine}
-use Rattle.autfilt_run.specs.Over.{IsOver, StopsPrinting}
+use Rattle.autfilt_run.specs.Over.{IsOverLimit, StopsPrinting}
 use Rattle.autfilt_run.specs.Plans.{prints_each}
 use Rattle.autfilt_run.specs.RefutationLine.{SaysOfInclusion}
 use Rattle.filter_plan.specs.Words.{changes}
@@ -50,7 +50,7 @@ Handles (Ok true) p ops w out out' = (text : List ℕ) × IsWanted p ops w text 
 Handles (Ok false) p ops w out out' = IsUnwanted p ops w × (out' ≡ out)
 Handles (Err fault.WriteFault) p ops w out out' = (text : List ℕ) × (prints_each p ≡ true) × IsWanted p ops w text × GainsPrefix out.written out'.written text × Rose out.faults out'.faults
 Handles (Err (fault.Invalid rule)) p ops w out out' = IsFirstBroken rule w × (out' ≡ out)
-Handles (Err (fault.Limit which)) p ops w out out' = (PassesLimit which w ⊎ IsOver which p ops w) × (out' ≡ out)
+Handles (Err (fault.Limit which)) p ops w out out' = (PassesLimit which w ⊎ IsOverLimit which p ops w) × (out' ≡ out)
 Handles (Err fault.Memory) p ops w out out' = out' ≡ out
 Handles _ p ops w out out' = ⊥
 
@@ -72,13 +72,13 @@ abbrev pub ShowsInclusion : Automaton → List ℕ → Automaton → Type 0
 ShowsInclusion a text b = IsWithinInclusion a b × SaysOfInclusion a b text
 
 -- what is printed of an automaton that has this name
-abbrev pub Prints : Output → Plan → List Automaton → Automaton → Option (List ℕ) → List ℕ → Type 0
-Prints Hoa p ops a name text = ShowsMade p ops a (ShowsCanonical (if changes p then None else name) text)
-Prints (Stats pieces) p ops a name text = ShowsMade p ops a (λ made. IsLine pieces made text)
-Prints (Refute file) p ops a name text = MatchOption (refuted_operand p ops) ⊥ (ShowsInclusion a text)
+abbrev pub PrintsAutomaton : Output → Plan → List Automaton → Automaton → Option (List ℕ) → List ℕ → Type 0
+PrintsAutomaton Hoa p ops a name text = ShowsMade p ops a (ShowsCanonical (if changes p then None else name) text)
+PrintsAutomaton (Stats pieces) p ops a name text = ShowsMade p ops a (λ made. IsLine pieces made text)
+PrintsAutomaton (Refute file) p ops a name text = MatchOption (refuted_operand p ops) ⊥ (ShowsInclusion a text)
 
 abbrev pub PrintsOrStops : Result (List ℕ) PlanFault → Output → Plan → List Automaton → Automaton → Option (List ℕ) → Type 0
-PrintsOrStops (Ok text) o p ops a name = Prints o p ops a name text
+PrintsOrStops (Ok text) o p ops a name = PrintsAutomaton o p ops a name text
 PrintsOrStops (Err (plan_fault.Limit which)) o p ops a name = StopsPrinting o which p ops a
 PrintsOrStops (Err plan_fault.Memory) o p ops a name = Unit {0}
 

@@ -5,17 +5,17 @@ use Rattle.aut_base.specs.declared.fault.OpenFail.{OpenFail}
 use Rattle.aut_base.specs.declared.fault.OpenFail.TheVariants as opening
 use Rattle.aut_io.specs.Seen.{Opens, Seen}
 use Rattle.autfilt_run.specs.Events.{IsGood}
-use Rattle.autfilt_run.specs.Faults.{stop_of_fault}
+use Rattle.autfilt_run.specs.Faults.{stop_of_run_fault}
 use Rattle.autfilt_run.specs.Points.{name_in, operands_in}
 use Rattle.autfilt_run.specs.Runs.{StopsAtOperand}
-use Rattle.autfilt_run.specs.Turns.{Begins}
+use Rattle.autfilt_run.specs.Turns.{BeginsText}
 use Rattle.autfilt_run.specs.declared.fault.RunFault.{RunFault}
 use Rattle.autfilt_run.specs.declared.fault.RunFault.TheVariants as fault
 use Rattle.autfilt_run.specs.declared.session.Session.{Session}
 use Rattle.autfilt_run.specs.declared.session.operand_reading.OperandTurn.{OperandTurn}
 use Rattle.autfilt_run.specs.declared.session.operand_reading.OperandTurn.TheVariants as turn
 use Rattle.filter_plan.specs.Words.{operands}
-use Rattle.hoa_lexer.specs.Moves.{Elsewhere, Moves, Stop}
+use Rattle.hoa_lexer.specs.Moves.{Elsewhere, MovesLexer, Stop}
 use Rattle.hoa_lexer.specs.Reading.{Between}
 use Rattle.hoa_parser.specs.Raw.{Written}
 use Rattle.hoa_parser.specs.Standing.{Aborted, Stands}
@@ -36,7 +36,7 @@ pub record TriesFile (r : Result (Unit {0}) OpenFail) (old new : Session) (seen 
   pub next : slice_get (operands old.plan) (length old.operands) ≡ Some name
   pub in_hand : name_in new ≡ name
   pub opens : Opens seen name r seen'
-  pub begins : Begins old new
+  pub begins : BeginsText old new
   pub operands_same : new.operands ≡ old.operands
   pub skipped : new.skipped ≡ old.skipped
 
@@ -45,7 +45,7 @@ pub record ReadsFile (stop : Stop) (stands : List ℕ → List ℕ → Type 0) (
   pub was_open : old.is_open ≡ true
   pub in_hand : new.tried ≡ old.tried
   pub read : Between seen.left seen'.left stands
-  pub moves : Moves stop old.lexer new.lexer seen seen'
+  pub moves : MovesLexer stop old.lexer new.lexer seen seen'
 
 -- an automaton was read whole, and is the next operand
 pub record TakesNext (old new : Session) (seen seen' : Seen) : Type 0 where
@@ -64,7 +64,7 @@ pub record PassesOne (old new : Session) (seen seen' : Seen) : Type 0 where
   pub rises : old.lexer.taken < new.lexer.taken
   pub skipped : new.skipped ≡ old.skipped + 1
 
-pub record OpensFile (old new : Session) (seen seen' : Seen) : Type 0 where
+pub record OpensOperandFile (old new : Session) (seen seen' : Seen) : Type 0 where
   pub tries : TriesFile (Ok tt) old new seen seen'
   pub now_open : new.is_open ≡ true
 
@@ -76,7 +76,7 @@ pub record IsAllTaken (old new : Session) (seen seen' : Seen) : Type 0 where
   pub inputs : seen' ≡ seen
 
 pub record FailsReading (f : RunFault) (old new : Session) (seen seen' : Seen) : Type 0 where
-  pub reads : ReadsFile (stop_of_fault f) (StopsAtOperand f old.lexer.since) old new seen seen'
+  pub reads : ReadsFile (stop_of_run_fault f) (StopsAtOperand f old.lexer.since) old new seen seen'
   pub skipped : new.skipped ≡ old.skipped
 
 abbrev pub FailsOperand : RunFault → Session → Session → Seen → Seen → Type 0
@@ -86,7 +86,7 @@ FailsOperand fault.Memory old new seen seen' = TriesFile (Err opening.Memory) ol
 FailsOperand f old new seen seen' = FailsReading f old new seen seen'
 
 abbrev pub TurnsAs : Result OperandTurn RunFault → Session → Session → Seen → Seen → Type 0
-TurnsAs (Ok turn.Opened) = OpensFile
+TurnsAs (Ok turn.Opened) = OpensOperandFile
 TurnsAs (Ok turn.Taken) = TakesNext
 TurnsAs (Ok turn.Skipped) = PassesOne
 TurnsAs (Ok turn.Done) = IsAllTaken

@@ -2,7 +2,7 @@
 use Rattle.std.specs.Prelude.{◌≡◌, Result, Ok, Err}
 use Rattle.aut_base.specs.Automaton.{Automaton, IsWellFormed}
 use Rattle.aut_base.specs.CanonicalLabel.{canonical}
-use Rattle.aut_core.specs.Core.{automaton_of}
+use Rattle.aut_core.specs.SymbolicAutomata.{automaton_of}
 use Rattle.autfilt_run.specs.declared.fault.RunFault.{RunFault}
 use Rattle.autfilt_run.specs.declared.fault.RunFault.TheVariants as fault
 use Rattle.hoa_parser.specs.Naming.{name_of}

@@ -2,12 +2,12 @@
 
 ghost use Rattle.std.specs.Prelude.{◌≡◌, All, None, false, length, true};
 ghost use Rattle.aut_io.specs.Seen.{SinkSeen};
-ghost use Rattle.autfilt_run.specs.Plans.{streams_of};
+ghost use Rattle.autfilt_run.specs.Plans.{plan_streams};
 ghost use Rattle.autfilt_run.specs.Turns.{IsStep, asks};
 ghost use Rattle.autfilt_run.specs.declared.session.Stage.{Stage};
 ghost use Rattle.autfilt_run.specs.Points.{operands_in};
 ghost use Rattle.filter_plan.specs.Words.{operands};
-ghost use Rattle.plan_meaning.specs.Complements.{AreKept};
+ghost use Rattle.plan_meaning.specs.Complements.{AreComplementsKept};
 
 use super::{Session, Stage, Turn};
 use crate::fault::RunFault;
@@ -28,15 +28,15 @@ impl Session {
         inputs: &mut I,
         out: &mut W,
     ) -> Result<Turn, RunFault>
-        requires kept { AreKept self.old.plan (operands_in self.old) complements.old }
+        requires kept { AreComplementsKept self.old.plan (operands_in self.old) complements.old }
         requires spent { self.old.lexer.spent ≡ false }
         requires held { self.old.lexer.held ≡ None }
         requires stage { self.old.stage ≡ Stage.Over }
         requires all_read { length self.old.operands ≡ length (operands self.old.plan) }
-        requires names { All I.may_open (streams_of self.old.plan) }
+        requires names { All I.may_open (plan_streams self.old.plan) }
         ensures step { IsStep result self.old self.new (I.seen inputs.old) (I.seen inputs.new) (W.seen out.old) (W.seen out.new) }
         ensures stage { self.new.stage ≡ Stage.Over }
-        ensures kept { AreKept self.old.plan (operands_in self.old) complements.new }
+        ensures kept { AreComplementsKept self.old.plan (operands_in self.old) complements.new }
     {
         if !self.asks_on() {
             return Ok(Turn::Done);
@@ -66,7 +66,7 @@ impl Session {
         requires held { self.old.lexer.held ≡ None }
         requires stage { self.old.stage ≡ Stage.Over }
         requires all_read { length self.old.operands ≡ length (operands self.old.plan) }
-        requires names { All I.may_open (streams_of self.old.plan) }
+        requires names { All I.may_open (plan_streams self.old.plan) }
         ensures step { (out : SinkSeen) → IsStep result self.old self.new (I.seen inputs.old) (I.seen inputs.new) out out }
         ensures stage { self.new.stage ≡ Stage.Over }
     {
@@ -89,7 +89,7 @@ impl Session {
         inputs: &mut I,
         out: &mut W,
     ) -> Result<Turn, RunFault>
-        requires kept { AreKept self.old.plan (operands_in self.old) complements.old }
+        requires kept { AreComplementsKept self.old.plan (operands_in self.old) complements.old }
         requires asks { asks self.old ≡ true }
         requires is_open { self.old.is_open ≡ true }
         requires spent { self.old.lexer.spent ≡ false }
@@ -98,7 +98,7 @@ impl Session {
         requires all_read { length self.old.operands ≡ length (operands self.old.plan) }
         ensures step { IsStep result self.old self.new (I.seen inputs.old) (I.seen inputs.new) (W.seen out.old) (W.seen out.new) }
         ensures stage { self.new.stage ≡ Stage.Over }
-        ensures kept { AreKept self.old.plan (operands_in self.old) complements.new }
+        ensures kept { AreComplementsKept self.old.plan (operands_in self.old) complements.new }
     {
         match read_raw(alloc, &mut self.lexer, inputs)? {
             Front::Blank => {

@@ -1,14 +1,14 @@
 -- What the systems do that are explored here.
 use Rattle.std.specs.Prelude.{◌≡◌, ◌↔◌, ◌+◌, ◌*◌, ◌%◌, ◌∷◌, ℕ, true, List, [], filter, if◌then◌else◌, leb, ltb, nat_eq}
 use Rattle.std.specs.Cmp.{unsigned_Decides}
-use Rattle.exploration.specs.Moves.{Fails, Gives, Lacks, Move, Moves}
+use Rattle.exploration.specs.TransitionFunctions.{StepFailed, Successor, NoSuccessor, StepOutcome, TransitionFunction}
 use Rattle.base_rows.specs.declared.exploring.doubling.Number.{Number}
 
 -- the double of a number modulo 7, or one more, unless that is above the bound
-abbrev pub doubled : ℕ → ℕ → ℕ → Move ℕ
-doubled bound n k = if leb ((2 * n + k) % 7) bound then Gives ((2 * n + k) % 7) else Fails
+abbrev pub doubled : ℕ → ℕ → ℕ → StepOutcome ℕ
+doubled bound n k = if leb ((2 * n + k) % 7) bound then Successor ((2 * n + k) % 7) else StepFailed
 
-abbrev pub doubling_moves : ℕ → Moves ℕ
+abbrev pub doubling_moves : ℕ → TransitionFunction ℕ
 doubling_moves bound = record { count = λ _. 2; step = doubled bound }
 
 pub same_numbers : (m n : ℕ) → (nat_eq m n ≡ true) ↔ (m ≡ n)
@@ -17,10 +17,10 @@ same_numbers = unsigned_Decides
 pub number_tells : (a b : Number) → (nat_eq a.n b.n ≡ true) ↔ (a.n ≡ b.n)
 number_tells a b = unsigned_Decides a.n b.n
 
-abbrev pub unless_empty : List ℕ → Move (List ℕ)
-unless_empty [] = Lacks
-unless_empty (x ∷ xs) = Gives (x ∷ xs)
+abbrev pub unless_empty : List ℕ → StepOutcome (List ℕ)
+unless_empty [] = NoSuccessor
+unless_empty (x ∷ xs) = Successor (x ∷ xs)
 
 -- what of a list is above the class, unless nothing is
-abbrev pub rising_moves : Moves (List ℕ)
+abbrev pub rising_moves : TransitionFunction (List ℕ)
 rising_moves = record { count = λ _. 3; step = λ xs k. unless_empty (filter (λ x. ltb k x) xs) }

@@ -1,7 +1,7 @@
 //! Numbers that are doubled.
 
 use aut_base::{Memory, Numbers};
-use exploration::{StepFault, System};
+use exploration::{StepFault, TransitionSystem};
 use std::alloc::Global;
 
 /// A number.
@@ -18,15 +18,15 @@ pub(crate) struct Doubling {
     pub(crate) made: Numbers,
 }
 
-impl System for Doubling {
+impl TransitionSystem for Doubling {
     ghost use Rattle.std.specs.Prelude.{◌≡◌, ◌+◌, ◌*◌, ◌<◌, ℕ, Some, leb, nat_eq, slice_get};
     ghost use Rattle.base_rows.specs.inner.Systems.{doubling_moves, number_tells, same_numbers};
 
-    type Thing = Number;
+    type State = Number;
 
     type Class = usize;
 
-    type Note = bool;
+    type Output = bool;
 
     ghost Seen = { ℕ };
 
@@ -44,7 +44,7 @@ impl System for Doubling {
 
     ghost is_class = { λ s n k c. slice_get s.made c ≡ Some k };
 
-    ghost is_note = { λ _ n k taken. taken ≡ leb 7 (2 * n + k) };
+    ghost is_output = { λ _ n k taken. taken ≡ leb 7 (2 * n + k) };
 
     ghost tells = { number_tells };
 
@@ -53,7 +53,7 @@ impl System for Doubling {
     fn classes(
         &mut self,
         alloc: Global,
-        _thing: &Number,
+        _state: &Number,
         most: u32,
     ) -> Result<Option<Vec<usize>>, Memory> {
         if most < 2 {
@@ -70,14 +70,14 @@ impl System for Doubling {
     fn step(
         &mut self,
         _alloc: Global,
-        thing: &Number,
+        state: &Number,
         _number: u32,
         class: usize,
     ) -> Result<Option<(Number, bool)>, StepFault> {
-        let sum = 2 * thing.n + *self.made.at(class);
+        let sum = 2 * state.n + *self.made.at(class);
         let n = sum % 7;
         if n > self.bound {
-            return Err(StepFault::Nodes);
+            return Err(StepFault::Failed);
         }
         Ok(Some((Number { n }, sum >= 7)))
     }

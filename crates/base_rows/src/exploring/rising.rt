@@ -3,7 +3,7 @@
 ghost use Rattle.std.specs.Prelude.{◌≡◌, IfOk, filter, ltb};
 
 use aut_base::{Memory, Numbers};
-use exploration::{StepFault, System};
+use exploration::{StepFault, TransitionSystem};
 use std::alloc::Global;
 
 /// Lists, each of which leads to what of it is above the class, and nowhere where nothing is.
@@ -12,16 +12,16 @@ pub(crate) struct Rising {
     pub(crate) steps: u32,
 }
 
-impl System for Rising {
+impl TransitionSystem for Rising {
     ghost use Rattle.std.specs.Prelude.{◌≡◌, ℕ, List, nat_eq, ⊤};
     ghost use Rattle.std.specs.Cmp.Lexicographic.{bytes_decides, pointwise};
     ghost use Rattle.base_rows.specs.inner.Systems.{rising_moves};
 
-    type Thing = Numbers;
+    type State = Numbers;
 
     type Class = u32;
 
-    type Note = ();
+    type Output = ();
 
     ghost Seen = { List ℕ };
 
@@ -39,7 +39,7 @@ impl System for Rising {
 
     ghost is_class = { λ _ _ k c. c ≡ k };
 
-    ghost is_note = { λ _ _ _ _. ⊤ };
+    ghost is_output = { λ _ _ _ _. ⊤ };
 
     ghost tells = { bytes_decides };
 
@@ -48,7 +48,7 @@ impl System for Rising {
     fn classes(
         &mut self,
         alloc: Global,
-        _thing: &Numbers,
+        _state: &Numbers,
         most: u32,
     ) -> Result<Option<Vec<u32>>, Memory> {
         if most < 3 {
@@ -64,12 +64,12 @@ impl System for Rising {
     fn step(
         &mut self,
         alloc: Global,
-        thing: &Numbers,
+        state: &Numbers,
         _number: u32,
         class: u32,
     ) -> Result<Option<(Numbers, ())>, StepFault> {
         self.steps = self.steps.saturating_add(1);
-        match above(alloc, thing.as_slice(), class) {
+        match above(alloc, state.as_slice(), class) {
             Ok(left) if left.is_empty() => Ok(None),
             Ok(left) => Ok(Some((left, ()))),
             Err(Memory) => Err(StepFault::Memory),

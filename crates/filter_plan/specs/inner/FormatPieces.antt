@@ -12,11 +12,11 @@ escape c = if c == 37 then Some (Byte 37)
     else (if c == 97 then Some Sets
     else (if c == 119 then Some Word else None))))
 
-abbrev pub escaped : List ℕ → Option (Piece × List ℕ)
-escaped [] = None
-escaped (c ∷ rest) = option_map (λ p. (p, rest)) (escape c)
+abbrev pub escape_piece : List ℕ → Option (Piece × List ℕ)
+escape_piece [] = None
+escape_piece (c ∷ rest) = option_map (λ p. (p, rest)) (escape c)
 
 -- the first piece, and what stands behind it
 abbrev pub first_piece : List ℕ → Option (Piece × List ℕ)
 first_piece [] = None
-first_piece (b ∷ rest) = if b == 37 then escaped rest else Some (Byte b, rest)
+first_piece (b ∷ rest) = if b == 37 then escape_piece rest else Some (Byte b, rest)

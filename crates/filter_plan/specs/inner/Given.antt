@@ -10,8 +10,8 @@ pub record IsGiven (rows : List Row) (p : Plan) : Type 0 where
   pub options : EachGives table rows p
   pub streams : p.streams ≡ streams_of (named_streams rows) p.made
 
-abbrev pub operands_of : Plan → Operands
-operands_of p = record {
+abbrev pub operand_files : Plan → Operands
+operand_files p = record {
   included_in = p.included_in;
   equivalent_to = p.equivalent_to;
   intersect = p.intersect;

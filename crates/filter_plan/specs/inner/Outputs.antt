@@ -2,9 +2,9 @@
 use Rattle.std.specs.Prelude.{List, codes}
 use Rattle.clap.specs.Words.{Row}
 use Rattle.filter_plan.specs.Formats.{IsFormat}
-use Rattle.filter_plan.specs.Table.{IsFile, Reads, figures, refuted, values_of}
+use Rattle.filter_plan.specs.Table.{IsFile, ReadsOption, figures, refuted, values_of}
 use Rattle.filter_plan.specs.declared.plan.Output.{Output}
 
 pub record IsOutput (rows : List Row) (output : Output) : Type 0 where
-  pub stats : Reads IsFormat (values_of (codes "stats") rows) (figures output)
-  pub refute : Reads IsFile (values_of (codes "refute") rows) (refuted output)
+  pub stats : ReadsOption IsFormat (values_of (codes "stats") rows) (figures output)
+  pub refute : ReadsOption IsFile (values_of (codes "refute") rows) (refuted output)

@@ -10,7 +10,7 @@ abbrev pub head : List (ℕ × ℕ) → ℕ → ℕ
 head arcs place = (arc_at arcs place).1
 
 -- of the arcs before the place `end`, all that leave p stand before c, and the one right before c leaves p; 0 where none does
-pub record IsLast (arcs : List (ℕ × ℕ)) (p end c : ℕ) : Type 0 where
+pub record IsLastArc (arcs : List (ℕ × ℕ)) (p end c : ℕ) : Type 0 where
   pub within : c ≤ end
   pub leaves : 0 < c → tail arcs (c - 1) ≡ p
   pub no_other : (place : ℕ) → c ≤ place → place < end → tail arcs place ≡ p → ⊥
@@ -19,8 +19,8 @@ pub record IsLast (arcs : List (ℕ × ℕ)) (p end c : ℕ) : Type 0 where
 pub record AreChained (nodes : ℕ) (arcs : List (ℕ × ℕ)) (end : ℕ) (last before : List ℕ) : Type 0 where
   pub nodes_size : length last ≡ nodes
   pub arcs_size : length before ≡ end
-  pub lasts : (p : ℕ) → p < nodes → IsLast arcs p end (slice_index last p)
-  pub befores : (place : ℕ) → place < end → IsLast arcs (tail arcs place) place (slice_index before place)
+  pub lasts : (p : ℕ) → p < nodes → IsLastArc arcs p end (slice_index last p)
+  pub befores : (place : ℕ) → place < end → IsLastArc arcs (tail arcs place) place (slice_index before place)
 
 -- all arcs are chained
 abbrev pub AreChains : ℕ → List (ℕ × ℕ) → Chains → Type 0

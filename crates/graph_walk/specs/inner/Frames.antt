@@ -6,8 +6,8 @@ use Rattle.graph_walk.specs.inner.Places.{At}
 use Rattle.graph_walk.specs.declared.pass.Frame.{Frame}
 
 -- w is closed, or open at a place that is not before `low`
-abbrev pub IsSettled : List ℕ → (ℕ → Type 0) → ℕ → ℕ → Type 0
-IsSettled order closed low w = closed w ⊎ ((place : ℕ) × (low ≤ place) × At order place w)
+abbrev pub IsClosedOrAbove : List ℕ → (ℕ → Type 0) → ℕ → ℕ → Type 0
+IsClosedOrAbove order closed low w = closed w ⊎ ((place : ℕ) × (low ≤ place) × At order place w)
 
 -- the node reaches the one that is open at the place `low`
 abbrev pub ReachesPlace : List (ℕ × ℕ) → List ℕ → ℕ → ℕ → Type 0
@@ -23,8 +23,8 @@ pub record IsOpenNode (arcs : List (ℕ × ℕ)) (order : List ℕ) (closed : �
   pub down : (i x : ℕ) → i < end → At order i x → Reaches arcs x node
   pub up : (i x : ℕ) → f.place ≤ i → i < end → At order i x → Reaches arcs node x
   pub back : ReachesPlace arcs order node f.low
-  pub done : (i x place : ℕ) → f.place < i → i < end → At order i x → place < length arcs → tail arcs place ≡ x → IsSettled order closed f.low (head arcs place)
-  pub seen : (place : ℕ) → f.next ≤ place → place < length arcs → tail arcs place ≡ node → IsSettled order closed f.low (head arcs place)
+  pub done : (i x place : ℕ) → f.place < i → i < end → At order i x → place < length arcs → tail arcs place ≡ x → IsClosedOrAbove order closed f.low (head arcs place)
+  pub seen : (place : ℕ) → f.next ≤ place → place < length arcs → tail arcs place ≡ node → IsClosedOrAbove order closed f.low (head arcs place)
   pub bounded : f.next ≤ length arcs
   pub leaves : 0 < f.next → tail arcs (f.next - 1) ≡ node
 

@@ -8,21 +8,21 @@ use Rattle.graph_walk.specs.declared.pass.Mark.{Mark}
 use Rattle.graph_walk.specs.declared.pass.Mark.TheVariants.{Fresh, Open, Closed}
 
 -- the mark of a node
-abbrev pub mark_of : List Mark → ℕ → Mark
-mark_of marks x = slice_index_or marks x Fresh
+abbrev pub node_mark : List Mark → ℕ → Mark
+node_mark marks x = slice_index_or marks x Fresh
 
 -- the component of x is closed under this number
-abbrev pub IsNumbered : List Mark → ℕ → ℕ → Type 0
-IsNumbered marks x number = mark_of marks x ≡ Closed number
+abbrev pub IsInComponent : List Mark → ℕ → ℕ → Type 0
+IsInComponent marks x number = node_mark marks x ≡ Closed number
 
 abbrev pub IsClosed : List Mark → ℕ → Type 0
-IsClosed marks x = (number : ℕ) × IsNumbered marks x number
+IsClosed marks x = (number : ℕ) × IsInComponent marks x number
 
 -- the number of a closed node, and 0 of any other
-abbrev pub number_of : Mark → ℕ
-number_of Fresh = 0
-number_of (Open place) = 0
-number_of (Closed number) = number
+abbrev pub component_number : Mark → ℕ
+component_number Fresh = 0
+component_number (Open place) = 0
+component_number (Closed number) = number
 
 abbrev pub one_if_fresh : Mark → ℕ
 one_if_fresh Fresh = 1
@@ -41,16 +41,16 @@ pub record AreNumbered (arcs : List (ℕ × ℕ)) (numbered : ℕ → ℕ → Ty
   pub all : (number : ℕ) → number < count → (x : ℕ) × numbered x number
 
 -- the marks, the list of the open nodes and the count of closed components belong together
-pub record Keeps (arcs : List (ℕ × ℕ)) (marks : List Mark) (order : List ℕ) (count : ℕ) : Type 0 where
-  pub stands : (x i : ℕ) → mark_of marks x ≡ Open i → At order i x
-  pub opened : (x i : ℕ) → At order i x → mark_of marks x ≡ Open i
-  pub closed : AreNumbered arcs (IsNumbered marks) count
+pub record AreConsistent (arcs : List (ℕ × ℕ)) (marks : List Mark) (order : List ℕ) (count : ℕ) : Type 0 where
+  pub stands : (x i : ℕ) → node_mark marks x ≡ Open i → At order i x
+  pub opened : (x i : ℕ) → At order i x → node_mark marks x ≡ Open i
+  pub closed : AreNumbered arcs (IsInComponent marks) count
   pub room : count + fresh_count marks + length order ≤ length marks
   pub few : length marks < 2 ^ 32
 
 -- of the open nodes, those from the place `from` on and before `to` are closed under the number
 pub record ClosesFrom (order : List ℕ) (from to number : ℕ) (old new : List Mark) : Type 0 where
   pub size : length new ≡ length old
-  pub chosen : (i x : ℕ) → from ≤ i → i < to → At order i x → mark_of new x ≡ Closed number
-  pub others : (x : ℕ) → ((i : ℕ) → from ≤ i → i < to → At order i x → ⊥) → mark_of new x ≡ mark_of old x
+  pub chosen : (i x : ℕ) → from ≤ i → i < to → At order i x → node_mark new x ≡ Closed number
+  pub others : (x : ℕ) → ((i : ℕ) → from ≤ i → i < to → At order i x → ⊥) → node_mark new x ≡ node_mark old x
   pub fewer : fresh_count new ≤ fresh_count old

@@ -2,39 +2,39 @@
 use Rattle.std.specs.Prelude.{◌≡◌, ℕ, ◌+◌, ◌*◌, ◌<◌, Option, Some, None, List, [], ◌∷◌, ◌++◌, length, reverse, take, slice_index, slice_set}
 use Rattle.std.specs.List.{sum_by}
 use Rattle.graph_walk.specs.inner.Frames.{Hold}
-use Rattle.graph_walk.specs.inner.Marks.{mark_of, IsClosed, ClosesFrom, Keeps, fresh_count}
+use Rattle.graph_walk.specs.inner.Marks.{node_mark, IsClosed, ClosesFrom, AreConsistent, fresh_count}
 use Rattle.graph_walk.specs.declared.pass.Frame.{Frame}
 use Rattle.graph_walk.specs.declared.pass.Mark.TheVariants.{Fresh, Open}
 use Rattle.graph_walk.specs.declared.pass.Pass.{Pass}
 
 -- the node `top` and those below it are being looked at
-pub record IsMidway (nodes : ℕ) (arcs : List (ℕ × ℕ)) (p : Pass) (top : Frame) : Type 0 where
+pub record IsVisiting (nodes : ℕ) (arcs : List (ℕ × ℕ)) (p : Pass) (top : Frame) : Type 0 where
   pub size : length p.marks.items ≡ nodes
-  pub keeps : Keeps arcs p.marks.items p.order.items p.count
+  pub keeps : AreConsistent arcs p.marks.items p.order.items p.count
   pub hold : Hold arcs p.order.items (IsClosed p.marks.items) (length p.order.items) (top ∷ reverse p.below.items)
 
 -- no node is open
 pub record IsIdle (nodes : ℕ) (arcs : List (ℕ × ℕ)) (p : Pass) : Type 0 where
   pub size : length p.marks.items ≡ nodes
-  pub keeps : Keeps arcs p.marks.items p.order.items p.count
+  pub keeps : AreConsistent arcs p.marks.items p.order.items p.count
   pub no_order : p.order.items ≡ []
   pub no_below : p.below.items ≡ []
 
 -- what is fresh now was fresh before
 abbrev pub NoneFreshened : Pass → Pass → Type 0
-NoneFreshened old new = (x : ℕ) → mark_of new.marks.items x ≡ Fresh → mark_of old.marks.items x ≡ Fresh
+NoneFreshened old new = (x : ℕ) → node_mark new.marks.items x ≡ Fresh → node_mark old.marks.items x ≡ Fresh
 
 -- the steps that are left to look at the arcs of an open node
-abbrev pub left_of : Frame → ℕ
-left_of f = f.next + 1
+abbrev pub arcs_left : Frame → ℕ
+arcs_left f = f.next + 1
 
 -- the steps that are left at most
 abbrev pub steps_left : List (ℕ × ℕ) → Pass → Frame → ℕ
-steps_left arcs p top = fresh_count p.marks.items * (length arcs + 2) + (left_of top + sum_by left_of p.below.items)
+steps_left arcs p top = fresh_count p.marks.items * (length arcs + 2) + (arcs_left top + sum_by arcs_left p.below.items)
 
 -- one step was taken
-pub record Steps (nodes : ℕ) (arcs : List (ℕ × ℕ)) (old : Pass) (top : Frame) (new : Pass) (next : Frame) : Type 0 where
-  pub midway : IsMidway nodes arcs new next
+pub record TakesStep (nodes : ℕ) (arcs : List (ℕ × ℕ)) (old : Pass) (top : Frame) (new : Pass) (next : Frame) : Type 0 where
+  pub midway : IsVisiting nodes arcs new next
   pub falls : steps_left arcs new next < steps_left arcs old top
   pub freshened : NoneFreshened old new
 
@@ -49,13 +49,13 @@ pub record Enters (last : List ℕ) (node : ℕ) (old new : Pass) (f : Frame) : 
   pub next : f.next ≡ slice_index last node
 
 -- the open nodes from a place on become one component
-pub record Closes (place : ℕ) (old new : Pass) : Type 0 where
+pub record ClosesComponent (place : ℕ) (old new : Pass) : Type 0 where
   pub marks : ClosesFrom old.order.items place (length old.order.items) old.count old.marks.items new.marks.items
   pub order : new.order.items ≡ take place old.order.items
   pub below : new.below.items ≡ old.below.items
   pub count : new.count ≡ old.count + 1
 
 -- the last open node is left: there is a next one, or none
-abbrev pub Finishes : ℕ → List (ℕ × ℕ) → Pass → Frame → Pass → Option Frame → Type 0
-Finishes nodes arcs old top new (Some next) = Steps nodes arcs old top new next
-Finishes nodes arcs old top new None = IsIdle nodes arcs new × NoneFreshened old new
+abbrev pub LeavesNode : ℕ → List (ℕ × ℕ) → Pass → Frame → Pass → Option Frame → Type 0
+LeavesNode nodes arcs old top new (Some next) = TakesStep nodes arcs old top new next
+LeavesNode nodes arcs old top new None = IsIdle nodes arcs new × NoneFreshened old new

@@ -13,8 +13,8 @@ pub record IsAdded (old : Search) (node place : ℕ) (new : Search) : Type 0 whe
   pub led : new.led.items ≡ slice_set old.led.items node place
 
 -- a node that was seen changes nothing, and any other is added
-abbrev pub Adds : Search → ℕ → ℕ → Search → Type 0
-Adds old node place new = ((flag old.seen.items node ≡ true) × (new ≡ old)) ⊎ IsAdded old node place new
+abbrev pub AddsIfUnseen : Search → ℕ → ℕ → Search → Type 0
+AddsIfUnseen old node place new = ((flag old.seen.items node ≡ true) × (new ≡ old)) ⊎ IsAdded old node place new
 
 abbrev pub one_if_unset : Bool → ℕ
 one_if_unset true = 0
@@ -31,13 +31,13 @@ pub record IsSized (s : Search) : Type 0 where
   pub order_within : (i x : ℕ) → At s.order.items i x → x < length s.seen.items
 
 -- the marked nodes are those that are listed
-pub record AreListed (s : Search) : Type 0 where
+pub record AreMarkedListed (s : Search) : Type 0 where
   pub flagged : (i x : ℕ) → At s.order.items i x → flag s.seen.items x ≡ true
   pub listed : (x : ℕ) → flag s.seen.items x ≡ true → (i : ℕ) × At s.order.items i x
 
 -- the first nodes of the list are marked, and none that does not stand in it
 pub record HasStarts (starts : List ℕ) (done : ℕ) (s : Search) : Type 0 where
-  pub lists : AreListed s
+  pub lists : AreMarkedListed s
   pub begun : (k : ℕ) → k < done → flag s.seen.items (slice_index starts k) ≡ true
   pub within : (x : ℕ) → flag s.seen.items x ≡ true → Contains starts x
 
@@ -69,7 +69,7 @@ IsClosed arcs depth seen order done end =
 -- what is known of the nodes that were seen, and how deep they are
 pub record AreSeen (arcs : List (ℕ × ℕ)) (starts : List ℕ) (done : ℕ) (s : Search) : Type 0 where
   pub depth : ℕ → ℕ
-  pub lists : AreListed s
+  pub lists : AreMarkedListed s
   pub begun : (k : ℕ) → k < length starts → IsNear depth s.seen.items (slice_index starts k) 0
   pub is_led : (x : ℕ) → flag s.seen.items x ≡ true → IsLed arcs starts depth s.seen.items s.led.items x
   pub rises : (i j x y : ℕ) → i ≤ j → At s.order.items i x → At s.order.items j y → depth x ≤ depth y

@@ -4,7 +4,7 @@ use Rattle.std.proofs.lemmas.Bool.{false≢true}
 use Rattle.std.proofs.lemmas.List.{append_assoc, length-append}
 use Rattle.hoa_lexer.specs.Laws.{LastIsAskedFor}
 use Rattle.hoa_lexer.specs.Reading.{unread}
-use Rattle.hoa_lexer.specs.Spelling.{Ends, Spells, StopsAt, closes_itself}
+use Rattle.hoa_lexer.specs.Spelling.{IsDelimited, Spells, StopsAt, closes_itself}
 use Rattle.hoa_lexer.specs.Text.{AfterBlanks, AskedForOne, HasFront, IsNext}
 use Rattle.hoa_lexer.specs.declared.token.Token.{Token}
 use Rattle.hoa_lexer.specs.declared.token.Token.TheVariants.{Identifier, Int, Alias}
@@ -18,7 +18,7 @@ stops_on p [] more h = absurd h
 stops_on p (b ∷ rest) more h = h
 
 -- what follows a token may go on
-pub ends_on : (t : Token) (rest more : List ℕ) → Ends t rest → Ends t (rest ++ more)
+pub ends_on : (t : Token) (rest more : List ℕ) → IsDelimited t rest → IsDelimited t (rest ++ more)
 ends_on (Identifier name) rest more h = (stops_on _ rest more h.0, stops_on _ rest more h.1)
 ends_on (Int zero) rest more h = tt
 ends_on (Int (suc n)) rest more h = stops_on _ rest more h
@@ -26,7 +26,7 @@ ends_on (Alias name) rest more h = stops_on _ rest more h
 ends_on _ rest more h = tt
 
 -- A token that closes needs something behind it where it doesn't close itself.
-needs_more : (t : Token) (rest : List ℕ) → Ends t rest → closes_itself t ≡ false → rest ≡ [] → ⊥
+needs_more : (t : Token) (rest : List ℕ) → IsDelimited t rest → closes_itself t ≡ false → rest ≡ [] → ⊥
 needs_more (Identifier name) [] h c e = h.0
 needs_more (Int zero) [] h c e = false≢true (sym c)
 needs_more (Int (suc n)) [] h c e = h

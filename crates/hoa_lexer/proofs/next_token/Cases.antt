@@ -8,7 +8,7 @@ use Rattle.hoa_lexer.specs.Blanks.IsBlanks.{nothing, space, comment}
 use Rattle.hoa_lexer.specs.Bytes.{is_space}
 use Rattle.hoa_lexer.specs.Laws.{Next, NoMore, OneToken, NoToken, InComment, InString, InToken, OneNext, SomeNext, StandsNext}
 use Rattle.hoa_lexer.specs.Spelling.{Quotes}
-use Rattle.hoa_lexer.specs.Text.{AfterBlanks, Begins, HasFront, IsNext, IsNoToken, IsOpenString, IsOpenToken}
+use Rattle.hoa_lexer.specs.Text.{AfterBlanks, BeginsToken, HasFront, IsNext, IsNoToken, IsOpenString, IsOpenToken}
 use Rattle.hoa_lexer.specs.declared.token.Token.{Token}
 use Rattle.hoa_lexer.specs.declared.token.Token.TheVariants.{Str}
 use Rattle.hoa_lexer.specs.inner.Steps.{closing}
@@ -221,7 +221,7 @@ no_quote text a n rest e = n (cons-head a.holds.first 34 a.holds.rest rest (sym 
 -- anything else
 other_stands : (start : ℕ) (text : List ℕ) → Nothing start text → (a : AfterBlanks text IsSolid) → (a.holds.first ≡ 34 → ⊥) → ⊥
 other_stands start text none a n =
-    let open_no : ((a.bytes ≡ 47 ∷ []) ⊎ Begins a.bytes)
+    let open_no : ((a.bytes ≡ 47 ∷ []) ⊎ BeginsToken a.bytes)
     → ⊥ = λ b. none InToken (held_at text a (record { some = some_first text a; no_string = no_quote text a n; unclosed = no_front start text none a; begins = b })) in
     none (NoToken (start + length a.before)) (held_at text a (
       omega (arith, simp length-append at (ap length a.split)),

@@ -1,11 +1,11 @@
 -- Where the lexer refuses the bytes, no token stands next, and more than blanks is there.
 use Rattle.std.proofs.Common.{◌≡◌, ℕ, true, List, [], ◌∷◌, ◌++◌, inl, inr, refl, sym, subst, ◌∙◌, ap, arith}
 use Rattle.std.proofs.lemmas.List.{append_assoc, append-nil}
-use Rattle.hoa_lexer.specs.Blanks.{Closes, IsBlanks, IsOpenComment}
+use Rattle.hoa_lexer.specs.Blanks.{ClosesComments, IsBlanks, IsOpenComment}
 use Rattle.hoa_lexer.specs.Blanks.IsBlanks.{nothing, space, comment}
 use Rattle.hoa_lexer.specs.Bytes.{is_space}
 use Rattle.hoa_lexer.specs.Spelling.{Quotes, Spells}
-use Rattle.hoa_lexer.specs.Text.{AfterBlanks, Begins, HasFront, IsNoToken, IsOpenString, IsOpenToken}
+use Rattle.hoa_lexer.specs.Text.{AfterBlanks, BeginsToken, HasFront, IsNoToken, IsOpenString, IsOpenToken}
 use Rattle.hoa_lexer.specs.declared.token.Token.{Token}
 use Rattle.hoa_lexer.specs.declared.token.Token.TheVariants.{HeaderName, Identifier, Str, Int, Alias}
 use Rattle.hoa_lexer.proofs.spelling.FirstBytes.{front_head, token_kind}
@@ -15,7 +15,7 @@ use Rattle.hoa_lexer.proofs.next_token.Fronts.{asks_blanks, front_after, front_s
 pub record IsStuck (bytes : List ℕ) : Type 0 where
   pub some : bytes ≡ [] → ⊥
   pub no_space : (b : ℕ) (rest : List ℕ) → bytes ≡ b ∷ rest → is_space b ≡ true → ⊥
-  pub no_comment : (body rest : List ℕ) → bytes ≡ 47 ∷ 42 ∷ (body ++ rest) → Closes 1 body → ⊥
+  pub no_comment : (body rest : List ℕ) → bytes ≡ 47 ∷ 42 ∷ (body ++ rest) → ClosesComments 1 body → ⊥
   pub no_front : HasFront bytes → ⊥
 
 pub no_token_stuck : (bytes : List ℕ) → IsNoToken bytes → IsStuck bytes
@@ -59,10 +59,10 @@ open_string_stuck bytes o = record {
       string_at here.token o.rest head.tail here.rest head.kinds o.open_still head.spells head.split;
 }
 
-begins_space : (b : ℕ) (bytes rest : List ℕ) → is_space b ≡ true → bytes ≡ b ∷ rest → Begins bytes → ⊥
+begins_space : (b : ℕ) (bytes rest : List ℕ) → is_space b ≡ true → bytes ≡ b ∷ rest → BeginsToken bytes → ⊥
 begins_space b bytes rest h e g = front_spaces b (rest ++ g.more) (bytes ++ g.more) h (ap (λ w. w ++ g.more) e) g.front
 
-pub begins_slash : (bytes rest : List ℕ) → bytes ≡ 47 ∷ rest → Begins bytes → ⊥
+pub begins_slash : (bytes rest : List ℕ) → bytes ≡ 47 ∷ rest → BeginsToken bytes → ⊥
 begins_slash bytes rest e g = front_slashes (rest ++ g.more) (bytes ++ g.more) (ap (λ w. w ++ g.more) e) g.front
 
 pub open_token_stuck : (bytes : List ℕ) → IsOpenToken bytes → IsStuck bytes

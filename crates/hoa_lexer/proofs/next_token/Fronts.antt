@@ -4,11 +4,11 @@ use Rattle.std.proofs.Common.{inl, inr, refl, sym, subst, ◌∙◌, ap, arith, 
 use Rattle.std.proofs.lemmas.Bool.{false≢true, and_right, cases_Bool}
 use Rattle.std.proofs.lemmas.List.{append_assoc, append-nil, length-append}
 use Rattle.aut_base.proofs.lists.Lists.{cons-head}
-use Rattle.hoa_lexer.specs.Blanks.{Closes, IsBlanks, IsOpenComment}
+use Rattle.hoa_lexer.specs.Blanks.{ClosesComments, IsBlanks, IsOpenComment}
 use Rattle.hoa_lexer.specs.Blanks.IsBlanks.{nothing, space, comment}
 use Rattle.hoa_lexer.specs.Bytes.{is_space}
-use Rattle.hoa_lexer.specs.Reading.{unread, held_count, Answers, BeginsNoToken, BeginsToken, Places}
-use Rattle.hoa_lexer.specs.inner.Steps.{closing, ClosesComment, IsReadFault, IsSolid, Skips, SkipsComment, SkipsBlanks, Pauses, ReadsToken, Tries, UsesBlanks}
+use Rattle.hoa_lexer.specs.Reading.{unread, held_count, AnswersToken, BeginsNoToken, BeginsToken, PlacesOffset}
+use Rattle.hoa_lexer.specs.inner.Steps.{closing, ClosesComment, IsReadFault, IsSolid, PassesBlanks, SkipsComment, SkipsBlanks, Pauses, ReadsToken, TriesByte, UsesBlanks}
 use Rattle.hoa_lexer.specs.Text.{IsFront, HasFront, IsNext, AfterBlanks, IsOpenString, IsOpenToken, IsNoToken, AsksForMore, AskedForOne, AsksPast, IsShownBy}
 use Rattle.hoa_lexer.proofs.spelling.Comments.{closing_after, closing_sound, unheld, holding, steps_out, steps_in, steps_on}
 use Rattle.hoa_lexer.proofs.spelling.FirstBytes.{front_head, no_front, no_space, no_slash, solid}
@@ -41,11 +41,11 @@ space_no_slash b h e = false≢true (ap is_space (sym e) ∙ h)
 pub at_once : (y : List ℕ) (P : List ℕ → Type 0) → P y → AfterBlanks y P
 at_once y P h = record { before = []; bytes = y; split = refl; blanks = nothing; holds = h }
 
-pub skips_none : (x : List ℕ) → Skips x x
+pub skips_none : (x : List ℕ) → PassesBlanks x x
 skips_none x = record { before = []; split = refl; blanks = nothing }
 
 -- two comments that open at one place close at one place
-pub same_close : (body body' bs bs' xs xs' : List ℕ) → Closes 1 body → Closes 1 body' → (body ++ bs) ++ xs ≡ (body' ++ bs') ++ xs' → bs ++ xs ≡ bs' ++ xs'
+pub same_close : (body body' bs bs' xs xs' : List ℕ) → ClosesComments 1 body → ClosesComments 1 body' → (body ++ bs) ++ xs ≡ (body' ++ bs') ++ xs' → bs ++ xs ≡ bs' ++ xs'
 same_close body body' bs bs' xs xs' h k e =
     let here = closing_after 1 body (bs ++ xs) h in
     let there = closing_after 1 body' (bs' ++ xs') k in
@@ -56,7 +56,7 @@ same_close body body' bs bs' xs xs' h k e =
 -- no blank stands at the front
 pub record NoBlank (bytes : List ℕ) : Type 0 where
   pub no_space : (b : ℕ) (rest : List ℕ) → bytes ≡ b ∷ rest → is_space b ≡ true → ⊥
-  pub no_comment : (body rest : List ℕ) → bytes ≡ 47 ∷ 42 ∷ (body ++ rest) → Closes 1 body → ⊥
+  pub no_comment : (body rest : List ℕ) → bytes ≡ 47 ∷ 42 ∷ (body ++ rest) → ClosesComments 1 body → ⊥
 
 front_no_blank : (bytes : List ℕ) → HasFront bytes → NoBlank bytes
 front_no_blank bytes f = record {
@@ -65,7 +65,7 @@ front_no_blank bytes f = record {
 }
 
 -- Where blanks are passed, and behind others stands none, there stands none behind the rest of those.
-skips_rest : (before before' x y : List ℕ) → IsBlanks before → IsBlanks before' → before ++ x ≡ before' ++ y → NoBlank y → Skips x y
+skips_rest : (before before' x y : List ℕ) → IsBlanks before → IsBlanks before' → before ++ x ≡ before' ++ y → NoBlank y → PassesBlanks x y
 skips_rest before before' x y nothing k e n = record { before = before'; split = e; blanks = k }
 skips_rest (b ∷ bs) before' x y (space h r) nothing e n = absurd (n.no_space b (bs ++ x) (sym e) h)
 skips_rest (b ∷ bs) (c ∷ cs) x y (space h r) (space k s) e n = skips_rest bs cs x y r s (let whole : b ∷ (bs ++ x) ≡ c ∷ (cs ++ y) = e in cc) n
@@ -107,14 +107,14 @@ blanks_append a b (comment body bs h r t) k =
     comment body (bs ++ b) h (blanks_append bs b r k)
     (ap (λ z. z ++ b) t ∙ ap (λ z. 47 ∷ 42 ∷ z) (append_assoc body bs b))
 
-pub skips_then : (x y z : List ℕ) → Skips x y → Skips y z → Skips x z
+pub skips_then : (x y z : List ℕ) → PassesBlanks x y → PassesBlanks y z → PassesBlanks x z
 skips_then x y z s r = record {
   before = s.before ++ r.before;
   split = s.split ∙ ap (λ w. s.before ++ w) r.split ∙ sym (append_assoc s.before r.before z);
   blanks = blanks_append s.before r.before s.blanks r.blanks;
 }
 
-pub skip_space : (b : ℕ) (x y z : List ℕ) → is_space b ≡ true → y ≡ b ∷ z → Skips x y → Skips x z
+pub skip_space : (b : ℕ) (x y z : List ℕ) → is_space b ≡ true → y ≡ b ∷ z → PassesBlanks x y → PassesBlanks x z
 skip_space b x y z h e s = skips_then x y z s (record { before = b ∷ []; split = e; blanks = space h nothing })
 
 bang : HasFront (33 ∷ [])
@@ -283,7 +283,7 @@ length_unread (Some b) y = omega arith
 
 -- faults after blanks
 
-after_skips : (x y : List ℕ) (P Q : List ℕ → Type 0) → ((bytes : List ℕ) → P bytes → Q bytes) → Skips x y → AfterBlanks y P → AfterBlanks x Q
+after_skips : (x y : List ℕ) (P Q : List ℕ → Type 0) → ((bytes : List ℕ) → P bytes → Q bytes) → PassesBlanks x y → AfterBlanks y P → AfterBlanks x Q
 after_skips x y P Q f s a = record {
   before = s.before ++ a.before;
   bytes = a.bytes;
@@ -300,7 +300,7 @@ asks_after before at_hand h a = record {
       (record { before = before; split = append_assoc before at_hand a.more; blanks = h }) a.closes;
 }
 
-shown_after : (k start start' : ℕ) (x y z : List ℕ) → Skips x y → start + length x ≡ start' + length y → IsShownBy k start' y z → IsShownBy k start x z
+shown_after : (k start start' : ℕ) (x y z : List ℕ) → PassesBlanks x y → start + length x ≡ start' + length y → IsShownBy k start' y z → IsShownBy k start x z
 shown_after k start start' x y z s e a =
     let whole = ap length s.split ∙ length-append s.before y in
     record {
@@ -312,15 +312,15 @@ shown_after k start start' x y z s e a =
           (record { before = s.before; split = refl; blanks = s.blanks }) a.shows;
     }
 
-asks_behind : (x y z : List ℕ) → Skips x y → AsksPast y z → AsksPast x z
+asks_behind : (x y z : List ℕ) → PassesBlanks x y → AsksPast y z → AsksPast x z
 asks_behind x y z s a = record {
   at_hand = s.before ++ a.at_hand;
   split = s.split ∙ ap (λ w. s.before ++ w) a.split ∙ sym (append_assoc s.before a.at_hand z);
   asks = asks_after s.before a.at_hand s.blanks a.asks;
 }
 
-pub fails_after : (fault : LexFault) (start start' offset offset' : ℕ) (x y z : List ℕ) → Skips x y → start + length x ≡ start' + length y → Answers (Err fault) start' offset' y z
-    → Answers (Err fault) start offset x z
+pub fails_after : (fault : LexFault) (start start' offset offset' : ℕ) (x y z : List ℕ) → PassesBlanks x y → start + length x ≡ start' + length y → AnswersToken (Err fault) start' offset' y z
+    → AnswersToken (Err fault) start offset x z
 fails_after (BadToken k) start start' offset offset' x y z s e a = (
   after_skips x y (λ bytes. (k + length bytes ≡ start' + length y) × IsNoToken bytes) (λ bytes. (k + length bytes ≡ start + length x) × IsNoToken bytes)
       (λ bytes h. (h.0 ∙ sym e, h.1)) s a.0,
@@ -342,7 +342,7 @@ fails_after Read start start' offset offset' x y z s e a =
 fails_after Memory start start' offset offset' x y z s e a =
     asks_behind x y z s a
 
-pub blanks_err : (fault : LexFault) (h : Option ℕ) (start : ℕ) (x y z : List ℕ) → IsReadFault fault → h ≡ None → Skips x y → y ≡ z → Answers (Err fault) start 0 x (unread h z)
+pub blanks_err : (fault : LexFault) (h : Option ℕ) (start : ℕ) (x y z : List ℕ) → IsReadFault fault → h ≡ None → PassesBlanks x y → y ≡ z → AnswersToken (Err fault) start 0 x (unread h z)
 blanks_err Read h start x y z r k s e = record { at_hand = s.before; split = s.split ∙ ap (λ w. s.before ++ w) (e ∙ sym (unheld h z k)); asks = asks_blanks s.before s.blanks }
 blanks_err Bytes h start x y z r k s e = record { at_hand = s.before; split = s.split ∙ ap (λ w. s.before ++ w) (e ∙ sym (unheld h z k)); asks = asks_blanks s.before s.blanks }
 blanks_err (BadToken n) h start x y z r k s e = absurd r
@@ -351,10 +351,10 @@ blanks_err OpenString h start x y z r k s e = absurd r
 blanks_err OpenToken h start x y z r k s e = absurd r
 blanks_err Memory h start x y z r k s e = absurd r
 
-pub blanks_to : (b : ℕ) (x y z : List ℕ) → Skips x y → y ≡ b ∷ z → Skips x (b ∷ z)
+pub blanks_to : (b : ℕ) (x y z : List ℕ) → PassesBlanks x y → y ≡ b ∷ z → PassesBlanks x (b ∷ z)
 blanks_to b x y z s e = record { before = s.before; split = s.split ∙ ap (λ w. s.before ++ w) e; blanks = s.blanks }
 
-pub skips_byte : (o h : Option ℕ) (b start : ℕ) (x y : List ℕ) → o ≡ Some b → h ≡ Some b → SkipsBlanks (Ok o) start x (unread h y) → Skips x (b ∷ y)
+pub skips_byte : (o h : Option ℕ) (b start : ℕ) (x y : List ℕ) → o ≡ Some b → h ≡ Some b → SkipsBlanks (Ok o) start x (unread h y) → PassesBlanks x (b ∷ y)
 skips_byte None h b start x y e k s = cc
 skips_byte (Some c) h b start x y e k s = record { before = s.before; split = s.split ∙ ap (λ w. s.before ++ w) (holding h b y k); blanks = s.blanks }
 
@@ -385,14 +385,14 @@ pauses_ask y z p = record {
   closes = record { before = []; bytes = p.at_hand ++ p.begins.more; split = refl; blanks = nothing; holds = p.begins.front };
 }
 
-asked_for_one : (y z : List ℕ) → Tries y z → AskedForOne y z
+asked_for_one : (y z : List ℕ) → TriesByte y z → AskedForOne y z
 asked_for_one y z t = ⊎_elim
     (λ first. record { at_hand = []; byte = t.byte; split = first; asks = asks_blanks [] nothing })
     (λ p. record { at_hand = p.at_hand; byte = t.byte; split = p.split; asks = pauses_ask y (t.byte ∷ z) p })
     t.past
 
 -- the answer to what the token's own function answered, where nothing stands before it
-token_err_here : (fault : LexFault) (offset : ℕ) (y z : List ℕ) → ReadsToken (Err fault) offset y z → Answers (Err fault) offset offset y z
+token_err_here : (fault : LexFault) (offset : ℕ) (y z : List ℕ) → ReadsToken (Err fault) offset y z → AnswersToken (Err fault) offset offset y z
 token_err_here (BadToken k) offset y z h = (
   at_once y (λ bytes. (k + length bytes ≡ offset + length y) × IsNoToken bytes) (ap (λ n. n + length y) h.0, h.1),
   asked_for_one y z h.2,
@@ -409,10 +409,11 @@ token_err_here Bytes offset y z h = record { at_hand = h.at_hand; split = h.spli
 token_err_here Read offset y z h = record { at_hand = h.at_hand; split = h.split; asks = pauses_ask y z h }
 token_err_here Memory offset y z h = record { at_hand = h.at_hand; split = h.split; asks = pauses_ask y z h }
 
-pub token_err : (fault : LexFault) (start offset : ℕ) (x y z : List ℕ) → Skips x y → start + length x ≡ offset + length y → ReadsToken (Err fault) offset y z → Answers (Err fault) start offset x z
+pub token_err : (fault : LexFault) (start offset : ℕ) (x y z : List ℕ) → PassesBlanks x y → start + length x ≡ offset + length y → ReadsToken (Err fault) offset y z
+    → AnswersToken (Err fault) start offset x z
 token_err fault start offset x y z s e h = fails_after fault start offset offset offset x y z s e (token_err_here fault offset y z h)
 
-pub token_ok : (token : Token) (start offset : ℕ) (x y z : List ℕ) → Skips x y → start + length x ≡ offset + length y → IsFront y token z → IsNext x start token offset z
+pub token_ok : (token : Token) (start offset : ℕ) (x y z : List ℕ) → PassesBlanks x y → start + length x ≡ offset + length y → IsFront y token z → IsNext x start token offset z
 token_ok token start offset x y z s e f = record {
   before = s.before;
   bytes = y;
@@ -422,12 +423,12 @@ token_ok token start offset x y z s e f = record {
   front = f;
 }
 
-pub err_offset : (fault : LexFault) (start offset offset' : ℕ) (x z : List ℕ) → Answers (Err fault) start offset x z → Answers (Err fault) start offset' x z
+pub err_offset : (fault : LexFault) (start offset offset' : ℕ) (x z : List ℕ) → AnswersToken (Err fault) start offset x z → AnswersToken (Err fault) start offset' x z
 err_offset fault start offset offset' x z a = fails_after fault start start offset' offset x x z (skips_none x) refl a
 
 -- where the offset stands after a fault
 
-used_of : (fault : LexFault) (start offset : ℕ) (x z : List ℕ) → Answers (Err fault) start offset x z → (used : List ℕ) × (x ≡ used ++ z)
+used_of : (fault : LexFault) (start offset : ℕ) (x z : List ℕ) → AnswersToken (Err fault) start offset x z → (used : List ℕ) × (x ≡ used ++ z)
 used_of (BadToken k) start offset x z a = (a.2.used, a.2.split)
 used_of OpenComment start offset x z a = (x, sym (ap (λ w. x ++ w) a.1 ∙ append-nil x))
 used_of OpenString start offset x z a = (x, sym (ap (λ w. x ++ w) a.1 ∙ append-nil x))
@@ -440,12 +441,12 @@ begins_slash : (used x z : List ℕ) → 47 ∷ x ≡ used ++ z → BeginsNoToke
 begins_slash [] x z e = tt
 begins_slash (b ∷ bs) x z e = sym (cons-head 47 b x (bs ++ z) e)
 
-pub comment_begun : (fault : LexFault) (start : ℕ) (x y z : List ℕ) → Skips x (47 ∷ y) → SkipsComment (Err fault) start (47 ∷ y) z → UsesBlanks x z
+pub comment_begun : (fault : LexFault) (start : ℕ) (x y z : List ℕ) → PassesBlanks x (47 ∷ y) → SkipsComment (Err fault) start (47 ∷ y) z → UsesBlanks x z
 comment_begun fault start x y z s a =
     let u = used_of fault start 0 (47 ∷ y) z a in
     record { before = s.before; bytes = u.0; split = s.split ∙ ap (λ w. s.before ++ w) u.1 ∙ sym (append_assoc s.before u.0 z); blanks = s.blanks; none = begins_slash u.0 y z u.1 }
 
-pub blanks_begun : (h : Option ℕ) (x y z : List ℕ) → h ≡ None → Skips x y → y ≡ z → UsesBlanks x (unread h z)
+pub blanks_begun : (h : Option ℕ) (x y z : List ℕ) → h ≡ None → PassesBlanks x y → y ≡ z → UsesBlanks x (unread h z)
 blanks_begun h x y z n s e = record {
   before = s.before;
   bytes = [];
@@ -454,7 +455,7 @@ blanks_begun h x y z n s e = record {
   none = tt;
 }
 
-pub places_blanks : (fault : LexFault) (start offset offset' : ℕ) (x z : List ℕ) → offset' ≡ offset → UsesBlanks x z → Places (Err fault) start offset offset' x z
+pub places_blanks : (fault : LexFault) (start offset offset' : ℕ) (x z : List ℕ) → offset' ≡ offset → UsesBlanks x z → PlacesOffset (Err fault) start offset offset' x z
 places_blanks fault start offset offset' x z e u = (u.before ++ u.bytes, u.split, record { before = u.before; bytes = u.bytes; split = refl; blanks = u.blanks; place = inr (u.none, e) })
 
 token_used : (fault : LexFault) (offset : ℕ) (y z : List ℕ) → ReadsToken (Err fault) offset y z → (used : List ℕ) × (used ≢ []) × (y ≡ used ++ z)
@@ -472,8 +473,8 @@ begins_token first (b ∷ bs) y z s n k e =
     let same : first ≡ b = cons-head first b y (bs ++ z) e in
     (ap is_space (sym same) ∙ s, λ w. n (same ∙ w))
 
-pub places_token : (fault : LexFault) (first start old offset : ℕ) (x y z : List ℕ) → is_space first ≡ false → first ≢ 47 → Skips x (first ∷ y)
-    → start + length x ≡ offset + length (first ∷ y) → ReadsToken (Err fault) offset (first ∷ y) z → Places (Err fault) start old offset x z
+pub places_token : (fault : LexFault) (first start old offset : ℕ) (x y z : List ℕ) → is_space first ≡ false → first ≢ 47 → PassesBlanks x (first ∷ y)
+    → start + length x ≡ offset + length (first ∷ y) → ReadsToken (Err fault) offset (first ∷ y) z → PlacesOffset (Err fault) start old offset x z
 places_token fault first start old offset x y z solid no_slash s e h =
     let u = token_used fault offset (first ∷ y) z h in (
       s.before ++ u.0,

@@ -2,7 +2,7 @@
 use Rattle.std.proofs.Common.{◌≡◌, ℕ, List, Option, Result, Ok, Err, refl, ◌∙◌, subst, sym, arith}
 use Rattle.std.specs.Result.{IsErrAnd}
 use Rattle.aut_io.specs.Seen.{Seen}
-use Rattle.hoa_lexer.specs.Moves.{Moves, Stop, AtEnd, AtFault, AtMost, Elsewhere, CountsReads}
+use Rattle.hoa_lexer.specs.Moves.{MovesLexer, Stop, AtEnd, AtFault, AtMost, Elsewhere, CountsReads}
 use Rattle.hoa_lexer.specs.declared.lexer.Lexer.{Lexer}
 use Rattle.hoa_lexer.specs.Reading.{Between}
 use Rattle.hoa_lexer.specs.declared.token.LexFault.{LexFault}
@@ -14,7 +14,7 @@ counts_then AtEnd a b c e k = k ∙ e
 counts_then AtMost a b c e k = k ∙ e
 counts_then Elsewhere a b c e k = k ∙ e
 
-pub moves_then : (stop : Stop) (a b c : Lexer) (s m t : Seen) → Moves Elsewhere a b s m → Moves stop b c m t → Moves stop a c s t
+pub moves_then : (stop : Stop) (a b c : Lexer) (s m t : Seen) → MovesLexer Elsewhere a b s m → MovesLexer stop b c m t → MovesLexer stop a c s t
 moves_then stop a b c s m t one two = record {
   most = two.most ∙ one.most;
   taken = between_then s.left m.left t.left _ _ _ (λ x y z h k. omega (arith, h, k)) one.taken two.taken;
@@ -30,7 +30,7 @@ moves_then stop a b c s m t one two = record {
 }
 
 -- nothing was read
-pub moves_nowhere : (a : Lexer) (s : Seen) → Moves Elsewhere a a s s
+pub moves_nowhere : (a : Lexer) (s : Seen) → MovesLexer Elsewhere a a s s
 moves_nowhere a s = record {
   most = refl;
   taken = between_same s.left _ (λ x. refl);

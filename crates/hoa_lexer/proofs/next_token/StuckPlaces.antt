@@ -5,7 +5,7 @@ use Rattle.std.proofs.lemmas.List.{append-nil}
 use Rattle.hoa_lexer.specs.Blanks.{IsOpenComment}
 use Rattle.hoa_lexer.specs.Spelling.{Quotes}
 use Rattle.hoa_lexer.specs.Spelling.Quotes.{nothing as unquoted, escaped, plain}
-use Rattle.hoa_lexer.specs.Text.{AfterBlanks, Begins, IsNoToken, IsOpenString, IsOpenToken}
+use Rattle.hoa_lexer.specs.Text.{AfterBlanks, BeginsToken, IsNoToken, IsOpenString, IsOpenToken}
 use Rattle.hoa_lexer.specs.declared.token.Token.TheVariants.{Str}
 use Rattle.hoa_lexer.proofs.next_token.Exclusive.{IsStuck}
 use Rattle.hoa_lexer.proofs.next_token.Fronts.{NoBlank, one_place}
@@ -62,7 +62,7 @@ quoted_both [] =
 quoted_both (b ∷ bs) = let both = quoted_both bs in (quoted_step b bs both.0 both.1, both.0)
 
 -- so an open string can be closed
-pub string_begins : (bytes : List ℕ) → IsOpenString bytes → Begins bytes
+pub string_begins : (bytes : List ℕ) → IsOpenString bytes → BeginsToken bytes
 string_begins bytes o = elim (quoted_both o.rest).0 [
   | inl q ↦ absurd (o.open_still q.inner q.text q.more q.split q.quotes)
   | inr q ↦ record {

@@ -1,7 +1,7 @@
 -- The worked examples.
 use Rattle.std.proofs.Common.{◌≢◌, ℕ, List, [], ◌∷◌, ◌++◌, codes, refl, lit<, arith}
 use Rattle.hoa_lexer.specs.Blanks.IsBlanks.{nothing, space, comment}
-use Rattle.hoa_lexer.specs.Spelling.{Ends, Spells}
+use Rattle.hoa_lexer.specs.Spelling.{IsDelimited, Spells}
 use Rattle.hoa_lexer.specs.Spelling.Quotes.{nothing as no_quote, escaped, plain}
 use Rattle.hoa_lexer.specs.TokenExamples.{TokenExamples}
 use Rattle.hoa_lexer.specs.Text.{IsNext}
@@ -18,7 +18,7 @@ a_is_no_backslash : ◌≢◌ {A = ℕ} 97 92
 a_is_no_backslash e = absurd (omega (arith, e))
 
 -- the token stands at once
-at_front : (word rest : List ℕ) (token : Token) (start : ℕ) → Spells token word → Ends token rest → IsNext (word ++ rest) start token start rest
+at_front : (word rest : List ℕ) (token : Token) (start : ℕ) → Spells token word → IsDelimited token rest → IsNext (word ++ rest) start token start rest
 at_front word rest token start spells ends = record {
   before = [];
   bytes = word ++ rest;

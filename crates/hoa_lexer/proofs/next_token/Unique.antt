@@ -8,7 +8,7 @@ use Rattle.std.proofs.lemmas.List.{append_assoc, length-append}
 use Rattle.hoa_lexer.specs.Blanks.{IsBlanks}
 use Rattle.hoa_lexer.specs.Bytes.{is_digit, is_word}
 use Rattle.hoa_lexer.specs.Laws.{OneNextToken, OneTokenList}
-use Rattle.hoa_lexer.specs.Spelling.{Spells, Ends, StopsAt, IsIdentifier, IsNumeral, IsAliasName, Quotes, value_of}
+use Rattle.hoa_lexer.specs.Spelling.{Spells, IsDelimited, StopsAt, IsIdentifier, IsNumeral, IsAliasName, Quotes, value_of}
 use Rattle.hoa_lexer.specs.Spelling.Quotes.{nothing, escaped, plain}
 use Rattle.hoa_lexer.specs.Text.{IsFront, IsNext, Lexes}
 use Rattle.hoa_lexer.proofs.spelling.FirstBytes.{token_kind, front_head, no_front}
@@ -74,15 +74,15 @@ same_int_zero n m b bs s s' rest rest' z h k e f =
     let there : bs ≡ rest' = f ∙ ap (λ w. w ++ rest') none' in
     record { token = ap Int value; after = sym here ∙ there }
 
-same_int_run : (n m b : ℕ) (bs s s' rest rest' : List ℕ) → 0 < b - 48 → Spells (Int n) (b ∷ s) → Spells (Int m) (b ∷ s') → bs ≡ s ++ rest → bs ≡ s' ++ rest' → Ends (Int n) rest
-    → Ends (Int m) rest' → IsSame (Int n) (Int m) rest rest'
+same_int_run : (n m b : ℕ) (bs s s' rest rest' : List ℕ) → 0 < b - 48 → Spells (Int n) (b ∷ s) → Spells (Int m) (b ∷ s') → bs ≡ s ++ rest → bs ≡ s' ++ rest' → IsDelimited (Int n) rest
+    → IsDelimited (Int m) rest' → IsSame (Int n) (Int m) rest rest'
 same_int_run n m b bs s s' rest rest' z h k e f u v =
     let w = same_run is_digit s s' rest rest' (sym e ∙ f) (numeral_rest b s h.0) (numeral_rest b s' k.0)
     (int_stops n rest (omega (arith, h.1, nonzero b s z)) u) (int_stops m rest' (omega (arith, k.1, nonzero b s' z)) v) in
     record { token = ap Int (sym h.1 ∙ ap (λ q. value_of (b ∷ q)) w.run ∙ k.1); after = w.after }
 
-one_int : (u : Token) (n b : ℕ) (bs s s' rest rest' : List ℕ) → 48 ≡ token_kind u → Spells (Int n) (b ∷ s) → Spells u (b ∷ s') → bs ≡ s ++ rest → bs ≡ s' ++ rest' → Ends (Int n) rest
-    → Ends u rest' → IsSame (Int n) u rest rest'
+one_int : (u : Token) (n b : ℕ) (bs s s' rest rest' : List ℕ) → 48 ≡ token_kind u → Spells (Int n) (b ∷ s) → Spells u (b ∷ s') → bs ≡ s ++ rest → bs ≡ s' ++ rest' → IsDelimited (Int n) rest
+    → IsDelimited u rest' → IsSame (Int n) u rest rest'
 one_int (Int m) n b bs s s' rest rest' q h k e f u v = elim (cases_eq b 48) [
   | inl z ↦ same_int_zero n m b bs s s' rest rest' z h k e f
   | inr z ↦ same_int_run n m b bs s s' rest rest' (omega (arith, z, digit_least b (numeral_first b s h.0))) h k e f u v
@@ -115,7 +115,7 @@ colon_no [] tail e s = s
 colon_no (r ∷ rs) tail e s = eqb-false r 58 s (let same : r ≡ 58 = cc in same)
 
 one_header : (u : Token) (b : ℕ) (bs s s' rest rest' name : List ℕ) → 65 ≡ token_kind u → Spells (HeaderName name) (b ∷ s) → Spells u (b ∷ s') → bs ≡ s ++ rest → bs ≡ s' ++ rest'
-    → Ends u rest' → IsSame (HeaderName name) u rest rest'
+    → IsDelimited u rest' → IsSame (HeaderName name) u rest rest'
 one_header (HeaderName name') b bs s s' rest rest' name q h k e f v =
     let x = header_run b bs s rest name h.0 h.1 e in
     let y = header_run b bs s' rest' name' k.0 k.1 f in
@@ -130,7 +130,7 @@ one_header (Identifier name') b bs s s' rest rest' name q h k e f v =
 one_header _ b bs s s' rest rest' name q h k e f v = absurd (omega arith)
 
 one_identifier : (u : Token) (b : ℕ) (bs s s' rest rest' name : List ℕ) → 65 ≡ token_kind u → Spells (Identifier name) (b ∷ s) → Spells u (b ∷ s') → bs ≡ s ++ rest → bs ≡ s' ++ rest'
-    → Ends (Identifier name) rest → Ends u rest' → IsSame (Identifier name) u rest rest'
+    → IsDelimited (Identifier name) rest → IsDelimited u rest' → IsSame (Identifier name) u rest rest'
 one_identifier (HeaderName name') b bs s s' rest rest' name q h k e f u v =
     turned (HeaderName name') (Identifier name) rest' rest (one_header (Identifier name) b bs s' s rest' rest name' refl k h f e u)
 one_identifier (Identifier name') b bs s s' rest rest' name q h k e f u v =
@@ -147,7 +147,7 @@ alias_words [] h = absurd h
 alias_words (b ∷ bs) h = h
 
 one_alias : (u : Token) (b : ℕ) (bs s s' rest rest' name : List ℕ) → 64 ≡ token_kind u → Spells (Alias name) (b ∷ s) → Spells u (b ∷ s') → bs ≡ s ++ rest → bs ≡ s' ++ rest'
-    → Ends (Alias name) rest → Ends u rest' → IsSame (Alias name) u rest rest'
+    → IsDelimited (Alias name) rest → IsDelimited u rest' → IsSame (Alias name) u rest rest'
 one_alias (Alias name') b bs s s' rest rest' name q h k e f u v =
     let x : b ∷ s ≡ 64 ∷ name = h.1 in
     let y : b ∷ s' ≡ 64 ∷ name' = k.1 in
@@ -212,8 +212,8 @@ apart c d b bs s s' rest rest' more more' n h k e f =
     let whole = sym (dashed_second c b bs s rest more h e) ∙ dashed_second d b bs s' rest' more' k f in
     n (cons-head c d (more ++ rest) (more' ++ rest') (cons-tail 45 45 (c ∷ (more ++ rest)) (d ∷ (more' ++ rest')) whole))
 
-one_front : (t u : Token) (b : ℕ) (bs s s' rest rest' : List ℕ) → token_kind t ≡ token_kind u → Spells t (b ∷ s) → Spells u (b ∷ s') → bs ≡ s ++ rest → bs ≡ s' ++ rest' → Ends t rest
-    → Ends u rest' → IsSame t u rest rest'
+one_front : (t u : Token) (b : ℕ) (bs s s' rest rest' : List ℕ) → token_kind t ≡ token_kind u → Spells t (b ∷ s) → Spells u (b ∷ s') → bs ≡ s ++ rest → bs ≡ s' ++ rest' → IsDelimited t rest
+    → IsDelimited u rest' → IsSame t u rest rest'
 one_front (HeaderName name) u b bs s s' rest rest' q h k e f v w = one_header u b bs s s' rest rest' name q h k e f w
 one_front (Identifier name) u b bs s s' rest rest' q h k e f v w = one_identifier u b bs s s' rest rest' name q h k e f v w
 one_front (Str text) u b bs s s' rest rest' q h k e f v w = one_string u b bs s s' rest rest' text q h k e f

@@ -7,7 +7,7 @@ use Rattle.hoa_lexer.specs.Blanks.{IsBlanks}
 use Rattle.hoa_lexer.specs.Blanks.IsBlanks.{nothing, space}
 use Rattle.hoa_lexer.specs.Bytes.{is_space}
 use Rattle.hoa_lexer.specs.Laws.{IsGap, IsSpelledApart, HasTokens, SpelledApartIsRead}
-use Rattle.hoa_lexer.specs.Spelling.{Ends}
+use Rattle.hoa_lexer.specs.Spelling.{IsDelimited}
 use Rattle.hoa_lexer.specs.declared.token.Token.{Token}
 use Rattle.hoa_lexer.specs.declared.token.Token.TheVariants.{HeaderName, Identifier, Str, Int, Alias}
 
@@ -22,7 +22,7 @@ gap_blanks [] h = absurd h
 gap_blanks (b ∷ bs) h = spaces_are_blanks (b ∷ bs) h
 
 -- a space closes every token
-space_ends : (t : Token) (rest : List ℕ) → Ends t (32 ∷ rest)
+space_ends : (t : Token) (rest : List ℕ) → IsDelimited t (32 ∷ rest)
 space_ends (Identifier name) rest = (refl, refl)
 space_ends (Int zero) rest = tt
 space_ends (Int (suc n)) rest = refl
@@ -31,11 +31,11 @@ space_ends (HeaderName name) rest = tt
 space_ends (Str text) rest = tt
 space_ends _ rest = tt
 
-gap_ends : (t : Token) (gap more : List ℕ) → IsGap gap → Ends t (gap ++ more)
+gap_ends : (t : Token) (gap more : List ℕ) → IsGap gap → IsDelimited t (gap ++ more)
 gap_ends t [] more h = absurd h
 gap_ends t (b ∷ bs) more h =
     let first : 32 ≡ b = sym (eqb-true b 32 (and_parts (b == 32) (list_all (λ c. c == 32) bs) h).0) in
-    subst (λ (c : ℕ). Ends t (c ∷ (bs ++ more))) first (space_ends t (bs ++ more))
+    subst (λ (c : ℕ). IsDelimited t (c ∷ (bs ++ more))) first (space_ends t (bs ++ more))
 
 apart_after : (ts : List Token) (before text : List ℕ) (start : ℕ) → IsBlanks before → IsSpelledApart ts text → HasTokens (before ++ text) start ts
 apart_after [] before text start h e = record {

@@ -3,7 +3,7 @@ use Rattle.std.proofs.Common.{◌≡◌, ℕ, zero, suc, ◌+◌, ◌<◌, ◌�
 use Rattle.std.proofs.Common.{Ok, Err, inl, inr, refl, sym, subst, ◌∙◌, ap, arith, MatchBool}
 use Rattle.std.proofs.lemmas.Bool.{cases_Bool}
 use Rattle.std.proofs.lemmas.List.{append_assoc, length-append}
-use Rattle.hoa_lexer.specs.Blanks.{Closes}
+use Rattle.hoa_lexer.specs.Blanks.{ClosesComments}
 use Rattle.hoa_lexer.specs.Reading.{unread}
 use Rattle.hoa_lexer.specs.inner.Steps.{closing, Peeks, StepsIn, ClosesComment, IsReadFault}
 use Rattle.hoa_lexer.specs.declared.token.LexFault.{LexFault}
@@ -50,19 +50,19 @@ by_lengths false true A B C d n f g k h = omega (arith, g h)
 by_lengths false false A B C d n f g k h = omega (arith, k h)
 
 -- what closes comments is followed by what follows
-pub closing_after : (d : ℕ) (body rest : List ℕ) → Closes d body → closing d (body ++ rest) ≡ Some rest
+pub closing_after : (d : ℕ) (body rest : List ℕ) → ClosesComments d body → closing d (body ++ rest) ≡ Some rest
 closing_after zero [] rest h = refl
 closing_after zero (b ∷ bs) rest h = absurd h
 closing_after (suc d) [] rest h = absurd h
 closing_after (suc d) (b ∷ []) rest h = absurd h
 closing_after (suc d) (b ∷ c ∷ bs) rest h =
-    by_tests ((b == 42) && (c == 47)) ((b == 47) && (c == 42)) (Closes d bs) (Closes (suc (suc d)) bs) (Closes (suc d) (c ∷ bs)) _ _ _ _
+    by_tests ((b == 42) && (c == 47)) ((b == 47) && (c == 42)) (ClosesComments d bs) (ClosesComments (suc (suc d)) bs) (ClosesComments (suc d) (c ∷ bs)) _ _ _ _
     (closing_after d bs rest) (closing_after (suc (suc d)) bs rest) (closing_after (suc d) (c ∷ bs) rest) h
 
 -- what was read up to the end of comments, and then the rest
 pub record IsClosed (d : ℕ) (bytes rest : List ℕ) : Type 0 where
   pub body : List ℕ
-  pub closes : Closes d body
+  pub closes : ClosesComments d body
   pub split : bytes ≡ body ++ rest
 
 closed_out : (d b c : ℕ) (bs rest : List ℕ) → ((b == 42) && (c == 47)) ≡ true → IsClosed d bs rest → IsClosed (suc d) (b ∷ c ∷ bs) rest
@@ -71,13 +71,13 @@ closed_out d b c bs rest h w = record { body = b ∷ c ∷ w.body; closes = rw h
 closed_in : (d b c : ℕ) (bs rest : List ℕ) → ((b == 42) && (c == 47)) ≡ false → ((b == 47) && (c == 42)) ≡ true → IsClosed (suc (suc d)) bs rest → IsClosed (suc d) (b ∷ c ∷ bs) rest
 closed_in d b c bs rest h k w = record { body = b ∷ c ∷ w.body; closes = rw (h, k) w.closes; split = ap (λ xs. b ∷ c ∷ xs) w.split }
 
-closed_on_at : (d b c : ℕ) (bs rest body : List ℕ) → ((b == 42) && (c == 47)) ≡ false → ((b == 47) && (c == 42)) ≡ false → Closes (suc d) body → c ∷ bs ≡ body ++ rest
+closed_on_at : (d b c : ℕ) (bs rest body : List ℕ) → ((b == 42) && (c == 47)) ≡ false → ((b == 47) && (c == 42)) ≡ false → ClosesComments (suc d) body → c ∷ bs ≡ body ++ rest
     → IsClosed (suc d) (b ∷ c ∷ bs) rest
 closed_on_at d b c bs rest [] h k w e = absurd w
 closed_on_at d b c bs rest (x ∷ xs) h k w e =
     let same : x ≡ c = cc in
-    let P : ℕ → Type 0 = λ y. Closes (suc d) (y ∷ xs) in
-    let v : Closes (suc d) (c ∷ xs) = subst P same w in
+    let P : ℕ → Type 0 = λ y. ClosesComments (suc d) (y ∷ xs) in
+    let v : ClosesComments (suc d) (c ∷ xs) = subst P same w in
     record { body = b ∷ c ∷ xs; closes = rw (h, k) v; split = cc }
 
 closed_on : (d b c : ℕ) (bs rest : List ℕ) → ((b == 42) && (c == 47)) ≡ false → ((b == 47) && (c == 42)) ≡ false → IsClosed (suc d) (c ∷ bs) rest → IsClosed (suc d) (b ∷ c ∷ bs) rest
@@ -105,13 +105,13 @@ closing_sound (suc d) (b ∷ c ∷ bs) rest e =
     closing_of_two d b c bs rest (closing_sound d bs rest) (closing_sound (suc (suc d)) bs rest) (closing_sound (suc d) (c ∷ bs) rest) e
 
 -- a comment takes two bytes at least to close
-pub closes_long : (d : ℕ) (body : List ℕ) → Closes d body → d + d ≤ length body
+pub closes_long : (d : ℕ) (body : List ℕ) → ClosesComments d body → d + d ≤ length body
 closes_long zero [] h = omega arith
 closes_long zero (b ∷ bs) h = absurd h
 closes_long (suc d) [] h = absurd h
 closes_long (suc d) (b ∷ []) h = absurd h
 closes_long (suc d) (b ∷ c ∷ bs) h =
-    by_lengths ((b == 42) && (c == 47)) ((b == 47) && (c == 42)) (Closes d bs) (Closes (suc (suc d)) bs) (Closes (suc d) (c ∷ bs)) d (length bs)
+    by_lengths ((b == 42) && (c == 47)) ((b == 47) && (c == 42)) (ClosesComments d bs) (ClosesComments (suc (suc d)) bs) (ClosesComments (suc d) (c ∷ bs)) d (length bs)
     (closes_long d bs) (closes_long (suc (suc d)) bs) (closes_long (suc d) (c ∷ bs)) h
 
 -- Where no more than a byte was read since, what was read before closes nothing either.

@@ -5,7 +5,7 @@ use Rattle.std.proofs.lemmas.List.{append_assoc, append-nil, length-append, take
 use Rattle.hoa_lexer.specs.Reading.{unread}
 use Rattle.hoa_lexer.specs.Spelling.{Spells}
 use Rattle.hoa_lexer.specs.inner.Steps.{Expects, IsDashed, IsReadFault, Pauses, ReadsToken, ReadsWord}
-use Rattle.hoa_lexer.specs.Text.{IsFront, HasFront, Begins, IsOpenToken, IsNoToken}
+use Rattle.hoa_lexer.specs.Text.{IsFront, HasFront, BeginsToken, IsOpenToken, IsNoToken}
 use Rattle.hoa_lexer.proofs.spelling.Comments.{unheld}
 use Rattle.hoa_lexer.proofs.spelling.FirstBytes.{token_kind, front_head, solid}
 use Rattle.hoa_lexer.specs.declared.token.LexFault.{LexFault}
@@ -184,7 +184,7 @@ tail_open token letter b tail seen d w f =
     let whole = same_tail token letter tail seen f.rest d (front_tail (45 ∷ letter ∷ seen) f) in
     omega (arith, simp length-append at (ap length whole), simp length-append at (ap length w.split))
 
-tail_begins : (token : Token) (letter b : ℕ) (tail seen : List ℕ) → IsDashed token letter tail → Expects tail seen b → Begins (45 ∷ 45 ∷ letter ∷ seen)
+tail_begins : (token : Token) (letter b : ℕ) (tail seen : List ℕ) → IsDashed token letter tail → Expects tail seen b → BeginsToken (45 ∷ 45 ∷ letter ∷ seen)
 tail_begins token letter b tail seen d w = record {
   more = b ∷ w.rest;
   front = subst (λ (v : List ℕ). HasFront (45 ∷ 45 ∷ letter ∷ v)) (append-nil tail ∙ w.split) (record { token = token; rest = []; front = dashed_front token letter tail [] d });
@@ -194,7 +194,7 @@ same_next : (seen p q : List ℕ) (b c : ℕ) → seen ++ c ∷ p ≡ seen ++ b 
 same_next [] p q b c e = cc
 same_next (x ∷ xs) p q b c e = same_next xs p q b c (let whole : x ∷ (xs ++ c ∷ p) ≡ x ∷ (xs ++ b ∷ q) = e in cc)
 
-tail_bad : (token : Token) (letter b c : ℕ) (tail seen x more : List ℕ) → IsDashed token letter tail → Expects tail seen b → x ≡ seen ++ c ∷ more → (c ≡ b → ⊥) → Begins (45 ∷ 45 ∷ letter ∷ x) → ⊥
+tail_bad : (token : Token) (letter b c : ℕ) (tail seen x more : List ℕ) → IsDashed token letter tail → Expects tail seen b → x ≡ seen ++ c ∷ more → (c ≡ b → ⊥) → BeginsToken (45 ∷ 45 ∷ letter ∷ x) → ⊥
 tail_bad token letter b c tail seen x more d w e n t =
     let whole = same_tail token letter tail (x ++ t.more) t.front.rest d (front_tail (45 ∷ letter ∷ (x ++ t.more)) t.front) in
     n (same_next seen (more ++ t.more) (w.rest ++ t.front.rest) b c

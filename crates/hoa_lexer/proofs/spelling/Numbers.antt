@@ -7,9 +7,9 @@ use Rattle.std.proofs.lemmas.List.{append_assoc, append-nil}
 use Rattle.std.proofs.lemmas.List.Sums.{fold-append}
 use Rattle.hoa_lexer.specs.Bytes.{is_digit}
 use Rattle.hoa_lexer.specs.Reading.{unread}
-use Rattle.hoa_lexer.specs.Spelling.{Spells, Ends, StopsAt, IsNumeral, value_of, closes_itself}
+use Rattle.hoa_lexer.specs.Spelling.{Spells, IsDelimited, StopsAt, IsNumeral, value_of, closes_itself}
 use Rattle.hoa_lexer.specs.inner.Steps.{IsReadFault, Pauses, ReadsToken}
-use Rattle.hoa_lexer.specs.Text.{IsFront, HasFront, Begins, IsOpenToken, IsNoToken}
+use Rattle.hoa_lexer.specs.Text.{IsFront, HasFront, BeginsToken, IsOpenToken, IsNoToken}
 use Rattle.hoa_lexer.proofs.spelling.Comments.{unheld}
 use Rattle.hoa_lexer.proofs.spelling.FirstBytes.{token_kind, kind_digit, digit_no_space, front_head, solid}
 use Rattle.hoa_lexer.proofs.spelling.Words.{stops_not}
@@ -45,11 +45,11 @@ grows a (d ∷ ds) = omega (arith, grows (10 * a + (d - 48)) ds)
 pub nonzero : (first : ℕ) (ds : List ℕ) → 0 < first - 48 → 0 < value_of (first ∷ ds)
 nonzero first ds h = omega (arith, grows (10 * 0 + (first - 48)) ds)
 
-pub ends_int : (n : ℕ) (rest : List ℕ) → StopsAt is_digit rest → Ends (Int n) rest
+pub ends_int : (n : ℕ) (rest : List ℕ) → StopsAt is_digit rest → IsDelimited (Int n) rest
 ends_int zero rest h = tt
 ends_int (suc n) rest h = h
 
-pub int_stops : (n : ℕ) (rest : List ℕ) → 0 < n → Ends (Int n) rest → StopsAt is_digit rest
+pub int_stops : (n : ℕ) (rest : List ℕ) → 0 < n → IsDelimited (Int n) rest → StopsAt is_digit rest
 int_stops zero rest h e = absurd (omega arith)
 int_stops (suc n) rest h e = e
 
@@ -75,7 +75,7 @@ holds_int (suc n) l = refl
 
 -- an integer whose digits may go on
 
-number_open_at : (token : Token) (first : ℕ) (seen tail rest : List ℕ) → 48 ≡ token_kind token → 0 < first - 48 → Spells token (first ∷ tail) → Ends token rest → seen ≡ tail ++ rest
+number_open_at : (token : Token) (first : ℕ) (seen tail rest : List ℕ) → 48 ≡ token_kind token → 0 < first - 48 → Spells token (first ∷ tail) → IsDelimited token rest → seen ≡ tail ++ rest
     → list_all is_digit seen ≡ true → ⊥
 number_open_at (Int n) first seen tail rest k v s e p h = stops_not is_digit seen tail rest h p (int_stops n rest (omega (arith, s.1, nonzero first tail v)) e)
 number_open_at (HeaderName name) first seen tail rest k v s e p h = absurd (omega arith)
@@ -89,7 +89,7 @@ number_open first seen d v h f =
     let head = front_head first seen f.token f.rest f.front in
     number_open_at f.token first seen head.tail f.rest (sym (kind_digit first d) ∙ head.kinds) v head.spells f.front.ends head.split h
 
-number_begins : (first : ℕ) (seen : List ℕ) → is_digit first ≡ true → 0 < first - 48 → list_all is_digit seen ≡ true → value_of (first ∷ seen) < 2 ^ 32 → Begins (first ∷ seen)
+number_begins : (first : ℕ) (seen : List ℕ) → is_digit first ≡ true → 0 < first - 48 → list_all is_digit seen ≡ true → value_of (first ∷ seen) < 2 ^ 32 → BeginsToken (first ∷ seen)
 number_begins first seen d v h l = record {
   more = 32 ∷ [];
   front = record {
@@ -151,7 +151,7 @@ longer a (b ∷ bs) (t ∷ ts) more rest e d s =
     subst (λ (c : ℕ). value_from (10 * a + (b - 48)) bs ≤ value_from (10 * a + (c - 48)) ts) same shorter
 
 number_great_at : (token : Token) (first : ℕ) (seen more tail rest : List ℕ) → 48 ≡ token_kind token → 0 < first - 48 → 2 ^ 32 ≤ value_of (first ∷ seen) → Spells token (first ∷ tail)
-    → Ends token rest → seen ++ more ≡ tail ++ rest → list_all is_digit seen ≡ true → ⊥
+    → IsDelimited token rest → seen ++ more ≡ tail ++ rest → list_all is_digit seen ≡ true → ⊥
 number_great_at (Int n) first seen more tail rest k v g s e p h =
     let stops = int_stops n rest (omega (arith, s.1, nonzero first tail v)) e in
     omega (arith, s.1, s.2, g, longer (10 * 0 + (first - 48)) seen tail more rest p h stops)

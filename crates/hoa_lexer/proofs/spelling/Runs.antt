@@ -5,13 +5,13 @@ use Rattle.std.specs.List.{list_all, prefix_len}
 use Rattle.std.proofs.lemmas.Bool.{and_from}
 use Rattle.std.proofs.lemmas.List.{length-take-le, take-take}
 use Rattle.std.proofs.lemmas.List.Sums.{prefix_len-le-length}
-use Rattle.aut_io.specs.Outside.{Passes}
+use Rattle.aut_io.specs.Outside.{Consumes}
 use Rattle.hoa_lexer.specs.Bytes.{is_word}
 use Rattle.hoa_lexer.specs.Reading.{Between}
 use Rattle.hoa_lexer.specs.inner.Steps.{AddsWord}
 
 -- the bytes that were passed stand between what was left before and after
-pub passed : (a b : Option (List ℕ)) (bytes : List ℕ) → Passes a bytes b → Between a b (λ x y. x ≡ bytes ++ y)
+pub passed : (a b : Option (List ℕ)) (bytes : List ℕ) → Consumes a bytes b → Between a b (λ x y. x ≡ bytes ++ y)
 passed None b bytes p = p
 passed (Some x) None bytes p = absurd p
 passed (Some x) (Some y) bytes p = p

@@ -6,7 +6,7 @@ use Rattle.hoa_lexer.specs.Reading.{unread}
 use Rattle.hoa_lexer.specs.Spelling.{Spells, Quotes}
 use Rattle.hoa_lexer.specs.Spelling.Quotes.{nothing, escaped, plain}
 use Rattle.hoa_lexer.specs.inner.Steps.{IsHalf, IsReadFault, Pauses, ReadsQuoted, ReadsToken}
-use Rattle.hoa_lexer.specs.Text.{IsFront, HasFront, Begins}
+use Rattle.hoa_lexer.specs.Text.{IsFront, HasFront, BeginsToken}
 use Rattle.hoa_lexer.proofs.spelling.Comments.{unheld}
 use Rattle.hoa_lexer.proofs.spelling.FirstBytes.{token_kind, front_head}
 use Rattle.hoa_lexer.specs.declared.token.LexFault.{LexFault}
@@ -64,7 +64,7 @@ closed_front inner text q = record {
   front = record { word = 34 ∷ (inner ++ 34 ∷ []); split = sym (append-nil (34 ∷ (inner ++ 34 ∷ []))); spells = (inner, q, refl); ends = tt };
 }
 
-string_begins : (seen text half : List ℕ) → Quotes seen text → IsHalf half → Begins (34 ∷ (seen ++ half))
+string_begins : (seen text half : List ℕ) → Quotes seen text → IsHalf half → BeginsToken (34 ∷ (seen ++ half))
 string_begins seen text half q (inl e) = record {
   more = 34 ∷ [];
   front = subst HasFront (ap (λ w. 34 ∷ (w ++ 34 ∷ [])) (sym (ap (λ w. seen ++ w) e ∙ append-nil seen))) (closed_front seen text q);

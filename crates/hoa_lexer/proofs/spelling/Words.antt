@@ -6,9 +6,9 @@ use Rattle.std.proofs.lemmas.List.{append_assoc, append-nil}
 use Rattle.std.proofs.lemmas.List.Folds.{list_all-append}
 use Rattle.hoa_lexer.specs.Bytes.{is_letter, is_word}
 use Rattle.hoa_lexer.specs.Reading.{unread}
-use Rattle.hoa_lexer.specs.Spelling.{Spells, Ends, StopsAt, IsIdentifier, IsAliasName}
+use Rattle.hoa_lexer.specs.Spelling.{Spells, IsDelimited, StopsAt, IsIdentifier, IsAliasName}
 use Rattle.hoa_lexer.specs.inner.Steps.{AddsWord, AddsWords, Pauses, ReadsToken, TakesWord}
-use Rattle.hoa_lexer.specs.Text.{HasFront, Begins, IsOpenToken, IsNoToken}
+use Rattle.hoa_lexer.specs.Text.{HasFront, BeginsToken, IsOpenToken, IsNoToken}
 use Rattle.hoa_lexer.proofs.spelling.Comments.{unheld}
 use Rattle.hoa_lexer.proofs.spelling.FirstBytes.{token_kind, kind_letter, front_head, solid}
 use Rattle.hoa_lexer.specs.declared.token.LexFault.{LexFault}
@@ -59,7 +59,8 @@ header_open first seen tail rest (n ∷ ns) i e s h =
     let tails : tail ≡ ns ++ 58 ∷ [] = cc in
     stops_not is_word seen ns (58 ∷ rest) h (s ∙ ap (λ w. w ++ rest) tails ∙ append_assoc ns (58 ∷ []) rest) refl
 
-word_open_at : (token : Token) (first : ℕ) (seen tail rest : List ℕ) → 65 ≡ token_kind token → Spells token (first ∷ tail) → Ends token rest → seen ≡ tail ++ rest → list_all is_word seen ≡ true → ⊥
+word_open_at : (token : Token) (first : ℕ) (seen tail rest : List ℕ) → 65 ≡ token_kind token → Spells token (first ∷ tail) → IsDelimited token rest → seen ≡ tail ++ rest
+    → list_all is_word seen ≡ true → ⊥
 word_open_at (HeaderName name) first seen tail rest k s e p h = header_open first seen tail rest name s.0 s.1 p h
 word_open_at (Identifier name) first seen tail rest k s e p h = stops_not is_word seen tail rest h p e.0
 word_open_at (Str text) first seen tail rest k s e p h = absurd (omega arith)
@@ -72,7 +73,7 @@ word_open first seen l h f =
     let head = front_head first seen f.token f.rest f.front in
     word_open_at f.token first seen head.tail f.rest (sym (kind_letter first l) ∙ head.kinds) head.spells f.front.ends head.split h
 
-word_begins : (first : ℕ) (seen : List ℕ) → is_letter first ≡ true → list_all is_word seen ≡ true → Begins (first ∷ seen)
+word_begins : (first : ℕ) (seen : List ℕ) → is_letter first ≡ true → list_all is_word seen ≡ true → BeginsToken (first ∷ seen)
 word_begins first seen l h = record {
   more = 58 ∷ [];
   front = record {
@@ -121,7 +122,7 @@ word_err OpenToken h offset first name name' x z l k a = absurd a
 no_slash_here : {xs ys : List ℕ} → 64 ∷ xs ≡ 47 ∷ ys → ⊥
 no_slash_here {xs} {ys} e = omega (arith, cons-head 64 47 xs ys e)
 
-alias_open_at : (token : Token) (seen tail rest : List ℕ) → 64 ≡ token_kind token → Spells token (64 ∷ tail) → Ends token rest → seen ≡ tail ++ rest → list_all is_word seen ≡ true → ⊥
+alias_open_at : (token : Token) (seen tail rest : List ℕ) → 64 ≡ token_kind token → Spells token (64 ∷ tail) → IsDelimited token rest → seen ≡ tail ++ rest → list_all is_word seen ≡ true → ⊥
 alias_open_at (Alias name) seen tail rest k s e p h = stops_not is_word seen tail rest h p e
 alias_open_at (HeaderName name) seen tail rest k s e p h = absurd (omega arith)
 alias_open_at (Identifier name) seen tail rest k s e p h = absurd (omega arith)
@@ -138,7 +139,7 @@ alias_name : (name : List ℕ) → (name ≡ [] → ⊥) → list_all is_word na
 alias_name [] n h = n refl
 alias_name (b ∷ bs) n h = h
 
-alias_begins : (seen : List ℕ) → list_all is_word seen ≡ true → Begins (64 ∷ seen)
+alias_begins : (seen : List ℕ) → list_all is_word seen ≡ true → BeginsToken (64 ∷ seen)
 alias_begins seen h = record {
   more = 97 ∷ 32 ∷ [];
   front = record {

@@ -4,10 +4,10 @@ use Rattle.std.specs.List.{list_all}
 use Rattle.aut_io.specs.Seen.{Seen}
 use Rattle.hoa_lexer.specs.Blanks.{IsBlanks}
 use Rattle.hoa_lexer.specs.Bytes.{is_space, is_word}
-use Rattle.hoa_lexer.specs.Moves.{Moves, Stop}
-use Rattle.hoa_lexer.specs.Reading.{Answers, BeginsNoToken}
+use Rattle.hoa_lexer.specs.Moves.{MovesLexer, Stop}
+use Rattle.hoa_lexer.specs.Reading.{AnswersToken, BeginsNoToken}
 use Rattle.hoa_lexer.specs.Spelling.{Quotes, closes_itself}
-use Rattle.hoa_lexer.specs.Text.{IsFront, HasFront, Begins, IsOpenString, IsOpenToken, IsNoToken}
+use Rattle.hoa_lexer.specs.Text.{IsFront, HasFront, BeginsToken, IsOpenString, IsOpenToken, IsNoToken}
 use Rattle.hoa_lexer.specs.declared.lexer.Lexer.{Lexer}
 use Rattle.hoa_lexer.specs.declared.token.LexFault.{LexFault}
 use Rattle.hoa_lexer.specs.declared.token.LexFault.TheVariants.{BadToken, OpenComment, OpenString, OpenToken, Read, Bytes, Memory}
@@ -15,8 +15,8 @@ use Rattle.hoa_lexer.specs.declared.token.Token.{Token}
 use Rattle.hoa_lexer.specs.declared.token.Token.TheVariants.{Bang, Amp, Bar, LeftParen, RightParen, LeftBrace, RightBrace, LeftBracket, RightBracket, Body, End, Abort}
 
 -- From one state of a lexer to a later one, where the place of the token stands.
-pub record Advances (stop : Stop) (old new : Lexer) (seen seen' : Seen) : Type 0 where
-  pub moves : Moves stop old new seen seen'
+pub record AdvancesLexer (stop : Stop) (old new : Lexer) (seen seen' : Seen) : Type 0 where
+  pub moves : MovesLexer stop old new seen seen'
   pub offset : new.offset ≡ old.offset
 
 -- a read's answer, of what was unread before and what is left in the inputs
@@ -62,21 +62,21 @@ ClosesComment (Err Read) old new = (seen : List ℕ) × (old ≡ seen ++ new) ×
 ClosesComment (Err _) old new = ⊥
 
 -- blanks were used
-pub record Skips (old new : List ℕ) : Type 0 where
+pub record PassesBlanks (old new : List ℕ) : Type 0 where
   pub before : List ℕ
   pub split : old ≡ before ++ new
   pub blanks : IsBlanks before
 
 -- a comment, or what stands in its place after a `/`
 abbrev pub SkipsComment : Result (Unit {0}) LexFault → ℕ → List ℕ → List ℕ → Type 0
-SkipsComment (Ok done) start old new = Skips old new
-SkipsComment (Err fault) start old new = Answers (Err fault) start 0 old new
+SkipsComment (Ok done) start old new = PassesBlanks old new
+SkipsComment (Err fault) start old new = AnswersToken (Err fault) start 0 old new
 
 -- blanks, up to a byte that begins none or the end of the text
 abbrev pub SkipsBlanks : Result (Option ℕ) LexFault → ℕ → List ℕ → List ℕ → Type 0
-SkipsBlanks (Ok (Some b)) start old new = Skips old new
+SkipsBlanks (Ok (Some b)) start old new = PassesBlanks old new
 SkipsBlanks (Ok None) start old new = IsBlanks old × (new ≡ [])
-SkipsBlanks (Err fault) start old new = Answers (Err fault) start 0 old new
+SkipsBlanks (Err fault) start old new = AnswersToken (Err fault) start 0 old new
 
 -- where a fault comes among blanks, none of the bytes that were used begins a token
 pub record UsesBlanks (old new : List ℕ) : Type 0 where
@@ -136,10 +136,10 @@ pub record Pauses (old new : List ℕ) : Type 0 where
   pub split : old ≡ at_hand ++ new
   pub some : at_hand ≢ []
   pub unclosed : HasFront at_hand → ⊥
-  pub begins : Begins at_hand
+  pub begins : BeginsToken at_hand
 
 -- a byte was used, past bytes that close no token and can go on so that they do, or past none
-pub record Tries (old new : List ℕ) : Type 0 where
+pub record TriesByte (old new : List ℕ) : Type 0 where
   pub byte : ℕ
   pub past : (old ≡ byte ∷ new) ⊎ Pauses old (byte ∷ new)
 
@@ -157,7 +157,7 @@ put (Err fault) token = Err fault
 -- the token that stands next, where no blank does
 abbrev pub ReadsToken : Result Token LexFault → ℕ → List ℕ → List ℕ → Type 0
 ReadsToken (Ok token) offset old new = IsFront old token new
-ReadsToken (Err (BadToken k)) offset old new = (k ≡ offset) × IsNoToken old × Tries old new × ShowsNone old new
+ReadsToken (Err (BadToken k)) offset old new = (k ≡ offset) × IsNoToken old × TriesByte old new × ShowsNone old new
 ReadsToken (Err OpenString) offset old new = IsOpenString old × (new ≡ [])
 ReadsToken (Err OpenToken) offset old new = IsOpenToken old × (new ≡ [])
 ReadsToken (Err Bytes) offset old new = Pauses old new

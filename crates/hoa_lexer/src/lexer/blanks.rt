@@ -10,7 +10,7 @@ use aut_io::Inputs;
 
 impl Lexer {
     ghost use Rattle.hoa_lexer.specs.Moves.{stop_of, stop_of_next};
-    ghost use Rattle.hoa_lexer.specs.inner.Steps.{Advances, BeginsNone, ClosesComment, HoldsRead, IsSolid, SkipsBlanks, SkipsComment, StepsIn};
+    ghost use Rattle.hoa_lexer.specs.inner.Steps.{AdvancesLexer, BeginsNone, ClosesComment, HoldsRead, IsSolid, SkipsBlanks, SkipsComment, StepsIn};
 
     /// Uses blanks. Holds the byte after them, or tells by None that the text ended.
     pub(super) fn skip_blanks<I: Inputs>(&mut self, inputs: &mut I) -> Result<Option<u8>, LexFault>
@@ -21,7 +21,7 @@ impl Lexer {
         ensures begun { Tells (I.seen inputs.old) (I.seen inputs.new) (λ old new.
             BeginsNone result (unread self.old.held old) (unread self.new.held new)) }
         ensures none_held { IfErr result (λ fault. self.new.held ≡ None) }
-        ensures advances { Advances (stop_of_next result) self.old self.new (I.seen inputs.old) (I.seen inputs.new) }
+        ensures advances { AdvancesLexer (stop_of_next result) self.old self.new (I.seen inputs.old) (I.seen inputs.new) }
     {
         'blanks: loop {
             match self.peek(inputs)? {
@@ -44,7 +44,7 @@ impl Lexer {
             SkipsComment result (self.old.since - 1) (47 ∷ old) (unread self.new.held new)) }
         ensures progress { OnOk result (self.old.taken + held_count self.new.held < self.new.taken + held_count self.old.held) }
         ensures none_held { IfErr result (λ fault. self.new.held ≡ None) }
-        ensures advances { Advances (stop_of result) self.old self.new (I.seen inputs.old) (I.seen inputs.new) }
+        ensures advances { AdvancesLexer (stop_of result) self.old self.new (I.seen inputs.old) (I.seen inputs.new) }
     {
         self.held = None;
         match self.peek(inputs)? {
@@ -67,7 +67,7 @@ impl Lexer {
         ensures answers { Tells (I.seen inputs.old) (I.seen inputs.new) (λ old new.
             ClosesComment result old (unread self.new.held new)) }
         ensures none_held { IfErr result (λ fault. self.new.held ≡ None) }
-        ensures advances { Advances (stop_of result) self.old self.new (I.seen inputs.old) (I.seen inputs.new) }
+        ensures advances { AdvancesLexer (stop_of result) self.old self.new (I.seen inputs.old) (I.seen inputs.new) }
     {
         let mut depth = 1;
         'comment: while depth > 0 {
@@ -87,7 +87,7 @@ impl Lexer {
             next + self.old.taken + held_count self.new.held ≤ depth + self.new.taken + held_count self.old.held) }
         ensures progress { OnOk result (self.old.taken + held_count self.new.held < self.new.taken + held_count self.old.held) }
         ensures none_held { IfErr result (λ fault. self.new.held ≡ None) }
-        ensures advances { Advances (stop_of result) self.old self.new (I.seen inputs.old) (I.seen inputs.new) }
+        ensures advances { AdvancesLexer (stop_of result) self.old self.new (I.seen inputs.old) (I.seen inputs.new) }
     {
         let Some(first) = self.take(inputs)? else {
             return Err(LexFault::OpenComment);

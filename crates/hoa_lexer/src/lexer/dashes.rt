@@ -9,7 +9,7 @@ use aut_io::Inputs;
 
 impl Lexer {
     ghost use Rattle.hoa_lexer.specs.Moves.{stop_of};
-    ghost use Rattle.hoa_lexer.specs.inner.Steps.{put, Advances, HoldsAfter, IsDashed, ReadsToken, ReadsWord};
+    ghost use Rattle.hoa_lexer.specs.inner.Steps.{put, AdvancesLexer, HoldsAfter, IsDashed, ReadsToken, ReadsWord};
 
     /// Puts a word in dashes in the place of the token. Its first byte is held.
     pub(super) fn dashes<I: Inputs>(
@@ -23,7 +23,7 @@ impl Lexer {
         ensures holds { HoldsAfter (put result token.new) self.new.held }
         ensures stays { OnErr result (token.new ≡ token.old) }
         ensures progress { OnOk result (self.old.taken + held_count self.new.held < self.new.taken + held_count self.old.held) }
-        ensures advances { Advances (stop_of result) self.old self.new (I.seen inputs.old) (I.seen inputs.new) }
+        ensures advances { AdvancesLexer (stop_of result) self.old self.new (I.seen inputs.old) (I.seen inputs.new) }
     {
         self.held = None;
         match self.fetch(inputs)? {
@@ -41,7 +41,7 @@ impl Lexer {
         ensures holds { HoldsAfter (put result token.new) self.new.held }
         ensures stays { OnErr result (token.new ≡ token.old) }
         ensures progress { OnOk result (self.old.taken + held_count self.new.held < self.new.taken + held_count self.old.held) }
-        ensures advances { Advances (stop_of result) self.old self.new (I.seen inputs.old) (I.seen inputs.new) }
+        ensures advances { AdvancesLexer (stop_of result) self.old self.new (I.seen inputs.old) (I.seen inputs.new) }
     {
         match self.fetch(inputs)? {
             Some(b'B') => self.dashed_tail(inputs, token, Token::Body, b'B', b"ODY--"),
@@ -67,7 +67,7 @@ impl Lexer {
             ReadsToken (put result token.new) self.old.offset (45 ∷ 45 ∷ letter ∷ old) (unread self.new.held new)) }
         ensures holds { HoldsAfter (put result token.new) self.new.held }
         ensures stays { OnErr result (token.new ≡ token.old) }
-        ensures advances { Advances (stop_of result) self.old self.new (I.seen inputs.old) (I.seen inputs.new) }
+        ensures advances { AdvancesLexer (stop_of result) self.old self.new (I.seen inputs.old) (I.seen inputs.new) }
     {
         self.expect(inputs, tail)?;
         *token = dashed;
@@ -80,7 +80,7 @@ impl Lexer {
         ensures answers { Tells (I.seen inputs.old) (I.seen inputs.new) (λ old new.
             ReadsWord result word.now self.old.offset old new) }
         ensures held { self.new.held ≡ None }
-        ensures advances { Advances (stop_of result) self.old self.new (I.seen inputs.old) (I.seen inputs.new) }
+        ensures advances { AdvancesLexer (stop_of result) self.old self.new (I.seen inputs.old) (I.seen inputs.new) }
     {
         'word: for wanted in word {
             match self.fetch(inputs)? {

@@ -11,7 +11,7 @@ use aut_io::Inputs;
 
 impl Lexer {
     ghost use Rattle.hoa_lexer.specs.Moves.{stop_of};
-    ghost use Rattle.hoa_lexer.specs.inner.Steps.{put, Advances, HoldsAfter, ReadsToken};
+    ghost use Rattle.hoa_lexer.specs.inner.Steps.{put, AdvancesLexer, HoldsAfter, ReadsToken};
 
     /// Puts an integer in the place of the token. Its first digit is held. It is refused as soon as it has no value that a `u32`
     /// holds.
@@ -28,7 +28,7 @@ impl Lexer {
         ensures holds { HoldsAfter (put result token.new) self.new.held }
         ensures stays { OnErr result (token.new ≡ token.old) }
         ensures progress { OnOk result (self.old.taken + held_count self.new.held < self.new.taken + held_count self.old.held) }
-        ensures advances { Advances (stop_of result) self.old self.new (I.seen inputs.old) (I.seen inputs.new) }
+        ensures advances { AdvancesLexer (stop_of result) self.old self.new (I.seen inputs.old) (I.seen inputs.new) }
     {
         self.held = None;
         let mut value = u64::from(first - b'0');

@@ -1,7 +1,7 @@
 //! Bytes at hand that are read elsewhere.
 
 ghost use Rattle.std.specs.Prelude.{◌≡◌, ◌≢◌, ◌+◌, ◌<◌, ◌≤◌, ◌++◌, [], None, length, take};
-ghost use Rattle.hoa_lexer.specs.Moves.{Elsewhere, Moves};
+ghost use Rattle.hoa_lexer.specs.Moves.{Elsewhere, MovesLexer};
 ghost use Rattle.hoa_lexer.specs.Reading.{Tells};
 
 use super::Lexer;
@@ -37,7 +37,7 @@ impl Lexer {
         ensures offset { self.new.offset + 1 ≡ self.new.since }
         ensures since { self.new.since ≡ self.old.since + count }
         ensures taken { self.new.taken ≡ self.old.taken + count }
-        ensures moves { Moves Elsewhere self.old self.new (I.seen inputs.old) (I.seen inputs.new) }
+        ensures moves { MovesLexer Elsewhere self.old self.new (I.seen inputs.old) (I.seen inputs.new) }
     {
         self.pass_token(inputs, count, 1);
     }
@@ -56,7 +56,7 @@ impl Lexer {
         ensures offset { self.new.offset + size ≡ self.new.since }
         ensures since { self.new.since ≡ self.old.since + count }
         ensures taken { self.new.taken ≡ self.old.taken + count }
-        ensures moves { Moves Elsewhere self.old self.new (I.seen inputs.old) (I.seen inputs.new) }
+        ensures moves { MovesLexer Elsewhere self.old self.new (I.seen inputs.old) (I.seen inputs.new) }
     {
         inputs.skip(count);
         self.taken += count as u64;

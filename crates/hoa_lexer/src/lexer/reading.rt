@@ -9,7 +9,7 @@ use aut_io::Inputs;
 
 impl Lexer {
     ghost use Rattle.hoa_lexer.specs.Moves.{stop_of_next};
-    ghost use Rattle.hoa_lexer.specs.inner.Steps.{Advances, Peeks, HoldsRead, IsReadFault};
+    ghost use Rattle.hoa_lexer.specs.inner.Steps.{AdvancesLexer, Peeks, HoldsRead, IsReadFault};
 
     /// The next byte, which is held from then on, or None at the end of the text.
     #[inline(always)]
@@ -18,7 +18,7 @@ impl Lexer {
             Peeks result (unread self.old.held old) new) }
         ensures held { HoldsRead result self.new.held }
         ensures kinds { IfErr result IsReadFault }
-        ensures advances { Advances (stop_of_next result) self.old self.new (I.seen inputs.old) (I.seen inputs.new) }
+        ensures advances { AdvancesLexer (stop_of_next result) self.old self.new (I.seen inputs.old) (I.seen inputs.new) }
     {
         if let Some(byte) = self.held {
             return Ok(Some(byte));
@@ -34,7 +34,7 @@ impl Lexer {
             Peeks result (unread self.old.held old) new) }
         ensures held { self.new.held ≡ None }
         ensures kinds { IfErr result IsReadFault }
-        ensures advances { Advances (stop_of_next result) self.old self.new (I.seen inputs.old) (I.seen inputs.new) }
+        ensures advances { AdvancesLexer (stop_of_next result) self.old self.new (I.seen inputs.old) (I.seen inputs.new) }
         ensures progress { IfOk result (λ byte. IsSome byte → self.old.taken < self.new.taken + held_count self.old.held) }
     {
         let byte = self.peek(inputs);
@@ -50,7 +50,7 @@ impl Lexer {
         ensures answers { Tells (I.seen inputs.old) (I.seen inputs.new) (λ old new. Peeks result old new) }
         ensures held { self.new.held ≡ None }
         ensures kinds { IfErr result IsReadFault }
-        ensures advances { Advances (stop_of_next result) self.old self.new (I.seen inputs.old) (I.seen inputs.new) }
+        ensures advances { AdvancesLexer (stop_of_next result) self.old self.new (I.seen inputs.old) (I.seen inputs.new) }
         ensures progress { IfOk result (λ byte. IsSome byte → self.old.taken < self.new.taken) }
     {
         if self.taken == self.most {

@@ -11,7 +11,7 @@ use std::alloc::Global;
 
 impl Lexer {
     ghost use Rattle.hoa_lexer.specs.Moves.{stop_of};
-    ghost use Rattle.hoa_lexer.specs.inner.Steps.{put, Advances, HoldsAfter, ReadsQuoted, ReadsToken};
+    ghost use Rattle.hoa_lexer.specs.inner.Steps.{put, AdvancesLexer, HoldsAfter, ReadsQuoted, ReadsToken};
 
     /// Puts a string in the place of the token. Its first quote is held.
     pub(super) fn string<I: Inputs>(
@@ -26,7 +26,7 @@ impl Lexer {
         ensures holds { HoldsAfter (put result token.new) self.new.held }
         ensures stays { OnErr result (token.new ≡ token.old) }
         ensures progress { OnOk result (self.old.taken + held_count self.new.held < self.new.taken + held_count self.old.held) }
-        ensures advances { Advances (stop_of result) self.old self.new (I.seen inputs.old) (I.seen inputs.new) }
+        ensures advances { AdvancesLexer (stop_of result) self.old self.new (I.seen inputs.old) (I.seen inputs.new) }
     {
         self.held = None;
         let mut text = Text::new(alloc);
@@ -48,7 +48,7 @@ impl Lexer {
             ReadsQuoted result old new) }
         ensures held { self.new.held ≡ None }
         ensures progress { OnOk result (self.old.taken + held_count self.new.held < self.new.taken + held_count self.old.held) }
-        ensures advances { Advances (stop_of result) self.old self.new (I.seen inputs.old) (I.seen inputs.new) }
+        ensures advances { AdvancesLexer (stop_of result) self.old self.new (I.seen inputs.old) (I.seen inputs.new) }
     {
         match self.fetch(inputs)? {
             Some(b'"') => Ok(None),

@@ -13,7 +13,7 @@ use std::alloc::Global;
 
 impl Lexer {
     ghost use Rattle.hoa_lexer.specs.Moves.{Elsewhere, stop_of, stop_of_next};
-    ghost use Rattle.hoa_lexer.specs.inner.Steps.{put, AddsWord, AddsWords, Advances, HoldsAfter, ReadsToken};
+    ghost use Rattle.hoa_lexer.specs.inner.Steps.{put, AddsWord, AddsWords, AdvancesLexer, HoldsAfter, ReadsToken};
 
     /// Puts an identifier or the name of a header in the place of the token. Its first byte is held.
     pub(super) fn word<I: Inputs>(
@@ -30,7 +30,7 @@ impl Lexer {
         ensures holds { HoldsAfter (put result token.new) self.new.held }
         ensures stays { OnErr result (token.new ≡ token.old) }
         ensures progress { OnOk result (self.old.taken + held_count self.new.held < self.new.taken + held_count self.old.held) }
-        ensures advances { Advances (stop_of result) self.old self.new (I.seen inputs.old) (I.seen inputs.new) }
+        ensures advances { AdvancesLexer (stop_of result) self.old self.new (I.seen inputs.old) (I.seen inputs.new) }
     {
         self.held = None;
         let mut name = begun(alloc, first)?;
@@ -61,7 +61,7 @@ impl Lexer {
         ensures holds { HoldsAfter (put result token.new) self.new.held }
         ensures stays { OnErr result (token.new ≡ token.old) }
         ensures progress { OnOk result (self.old.taken + held_count self.new.held < self.new.taken + held_count self.old.held) }
-        ensures advances { Advances (stop_of result) self.old self.new (I.seen inputs.old) (I.seen inputs.new) }
+        ensures advances { AdvancesLexer (stop_of result) self.old self.new (I.seen inputs.old) (I.seen inputs.new) }
     {
         self.held = None;
         let mut name = Name::new(alloc);
@@ -90,7 +90,7 @@ impl Lexer {
             AddsWords result name.old name.new old new) }
         ensures held { IfOk result (λ byte. self.new.held ≡ byte) }
         ensures none_held { IfErr result (λ fault. self.new.held ≡ None) }
-        ensures advances { Advances (stop_of_next result) self.old self.new (I.seen inputs.old) (I.seen inputs.new) }
+        ensures advances { AdvancesLexer (stop_of_next result) self.old self.new (I.seen inputs.old) (I.seen inputs.new) }
     {
         'bytes: loop {
             match self.fetch(inputs)? {
@@ -115,7 +115,7 @@ impl Lexer {
         ensures answers { Tells (I.seen inputs.old) (I.seen inputs.new) (λ old new.
             AddsWord name.old name.new old new) }
         ensures held { self.new.held ≡ None }
-        ensures advances { Advances Elsewhere self.old self.new (I.seen inputs.old) (I.seen inputs.new) }
+        ensures advances { AdvancesLexer Elsewhere self.old self.new (I.seen inputs.old) (I.seen inputs.new) }
     {
         let ahead = inputs.ahead();
         let most = (ahead.len() as u64).min(self.most - self.taken) as usize;

@@ -6,7 +6,7 @@ use Rattle.std.proofs.lemmas.List.{append_assoc}
 use Rattle.hoa_lexer.specs.declared.token.Token.{Token}
 use Rattle.hoa_lexer.specs.declared.token.Token.TheVariants as token
 use Rattle.hoa_parser.specs.inner.Expecting.{Part, Number, MoreNumbers, Quoted, MaybeQuoted, Strings, Word, Words, AliasName, AccValues, Values}
-use Rattle.hoa_parser.specs.inner.Expecting.{Factors, Products, Atoms, Conjunctions, Items, Takes, Passes, after, header_move, move, open_at, conj_parts, label_parts}
+use Rattle.hoa_parser.specs.inner.Expecting.{Factors, Products, Atoms, Conjunctions, Items, Takes, Passes, parts_after, header_move, move, open_at, conj_parts, expected_label}
 use Rattle.hoa_parser.specs.inner.Expecting.{condition_parts}
 use Rattle.hoa_parser.specs.Grammar.{AccValue, acc_number, acc_word, acc_value_token, Value, number_value, text_value, word_value, value_token, Conj}
 use Rattle.hoa_parser.specs.Grammar.{and_number, conj_tokens, condition_tokens, label_tokens, optional_text, ItemPhrase, states_item, start_item}
@@ -26,24 +26,26 @@ value_taken (text_value text) = refl
 value_taken (word_value word) = refl
 
 values_follow : {V : Type 0} (most : ℕ) (part : Part) (spelled : V → Token) → ((v : V) → move part (spelled v) ≡ Takes (part ∷ [])) → open_at (part ∷ []) ≤ most
-    → (values : List V) (others : List Part) (c : List Token) → Leaves part c → after most (part ∷ others) (map spelled values ++ c) ≡ after most others c
+    → (values : List V) (others : List Part) (c : List Token) → Leaves part c → parts_after most (part ∷ others) (map spelled values ++ c) ≡ parts_after most others c
 values_follow most part spelled takes room [] others c e = left most part others c e
 values_follow most part spelled takes room (v ∷ vs) others c e =
     taken most part (part ∷ []) others (spelled v) (map spelled vs ++ c) (takes v) room ∙ values_follow most part spelled takes room vs others c e
 
-numbers_follow : (most : ℕ) (numbers : List ℕ) (others : List Part) (c : List Token) → Leaves MoreNumbers c → after most (MoreNumbers ∷ others) (flat_map and_number numbers ++ c) ≡ after most others c
+numbers_follow : (most : ℕ) (numbers : List ℕ) (others : List Part) (c : List Token) → Leaves MoreNumbers c
+    → parts_after most (MoreNumbers ∷ others) (flat_map and_number numbers ++ c) ≡ parts_after most others c
 numbers_follow most [] others c e = left most MoreNumbers others c e
 numbers_follow most (n ∷ ns) others c e =
     taken most MoreNumbers (Number ∷ MoreNumbers ∷ []) others token.Amp (token.Int n ∷ (flat_map and_number ns ++ c)) refl (omega arith)
     ∙ taken most Number [] (MoreNumbers ∷ others) (token.Int n) (flat_map and_number ns ++ c) refl (omega arith)
     ∙ numbers_follow most ns others c e
 
-pub conj_follows : (most : ℕ) (n : Conj) (others : List Part) (c : List Token) → Leaves MoreNumbers c → after most (conj_parts ++ others) (conj_tokens n ++ c) ≡ after most others c
+pub conj_follows : (most : ℕ) (n : Conj) (others : List Part) (c : List Token) → Leaves MoreNumbers c → parts_after most (conj_parts ++ others) (conj_tokens n ++ c) ≡ parts_after most others c
 conj_follows most n others c e =
     taken most Number [] (MoreNumbers ∷ others) (token.Int n.first) (flat_map and_number n.others ++ c) refl (omega arith)
     ∙ numbers_follow most n.others others c e
 
-pub text_follows : (most : ℕ) (text : Option (List ℕ)) (others : List Part) (c : List Token) → Leaves MaybeQuoted c → after most (MaybeQuoted ∷ others) (optional_text text ++ c) ≡ after most others c
+pub text_follows : (most : ℕ) (text : Option (List ℕ)) (others : List Part) (c : List Token) → Leaves MaybeQuoted c
+    → parts_after most (MaybeQuoted ∷ others) (optional_text text ++ c) ≡ parts_after most others c
 text_follows most None others c e = left most MaybeQuoted others c e
 text_follows most (Some text) others c e = taken most MaybeQuoted [] others (token.Str text) c refl (omega arith)
 
@@ -58,7 +60,7 @@ leaves_item part (token.HeaderName name ∷ c) header body b = header name
 leaves_item part (token.Body ∷ c) header body b = body
 leaves_item part _ header body b = absurd b
 
-item_follows : (most : ℕ) (i : ItemPhrase) (c : List Token) → ItemWithin most i → IsBehindItem c → after most (Items ∷ []) (item_tokens i ++ c) ≡ after most (Items ∷ []) c
+item_follows : (most : ℕ) (i : ItemPhrase) (c : List Token) → ItemWithin most i → IsBehindItem c → parts_after most (Items ∷ []) (item_tokens i ++ c) ≡ parts_after most (Items ∷ []) c
 item_follows most (states_item n) c w b =
     taken most Items (Number ∷ Items ∷ []) [] (token.HeaderName (codes "States")) (token.Int n ∷ c) refl (omega arith)
     ∙ taken most Number [] (Items ∷ []) (token.Int n) c refl (omega arith)
@@ -70,8 +72,8 @@ item_follows most (names_item n names) c w b =
     ∙ taken most Number [] (Strings ∷ Items ∷ []) (token.Int n) (map token.Str names ++ c) refl (omega arith)
     ∙ values_follow most Strings token.Str (λ t. refl) (omega arith) names (Items ∷ []) c (leaves_item Strings c (λ name. refl) refl b)
 item_follows most (alias_item name l) c w b =
-    taken most Items (AliasName ∷ (label_parts 0 ++ Items ∷ [])) [] (token.HeaderName (codes "Alias")) (token.Alias name ∷ (label_tokens l ++ c)) refl (omega arith)
-    ∙ taken most AliasName [] (label_parts 0 ++ Items ∷ []) (token.Alias name) (label_tokens l ++ c) refl (omega arith)
+    taken most Items (AliasName ∷ (expected_label 0 ++ Items ∷ [])) [] (token.HeaderName (codes "Alias")) (token.Alias name ∷ (label_tokens l ++ c)) refl (omega arith)
+    ∙ taken most AliasName [] (expected_label 0 ++ Items ∷ []) (token.Alias name) (label_tokens l ++ c) refl (omega arith)
     ∙ label_follows most 0 l (Items ∷ []) c (omega arith) w (leaves_item (Factors 0) c (λ name. refl) refl b) (leaves_item (Products 0) c (λ name. refl) refl b)
 item_follows most (acceptance_item n l) c w b =
     taken most Items (Number ∷ (condition_parts 0 ++ Items ∷ [])) [] (token.HeaderName (codes "Acceptance")) (token.Int n ∷ (condition_tokens l ++ c)) refl (omega arith)
@@ -104,7 +106,7 @@ behind_items [] c b = b
 behind_items (i ∷ is) c b = subst IsBehindItem (sym (append_assoc (item_tokens i) (flat_map item_tokens is) c)) (behind_item i (flat_map item_tokens is ++ c))
 
 pub items_follow : (most : ℕ) (items : List ItemPhrase) (c : List Token) → AllByRecursion (ItemWithin most) items → IsBehindItem c
-    → after most (Items ∷ []) (flat_map item_tokens items ++ c) ≡ after most (Items ∷ []) c
+    → parts_after most (Items ∷ []) (flat_map item_tokens items ++ c) ≡ parts_after most (Items ∷ []) c
 items_follow most [] c w b = refl
 items_follow most (i ∷ is) c w b =
     regrouped most (Items ∷ []) (item_tokens i) (flat_map item_tokens is) c

@@ -5,20 +5,22 @@ use Rattle.std.specs.List.{AllByRecursion}
 use Rattle.std.proofs.lemmas.List.{append_assoc}
 use Rattle.hoa_lexer.specs.declared.token.Token.{Token}
 use Rattle.hoa_lexer.specs.declared.token.Token.TheVariants as token
-use Rattle.hoa_parser.specs.inner.Expecting.{Part, Whole, Number, MoreNumbers, MaybeQuoted, Word, ClosingBracket, Items, States, MaybeLabel, MaybeMarks, Marks, Edges, after, conj_parts, label_parts}
+use Rattle.hoa_parser.specs.inner.Expecting.{Part, Whole, Number, MoreNumbers, MaybeQuoted, Word, ClosingBracket, Items, States, MaybeLabel}
+use Rattle.hoa_parser.specs.inner.Expecting.{MaybeMarks, Marks, Edges, parts_after, conj_parts, expected_label}
 use Rattle.hoa_parser.specs.Grammar.{Label, label_tokens, conj_tokens, and_number, optional_label, OptionalWithin, optional_text, optional_marks}
 use Rattle.hoa_parser.specs.Grammar.{item_tokens, EdgePhrase, edge_tokens, StatePhrase, StateWithin, state_tokens, body_tokens, AutomatonPhrase}
-use Rattle.hoa_parser.specs.Grammar.{AutomatonWithin, automaton_tokens, Spells}
+use Rattle.hoa_parser.specs.Grammar.{AutomatonWithin, automaton_tokens, SpellsAutomaton}
 use Rattle.hoa_parser.specs.Raw.{Written}
 use Rattle.hoa_parser.proofs.grammar.AfterLabels.{Leaves, taken, left, regrouped, label_follows}
 use Rattle.hoa_parser.proofs.grammar.AfterItems.{conj_follows, text_follows, items_follow}
 
-marks_go_on : (most : ℕ) (marks : List ℕ) (others : List Part) (c : List Token) → after most (Marks ∷ others) ((map token.Int marks ++ token.RightBrace ∷ []) ++ c) ≡ after most others c
+marks_go_on : (most : ℕ) (marks : List ℕ) (others : List Part) (c : List Token) → parts_after most (Marks ∷ others) ((map token.Int marks ++ token.RightBrace ∷ []) ++ c) ≡ parts_after most others c
 marks_go_on most [] others c = taken most Marks [] others token.RightBrace c refl (omega arith)
 marks_go_on most (n ∷ ns) others c =
     taken most Marks (Marks ∷ []) others (token.Int n) ((map token.Int ns ++ token.RightBrace ∷ []) ++ c) refl (omega arith) ∙ marks_go_on most ns others c
 
-marks_follow : (most : ℕ) (marks : Option (List ℕ)) (others : List Part) (c : List Token) → Leaves MaybeMarks c → after most (MaybeMarks ∷ others) (optional_marks marks ++ c) ≡ after most others c
+marks_follow : (most : ℕ) (marks : Option (List ℕ)) (others : List Part) (c : List Token) → Leaves MaybeMarks c
+    → parts_after most (MaybeMarks ∷ others) (optional_marks marks ++ c) ≡ parts_after most others c
 marks_follow most None others c e = left most MaybeMarks others c e
 marks_follow most (Some marks) others c e =
     taken most MaybeMarks (Marks ∷ []) others token.LeftBrace ((map token.Int marks ++ token.RightBrace ∷ []) ++ c) refl (omega arith)
@@ -26,17 +28,17 @@ marks_follow most (Some marks) others c e =
 
 -- a label in brackets, behind the opening one
 guard_follows : (most : ℕ) (l : Label) (others : List Part) (c : List Token) → OptionalWithin most (Some l)
-    → after most (label_parts 0 ++ ClosingBracket ∷ others) ((label_tokens l ++ token.RightBracket ∷ []) ++ c) ≡ after most others c
+    → parts_after most (expected_label 0 ++ ClosingBracket ∷ others) ((label_tokens l ++ token.RightBracket ∷ []) ++ c) ≡ parts_after most others c
 guard_follows most l others c w =
-    regrouped most (label_parts 0 ++ ClosingBracket ∷ others) (label_tokens l) (token.RightBracket ∷ []) c
+    regrouped most (expected_label 0 ++ ClosingBracket ∷ others) (label_tokens l) (token.RightBracket ∷ []) c
     ∙ label_follows most 0 l (ClosingBracket ∷ others) (token.RightBracket ∷ c) (omega arith) w refl refl
     ∙ taken most ClosingBracket [] others token.RightBracket c refl (omega arith)
 
 label_of_state_follows : (most : ℕ) (l : Option Label) (others : List Part) (c : List Token) → OptionalWithin most l → Leaves MaybeLabel c
-    → after most (MaybeLabel ∷ others) (optional_label l ++ c) ≡ after most others c
+    → parts_after most (MaybeLabel ∷ others) (optional_label l ++ c) ≡ parts_after most others c
 label_of_state_follows most None others c w e = left most MaybeLabel others c e
 label_of_state_follows most (Some l) others c w e =
-    taken most MaybeLabel (label_parts 0 ++ ClosingBracket ∷ []) others token.LeftBracket ((label_tokens l ++ token.RightBracket ∷ []) ++ c) refl (omega arith)
+    taken most MaybeLabel (expected_label 0 ++ ClosingBracket ∷ []) others token.LeftBracket ((label_tokens l ++ token.RightBracket ∷ []) ++ c) refl (omega arith)
     ∙ guard_follows most l others c w
 
 -- what stands behind an edge: the next one, the next state, or the end
@@ -86,14 +88,14 @@ marks_leave_text (Some marks) c e = refl
 
 -- the target of an edge, and its marks
 goal_follows : (most : ℕ) (e : EdgePhrase) (c : List Token) (others : List Part) → LeavesEdge c
-    → after most (conj_parts ++ MaybeMarks ∷ others) ((conj_tokens e.to ++ optional_marks e.marks) ++ c) ≡ after most others c
+    → parts_after most (conj_parts ++ MaybeMarks ∷ others) ((conj_tokens e.to ++ optional_marks e.marks) ++ c) ≡ parts_after most others c
 goal_follows most e c others b =
     regrouped most (conj_parts ++ MaybeMarks ∷ others) (conj_tokens e.to) (optional_marks e.marks) c
     ∙ conj_follows most e.to (MaybeMarks ∷ others) (optional_marks e.marks ++ c) (marks_leave_numbers e.marks c b)
     ∙ marks_follow most e.marks others c b.marks
 
 edge_follows_by : (most : ℕ) (l : Option Label) (e : EdgePhrase) (others : List Part) (c : List Token) → OptionalWithin most l → LeavesEdge c
-    → after most (Edges ∷ others) ((optional_label l ++ (conj_tokens e.to ++ optional_marks e.marks)) ++ c) ≡ after most (Edges ∷ others) c
+    → parts_after most (Edges ∷ others) ((optional_label l ++ (conj_tokens e.to ++ optional_marks e.marks)) ++ c) ≡ parts_after most (Edges ∷ others) c
 edge_follows_by most None e others c w b =
     taken most Edges (MoreNumbers ∷ MaybeMarks ∷ Edges ∷ []) others (token.Int e.to.first) ((flat_map and_number e.to.others ++ optional_marks e.marks) ++ c) refl (omega arith)
     ∙ sym (taken most Number [] (MoreNumbers ∷ MaybeMarks ∷ Edges ∷ others) (token.Int e.to.first) ((flat_map and_number e.to.others ++ optional_marks e.marks) ++ c) refl (omega arith))
@@ -102,7 +104,7 @@ edge_follows_by most (Some l) e others c w b =
     let goal : List Token = conj_tokens e.to ++ optional_marks e.marks in
     let parts : List Part = conj_parts ++ MaybeMarks ∷ Edges ∷ others in
     regrouped most (Edges ∷ others) (optional_label (Some l)) goal c
-    ∙ taken most Edges (label_parts 0 ++ ClosingBracket ∷ (conj_parts ++ MaybeMarks ∷ Edges ∷ [])) others token.LeftBracket ((label_tokens l ++ token.RightBracket ∷ []) ++ (goal ++ c)) refl
+    ∙ taken most Edges (expected_label 0 ++ ClosingBracket ∷ (conj_parts ++ MaybeMarks ∷ Edges ∷ [])) others token.LeftBracket ((label_tokens l ++ token.RightBracket ∷ []) ++ (goal ++ c)) refl
     (omega arith)
     ∙ guard_follows most l parts (goal ++ c) w
     ∙ goal_follows most e c (Edges ∷ others) b
@@ -116,14 +118,14 @@ behind_edges [] c b = b
 behind_edges (e ∷ es) c b = subst IsBehindEdge (sym (append_assoc (edge_tokens e) (flat_map edge_tokens es) c)) (behind_edge_by e.label e (flat_map edge_tokens es ++ c))
 
 edges_follow : (most : ℕ) (edges : List EdgePhrase) (others : List Part) (c : List Token) → AllByRecursion (λ (e : EdgePhrase). OptionalWithin most e.label) edges → IsBehindState c
-    → after most (Edges ∷ others) (flat_map edge_tokens edges ++ c) ≡ after most others c
+    → parts_after most (Edges ∷ others) (flat_map edge_tokens edges ++ c) ≡ parts_after most others c
 edges_follow most [] others c w b = left most Edges others c (leaves_edges c b)
 edges_follow most (e ∷ es) others c w b =
     regrouped most (Edges ∷ others) (edge_tokens e) (flat_map edge_tokens es) c
     ∙ edge_follows_by most e.label e others (flat_map edge_tokens es ++ c) w.0 (leaves_edge (flat_map edge_tokens es ++ c) (behind_edges es c (state_ends_edge c b)))
     ∙ edges_follow most es others c w.1 b
 
-state_follows : (most : ℕ) (s : StatePhrase) (c : List Token) → StateWithin most s → IsBehindState c → after most (States ∷ []) (state_tokens s ++ c) ≡ after most (States ∷ []) c
+state_follows : (most : ℕ) (s : StatePhrase) (c : List Token) → StateWithin most s → IsBehindState c → parts_after most (States ∷ []) (state_tokens s ++ c) ≡ parts_after most (States ∷ []) c
 state_follows most s c w b =
     let edges : List Token = flat_map edge_tokens s.edges in
     let marks : List Token = optional_marks s.marks ++ edges in
@@ -135,7 +137,7 @@ state_follows most s c w b =
     ∙ label_of_state_follows most s.label (Number ∷ MaybeQuoted ∷ MaybeMarks ∷ Edges ∷ States ∷ []) (token.Int s.number ∷ (name ++ c)) w.0 refl
     ∙ taken most Number [] (MaybeQuoted ∷ MaybeMarks ∷ Edges ∷ States ∷ []) (token.Int s.number) (name ++ c) refl (omega arith)
     ∙ regrouped most (MaybeQuoted ∷ MaybeMarks ∷ Edges ∷ States ∷ []) (optional_text s.name) marks c
-    ∙ ap (λ (w : List Token). after most (MaybeQuoted ∷ MaybeMarks ∷ Edges ∷ States ∷ []) (optional_text s.name ++ w)) (append_assoc (optional_marks s.marks) edges c)
+    ∙ ap (λ (w : List Token). parts_after most (MaybeQuoted ∷ MaybeMarks ∷ Edges ∷ States ∷ []) (optional_text s.name ++ w)) (append_assoc (optional_marks s.marks) edges c)
     ∙ text_follows most s.name (MaybeMarks ∷ Edges ∷ States ∷ []) (optional_marks s.marks ++ (edges ++ c)) (marks_leave_text s.marks (edges ++ c) behind_marks)
     ∙ marks_follow most s.marks (Edges ∷ States ∷ []) (edges ++ c) behind_marks.marks
     ∙ edges_follow most s.edges (States ∷ []) c w.1 b
@@ -144,7 +146,7 @@ behind_states : (states : List StatePhrase) → IsBehindState (body_tokens state
 behind_states [] = tt
 behind_states (s ∷ ss) = tt
 
-states_follow : (most : ℕ) (states : List StatePhrase) → AllByRecursion (StateWithin most) states → after most (States ∷ []) (body_tokens states) ≡ Some []
+states_follow : (most : ℕ) (states : List StatePhrase) → AllByRecursion (StateWithin most) states → parts_after most (States ∷ []) (body_tokens states) ≡ Some []
 states_follow most [] w = taken most States [] [] token.End [] refl (omega arith)
 states_follow most (s ∷ ss) w =
     regrouped most (States ∷ []) (state_tokens s) (flat_map state_tokens ss) (token.End ∷ [])
@@ -152,7 +154,7 @@ states_follow most (s ∷ ss) w =
     ∙ states_follow most ss w.1
 
 -- After a whole automaton nothing is expected.
-pub follows : (most : ℕ) (p : AutomatonPhrase) → AutomatonWithin most p → after most (Whole ∷ []) (automaton_tokens p) ≡ Some []
+pub follows : (most : ℕ) (p : AutomatonPhrase) → AutomatonWithin most p → parts_after most (Whole ∷ []) (automaton_tokens p) ≡ Some []
 follows most p w =
     let body : List Token = token.Body ∷ body_tokens p.states in
     taken most Whole (Word ∷ Items ∷ []) [] (token.HeaderName (codes "HOA")) (token.Identifier p.version ∷ (flat_map item_tokens p.items ++ body)) refl (omega arith)
@@ -161,5 +163,5 @@ follows most p w =
     ∙ taken most Items (States ∷ []) [] token.Body (body_tokens p.states) refl (omega arith)
     ∙ states_follow most p.states w.1
 
-pub spelled_follows : (most : ℕ) (ts : List Token) (w : Written) → Spells most ts w → after most (Whole ∷ []) ts ≡ Some []
-spelled_follows most ts w s = ap (after most (Whole ∷ [])) s.spelled ∙ follows most s.phrase s.within
+pub spelled_follows : (most : ℕ) (ts : List Token) (w : Written) → SpellsAutomaton most ts w → parts_after most (Whole ∷ []) ts ≡ Some []
+spelled_follows most ts w s = ap (parts_after most (Whole ∷ [])) s.spelled ∙ follows most s.phrase s.within

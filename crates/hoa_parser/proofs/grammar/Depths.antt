@@ -2,7 +2,7 @@
 use Rattle.std.proofs.Common.{◌≡◌, ℕ, ◌≤◌, Bool, true, false, cond, List, [], ◌∷◌, ◌++◌, Option, Some, None, refl, sym, ap, ◌∙◌, arith, leb}
 use Rattle.std.proofs.lemmas.Bool.{leb-true}
 use Rattle.hoa_lexer.specs.declared.token.Token.{Token}
-use Rattle.hoa_parser.specs.inner.Expecting.{Part, Move, Takes, Passes, Refuses, after, after_some, behind, moved, move, open_at}
+use Rattle.hoa_parser.specs.inner.Expecting.{Part, TokenUse, Takes, Passes, Refuses, parts_after, after_some, parts_behind, moved, move, open_at}
 use Rattle.hoa_parser.specs.Grammar.{AutomatonPhrase, AutomatonWithin, EdgePhrase, IsViable, ItemPhrase, ItemWithin, Label, OptionalWithin, StatePhrase, StateWithin}
 use Rattle.hoa_parser.specs.Grammar.ItemPhrase.{acceptance_item, alias_item}
 use Rattle.hoa_parser.proofs.grammar.PlainConditions.{condition_laxer}
@@ -18,24 +18,24 @@ opened_more : (m n : ℕ) (ps others left : List Part) (passed : Option (List Pa
 opened_more m n ps others left passed true is l e = opened n ps others passed (omega (arith, leb-true (open_at ps) m (sym is))) ∙ e
 opened_more m n ps others left passed false is l e = absurd (none_some left e)
 
-moved_more : (m n : ℕ) (move : Move) (passed passed' : Option (List Part)) (others left : List Part) → m ≤ n → (passed ≡ Some left → passed' ≡ Some left)
+moved_more : (m n : ℕ) (move : TokenUse) (passed passed' : Option (List Part)) (others left : List Part) → m ≤ n → (passed ≡ Some left → passed' ≡ Some left)
     → moved m move passed others ≡ Some left → moved n move passed' others ≡ Some left
 moved_more m n (Takes ps) passed passed' others left l later e = opened_more m n ps others left passed' (leb (open_at ps) m) refl l e
 moved_more m n Passes passed passed' others left l later e = later e
 moved_more m n Refuses passed passed' others left l later e = absurd (none_some left e)
 
-pub behind_more : (m n : ℕ) (ps left : List Part) (z : Token) → m ≤ n → behind m ps z ≡ Some left → behind n ps z ≡ Some left
+pub behind_more : (m n : ℕ) (ps left : List Part) (z : Token) → m ≤ n → parts_behind m ps z ≡ Some left → parts_behind n ps z ≡ Some left
 behind_more m n [] left z l e = e
-behind_more m n (p ∷ ps) left z l e = moved_more m n (move p z) (behind m ps z) (behind n ps z) ps left l (behind_more m n ps left z l) e
+behind_more m n (p ∷ ps) left z l e = moved_more m n (move p z) (parts_behind m ps z) (parts_behind n ps z) ps left l (behind_more m n ps left z l) e
 
-step_more : (m n : ℕ) (ps left : List Part) (z : Token) (ts : List Token) (expected : Option (List Part)) → expected ≡ behind m ps z → m ≤ n
-    → ((parts : List Part) → after m parts ts ≡ Some left → after n parts ts ≡ Some left) → after_some m expected ts ≡ Some left → after_some n (behind n ps z) ts ≡ Some left
+step_more : (m n : ℕ) (ps left : List Part) (z : Token) (ts : List Token) (expected : Option (List Part)) → expected ≡ parts_behind m ps z → m ≤ n
+    → ((parts : List Part) → parts_after m parts ts ≡ Some left → parts_after n parts ts ≡ Some left) → after_some m expected ts ≡ Some left → after_some n (parts_behind n ps z) ts ≡ Some left
 step_more m n ps left z ts None is l later e = absurd (none_some left e)
 step_more m n ps left z ts (Some parts) is l later e = ap (λ (o : Option (List Part)). after_some n o ts) (behind_more m n ps parts z l (sym is)) ∙ later parts e
 
-pub after_more : (m n : ℕ) (ts : List Token) (ps left : List Part) → m ≤ n → after m ps ts ≡ Some left → after n ps ts ≡ Some left
+pub after_more : (m n : ℕ) (ts : List Token) (ps left : List Part) → m ≤ n → parts_after m ps ts ≡ Some left → parts_after n ps ts ≡ Some left
 after_more m n [] ps left l e = e
-after_more m n (t ∷ ts) ps left l e = step_more m n ps left t ts (behind m ps t) refl l (λ parts h. after_more m n ts parts left l h) e
+after_more m n (t ∷ ts) ps left l e = step_more m n ps left t ts (parts_behind m ps t) refl l (λ parts h. after_more m n ts parts left l h) e
 
 -- what is written
 

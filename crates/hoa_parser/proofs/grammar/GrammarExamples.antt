@@ -2,7 +2,7 @@
 use Rattle.std.proofs.Common.{ℕ, true, false, [], ◌∷◌, Some, None, refl, ap, arith}
 use Rattle.std.specs.Prelude.{codes}
 use Rattle.hoa_lexer.specs.declared.token.Token.TheVariants.{HeaderName, Identifier, Int}
-use Rattle.hoa_parser.specs.Grammar.{AutomatonPhrase, AutomatonWithin, ItemPhrase, Spells, StatePhrase, automaton_meaning, automaton_tokens}
+use Rattle.hoa_parser.specs.Grammar.{AutomatonPhrase, AutomatonWithin, ItemPhrase, SpellsAutomaton, StatePhrase, automaton_meaning, automaton_tokens}
 use Rattle.hoa_parser.specs.Grammar.Condition.{condition}
 use Rattle.hoa_parser.specs.Grammar.Fands.{no_fand, or_fand}
 use Rattle.hoa_parser.specs.Grammar.Fatoms.{no_fatom, and_fatom}
@@ -20,7 +20,7 @@ use Rattle.hoa_parser.proofs.grammar.NoAbort.{no_abort_inside}
 use Rattle.hoa_parser.proofs.grammar.OneRaw.{one_raw, whole_goes_no_further}
 use Rattle.hoa_parser.proofs.grammar.Stops.{first_token}
 
-by_phrase : (m : ℕ) (a : AutomatonPhrase) → AutomatonWithin m a → Spells m (automaton_tokens a) (automaton_meaning a)
+by_phrase : (m : ℕ) (a : AutomatonPhrase) → AutomatonWithin m a → SpellsAutomaton m (automaton_tokens a) (automaton_meaning a)
 by_phrase m a h = record { phrase = a; within = h; spelled = refl; means = refl }
 
 abbrev one_item : ItemPhrase → AutomatonPhrase
@@ -42,7 +42,7 @@ three = record {
       ∷ record { label = Some (label true_label no_lnot no_land); to = record { first = 3; others = [] }; marks = None } ∷ [];
 }
 
-spells_three : Spells 1 (with_state state_three) (automaton_meaning (one_state three))
+spells_three : SpellsAutomaton 1 (with_state state_three) (automaton_meaning (one_state three))
 spells_three = by_phrase 1 (one_state three) (tt, ((((omega arith, tt), tt, tt), (tt, ((tt, tt, tt), tt))), tt))
 
 no_opening : IsDead (Int 0 ∷ [])

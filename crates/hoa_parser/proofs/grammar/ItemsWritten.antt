@@ -17,9 +17,9 @@ use Rattle.hoa_parser.proofs.grammar.LabelsWritten.{Writes, joined, single, has_
 use Rattle.hoa_parser.proofs.grammar.HeaderNames.{IsNamed, named}
 
 -- an item before others
-one_more : {most : ℕ} (i : ItemPhrase) {name known : List ℕ} {values u w : List Token} → name ≡ known → item_tokens i ≡ token.HeaderName known ∷ values → ItemWithin most i → u ≡ values ++ w
+item_within : {most : ℕ} (i : ItemPhrase) {name known : List ℕ} {values u w : List Token} → name ≡ known → item_tokens i ≡ token.HeaderName known ∷ values → ItemWithin most i → u ≡ values ++ w
     → Derives most (part.Items ∷ []) w → Fills most part.Items (token.HeaderName name ∷ u)
-one_more {most} i {name} {known} {values} {u} {w} is spelled within e d =
+item_within {most} i {name} {known} {values} {u} {w} is spelled within e d =
     let f = single most part.Items w d in
     record {
       phrase = (i ∷ f.phrase.0, f.phrase.1);
@@ -36,21 +36,21 @@ both : (u v w v' w' : List Token) {a b : List Token} → u ≡ v ++ w → v ≡ 
 both u v w v' w' {a} {b} e first e' second = joined u v w a (b ++ w') e first (joined w v' w' b w' e' second refl) ∙ sym (append_assoc a b w')
 
 item_writes : (most : ℕ) (name : List ℕ) (h : Header) → header_of name ≡ h → IsNamed name h → Writes most part.Items (token.HeaderName name) (header_move h)
-item_writes most name header.States is n = λ l u (v, w, k, d, e). one_more (states_item k.phrase) n refl tt (joined u v w _ w e k.spelled refl) d
+item_writes most name header.States is n = λ l u (v, w, k, d, e). item_within (states_item k.phrase) n refl tt (joined u v w _ w e k.spelled refl) d
 item_writes most name header.Start is n = λ l u (v, w, k, (v', w', ks, d, e'), e).
-    one_more (start_item (record { first = k.phrase; others = ks.phrase })) n refl tt (both u v w v' w' e k.spelled e' ks.spelled) d
-item_writes most name header.Ap is n = λ l u (v, w, k, (v', w', ks, d, e'), e). one_more (names_item k.phrase ks.phrase) n refl tt (both u v w v' w' e k.spelled e' ks.spelled) d
+    item_within (start_item (record { first = k.phrase; others = ks.phrase })) n refl tt (both u v w v' w' e k.spelled e' ks.spelled) d
+item_writes most name header.Ap is n = λ l u (v, w, k, (v', w', ks, d, e'), e). item_within (names_item k.phrase ks.phrase) n refl tt (both u v w v' w' e k.spelled e' ks.spelled) d
 item_writes most name header.Alias is n = λ l u (v, w, k, d, e).
     let x = has_label most 0 (part.Items ∷ []) w d in
-    one_more (alias_item k.phrase (label x.first x.others x.more)) n refl x.within (joined u v w _ _ e k.spelled x.split) x.behind
+    item_within (alias_item k.phrase (label x.first x.others x.more)) n refl x.within (joined u v w _ _ e k.spelled x.split) x.behind
 item_writes most name header.Acceptance is n = λ l u (v, w, k, d, e).
     let x = has_condition most 0 (part.Items ∷ []) w d in
-    one_more (acceptance_item k.phrase (condition x.first x.others x.more)) n refl x.within (joined u v w _ _ e k.spelled x.split) x.behind
-item_writes most name header.AccName is n = λ l u (v, w, k, (v', w', ks, d, e'), e). one_more (acc_name_item k.phrase ks.phrase) n refl tt (both u v w v' w' e k.spelled e' ks.spelled) d
-item_writes most name header.Tool is n = λ l u (v, w, k, (v', w', ks, d, e'), e). one_more (tool_item k.phrase ks.phrase) n refl tt (both u v w v' w' e k.spelled e' ks.spelled) d
-item_writes most name header.Name is n = λ l u (v, w, k, d, e). one_more (name_item k.phrase) n refl tt (joined u v w _ w e k.spelled refl) d
-item_writes most name header.Properties is n = λ l u (v, w, k, d, e). one_more (properties_item k.phrase) n refl tt (joined u v w _ w e k.spelled refl) d
-item_writes most name header.Other is n = λ l u (v, w, k, d, e). one_more (other_item name is k.phrase) refl refl tt (joined u v w _ w e k.spelled refl) d
+    item_within (acceptance_item k.phrase (condition x.first x.others x.more)) n refl x.within (joined u v w _ _ e k.spelled x.split) x.behind
+item_writes most name header.AccName is n = λ l u (v, w, k, (v', w', ks, d, e'), e). item_within (acc_name_item k.phrase ks.phrase) n refl tt (both u v w v' w' e k.spelled e' ks.spelled) d
+item_writes most name header.Tool is n = λ l u (v, w, k, (v', w', ks, d, e'), e). item_within (tool_item k.phrase ks.phrase) n refl tt (both u v w v' w' e k.spelled e' ks.spelled) d
+item_writes most name header.Name is n = λ l u (v, w, k, d, e). item_within (name_item k.phrase) n refl tt (joined u v w _ w e k.spelled refl) d
+item_writes most name header.Properties is n = λ l u (v, w, k, d, e). item_within (properties_item k.phrase) n refl tt (joined u v w _ w e k.spelled refl) d
+item_writes most name header.Other is n = λ l u (v, w, k, d, e). item_within (other_item name is k.phrase) refl refl tt (joined u v w _ w e k.spelled refl) d
 item_writes most name header.Opening is n = tt
 item_writes most name header.State is n = tt
 

@@ -5,7 +5,7 @@ use Rattle.std.proofs.lemmas.List.{append_assoc, append-nil}
 use Rattle.hoa_lexer.specs.declared.token.Token.{Token}
 use Rattle.hoa_lexer.specs.declared.token.Token.TheVariants as token
 use Rattle.hoa_parser.specs.inner.Expecting as part
-use Rattle.hoa_parser.specs.inner.Expecting.{Part, Move, Takes, Passes, Refuses, open_at, label_parts, condition_parts, set_parts, label_word, condition_word}
+use Rattle.hoa_parser.specs.inner.Expecting.{Part, TokenUse, Takes, Passes, Refuses, open_at, expected_label, condition_parts, set_parts, label_word, condition_word}
 use Rattle.hoa_parser.specs.Grammar.{FandsWithin, FatomWithin, FatomsWithin, LandsWithin, LnotWithin, LnotsWithin, bang_tokens, fands_tokens, fatom_tokens, fatoms_tokens}
 use Rattle.hoa_parser.specs.Grammar.{lands_tokens, lnot_tokens, lnots_tokens, set_tokens}
 use Rattle.hoa_parser.specs.Grammar.Fatom.{false_condition, finitely, infinitely, true_condition}
@@ -16,7 +16,7 @@ use Rattle.hoa_parser.proofs.grammar.HeaderNames.{same}
 use Rattle.aut_base.proofs.numbers.Truth.{cond_either}
 
 -- what is so of a move: what is taken writes the part, and what is passed stands behind nothing
-abbrev pub Writes : ℕ → Part → Token → Move → Type 0
+abbrev pub Writes : ℕ → Part → Token → TokenUse → Type 0
 Writes most p z (Takes ps) = open_at ps ≤ most → (u : List Token) → Derives most ps u → Fills most p (z ∷ u)
 Writes most p z Passes = Fills most p []
 Writes most p z Refuses = Unit {0}
@@ -36,7 +36,7 @@ pub written_more : {V : Type 0} (spelled : V → Token) (v : V) (u : List Token)
 written_more spelled v u f = record { phrase = v ∷ f.phrase; keeps = tt; spelled = ap (λ w. spelled v ∷ w) f.spelled }
 
 -- a word that the part takes, or else another one
-word_or : (most : ℕ) (p : Part) (word known : List ℕ) (ps : List Part) (otherwise : Move) → ((u : List Token) → Derives most ps u → Fills most p (token.Identifier known ∷ u))
+word_or : (most : ℕ) (p : Part) (word known : List ℕ) (ps : List Part) (otherwise : TokenUse) → ((u : List Token) → Derives most ps u → Fills most p (token.Identifier known ∷ u))
     → Writes most p (token.Identifier word) otherwise → Writes most p (token.Identifier word) (cond (same_text word known) (Takes ps) otherwise)
 word_or most p word known ps otherwise one =
     cond_either (Writes most p (token.Identifier word)) (same_text word known) (Takes ps) otherwise
@@ -107,7 +107,7 @@ written_bar {f = f} {g = g} {h = h} most u x join keeps spells =
 abbrev pub HasLabel : ℕ → ℕ → List Part → List Token → Type 0
 HasLabel most depth ps = HasChain (LnotWithin most depth) (LnotsWithin most depth) (LandsWithin most depth) lnot_tokens lnots_tokens lands_tokens (Derives most ps)
 
-pub has_label : (most depth : ℕ) (ps : List Part) (u : List Token) → Derives most (label_parts depth ++ ps) u → HasLabel most depth ps u
+pub has_label : (most depth : ℕ) (ps : List Part) (u : List Token) → Derives most (expected_label depth ++ ps) u → HasLabel most depth ps u
 has_label most depth ps u (v, w, f, (v', w', fs, (v'', w'', ls, d, e''), e'), e) = has_chain u v w v' w' v'' w'' f e fs e' ls e'' d
 
 pub label_word_writes : (most depth : ℕ) (word : List ℕ) → Writes most (part.Factor depth) (token.Identifier word) (label_word word)

@@ -6,7 +6,7 @@ use Rattle.std.proofs.lemmas.List.{append-nil}
 use Rattle.hoa_lexer.specs.declared.token.Token.TheVariants.{Amp}
 use Rattle.aut_base.specs.Formula as formula
 use Rattle.aut_base.specs.Formula.{FormulaTree, FormulaTrees, trees}
-use Rattle.hoa_parser.specs.Grammar.{Condition, ConditionWithin, Fands, FandsWithin, Fatom, FatomWithin, Fatoms, FatomsWithin, all_of}
+use Rattle.hoa_parser.specs.Grammar.{Condition, ConditionWithin, Fands, FandsWithin, Fatom, FatomWithin, Fatoms, FatomsWithin, formula_conjunction}
 use Rattle.hoa_parser.specs.Grammar.{condition_meaning, condition_tokens, fands_meaning, fands_tokens, fatom_meaning, fatom_tokens, fatoms_meaning}
 use Rattle.hoa_parser.specs.Grammar.{fatoms_tokens}
 use Rattle.hoa_parser.specs.Grammar.Condition.{condition}
@@ -96,7 +96,7 @@ condition_spells (formula.Or t u ts) = or_line _ _ _ _ _ _ _ _ (fand_spells t) (
 
 -- what they mean, which is the same between `|` and alone as between `&`
 
-head_means : (t : FormulaTree) → all_of (fatom_meaning (plain_head t)) (fatoms_meaning (plain_tail t)) ≡ fatom_meaning (plain_fatom t)
+head_means : (t : FormulaTree) → formula_conjunction (fatom_meaning (plain_head t)) (fatoms_meaning (plain_tail t)) ≡ fatom_meaning (plain_fatom t)
 head_means formula.True = refl
 head_means _ = refl
 
@@ -160,7 +160,7 @@ grouped_within m d _ k h = h.0
 
 -- the parts of a conjunction
 chain_within : (m d : ℕ) (f : Fatom) (fs : Fatoms) → FatomWithin m d (plain_fatom (fatom_meaning f)) → FatomsWithin m d (plain_fatoms (trees (fatoms_meaning fs)))
-    → FandWithin m d (all_of (fatom_meaning f) (fatoms_meaning fs))
+    → FandWithin m d (formula_conjunction (fatom_meaning f) (fatoms_meaning fs))
 chain_within m d f no_fatom h k = fand_within m d (fatom_meaning f) h
 chain_within m d f (and_fatom g gs) h k = (h, k)
 

@@ -1,6 +1,6 @@
 -- A label that is written down opens no more than any other label that means the same.
 use Rattle.std.proofs.Common.{ℕ, suc, ◌≤◌, arith}
-use Rattle.hoa_parser.specs.Grammar.{Label, LabelWithin, Lands, LandsWithin, Lnot, LnotWithin, Lnots, LnotsWithin, conjunction, label_meaning, lands_meaning, lnot_meaning, lnots_meaning}
+use Rattle.hoa_parser.specs.Grammar.{Label, LabelWithin, Lands, LandsWithin, Lnot, LnotWithin, Lnots, LnotsWithin, raw_conjunction, label_meaning, lands_meaning, lnot_meaning, lnots_meaning}
 use Rattle.hoa_parser.specs.Grammar.Label.{label}
 use Rattle.hoa_parser.specs.Grammar.Lands.{no_land, or_land}
 use Rattle.hoa_parser.specs.Grammar.Lnots.{no_lnot, and_lnot}
@@ -53,7 +53,7 @@ grouped_within m d _ k h = h.0
 
 -- the parts of a conjunction
 chain_within : (m d : ℕ) (f : Lnot) (fs : Lnots) → LnotWithin m d (plain_lnot (lnot_meaning f)) → LnotsWithin m d (plain_lnots (raw_trees (lnots_meaning fs)))
-    → LandWithin m d (conjunction (lnot_meaning f) (lnots_meaning fs))
+    → LandWithin m d (raw_conjunction (lnot_meaning f) (lnots_meaning fs))
 chain_within m d f no_lnot h k = land_within m d (lnot_meaning f) h
 chain_within m d f (and_lnot g gs) h k = (h, k)
 

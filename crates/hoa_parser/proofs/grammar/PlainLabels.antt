@@ -4,7 +4,7 @@ use Rattle.std.proofs.Math.Path.{ap₂}
 use Rattle.std.proofs.lemmas.List.{append_assoc, append-nil}
 use Rattle.hoa_lexer.specs.declared.token.Token.{Token}
 use Rattle.hoa_lexer.specs.declared.token.Token.TheVariants.{Bang, Amp, Bar, LeftParen, RightParen}
-use Rattle.hoa_parser.specs.Grammar.{Label, Lands, Lnot, Lnots, conjunction, label_meaning, label_tokens, lands_meaning, lands_tokens, lnot_meaning, lnot_tokens, lnots_meaning, lnots_tokens}
+use Rattle.hoa_parser.specs.Grammar.{Label, Lands, Lnot, Lnots, raw_conjunction, label_meaning, label_tokens, lands_meaning, lands_tokens, lnot_meaning, lnot_tokens, lnots_meaning, lnots_tokens}
 use Rattle.hoa_parser.specs.Grammar.Label.{label}
 use Rattle.hoa_parser.specs.Grammar.Lands.{no_land, or_land}
 use Rattle.hoa_parser.specs.Grammar.Lnots.{no_lnot, and_lnot}
@@ -12,7 +12,7 @@ use Rattle.hoa_parser.specs.Grammar.Lnot.{true_label, false_label, proposition, 
 use Rattle.hoa_parser.specs.Raw as raw
 use Rattle.hoa_parser.specs.Raw.{RawTree, RawTrees, raw_trees}
 use Rattle.hoa_parser.proofs.grammar.JoinedParts.{ap₃}
-use Rattle.hoa_parser.specs.WrittenDown.{written_label, written_factors, written_products}
+use Rattle.hoa_parser.specs.WrittenDown.{label_tokens_at, written_factors, written_products}
 use Rattle.hoa_parser.specs.WrittenDown.Cursor.{Alone, InOr, InAnd}
 
 -- the factors of a phrase, where a product in parentheses is taken out of them, and the label that it is alone
@@ -74,7 +74,7 @@ pub in_group : (a x : List Token) → a ≡ x → LeftParen ∷ (a ++ RightParen
 in_group a x e = ap (λ w. LeftParen ∷ (w ++ RightParen ∷ [])) e
 
 mutual
-  lnot_spells : (t : RawTree) → lnot_tokens (plain_lnot t) ≡ written_label InAnd t
+  lnot_spells : (t : RawTree) → lnot_tokens (plain_lnot t) ≡ label_tokens_at InAnd t
   lnot_spells raw.True = refl
   lnot_spells raw.False = refl
   lnot_spells (raw.Prop i) = refl
@@ -83,7 +83,7 @@ mutual
   lnot_spells (raw.And t u ts) = in_group _ _ (and_line _ _ _ _ _ _ (lnot_spells t) (lnot_spells u) (lnots_spells ts))
   lnot_spells (raw.Or t u ts) = in_group _ _ (or_line _ _ _ _ _ _ _ _ (land_spells t) (land_spells u) (lands_spells ts))
 
-  land_spells : (t : RawTree) → lnot_tokens (plain_first t) ++ lnots_tokens (plain_others t) ≡ written_label InOr t
+  land_spells : (t : RawTree) → lnot_tokens (plain_first t) ++ lnots_tokens (plain_others t) ≡ label_tokens_at InOr t
   land_spells raw.True = refl
   land_spells raw.False = refl
   land_spells (raw.Prop i) = refl
@@ -100,7 +100,7 @@ mutual
   lands_spells raw.none = refl
   lands_spells (raw.more t ts) = more_line _ _ _ _ _ (land_spells t) (lands_spells ts)
 
-pub label_spells : (t : RawTree) → label_tokens (plain_label t) ≡ written_label Alone t
+pub label_spells : (t : RawTree) → label_tokens (plain_label t) ≡ label_tokens_at Alone t
 label_spells raw.True = refl
 label_spells raw.False = refl
 label_spells (raw.Prop i) = refl
@@ -111,7 +111,7 @@ label_spells (raw.Or t u ts) = or_line _ _ _ _ _ _ _ _ (land_spells t) (land_spe
 
 -- what they mean, which is the same between `|` and alone as between `&`
 
-first_means : (t : RawTree) → conjunction (lnot_meaning (plain_first t)) (lnots_meaning (plain_others t)) ≡ lnot_meaning (plain_lnot t)
+first_means : (t : RawTree) → raw_conjunction (lnot_meaning (plain_first t)) (lnots_meaning (plain_others t)) ≡ lnot_meaning (plain_lnot t)
 first_means raw.True = refl
 first_means _ = refl
 

@@ -7,7 +7,7 @@ use Rattle.hoa_lexer.specs.declared.token.Token.{Token}
 use Rattle.hoa_lexer.specs.declared.token.Token.TheVariants.{Amp, Bar, LeftParen, RightParen}
 use Rattle.aut_base.proofs.lists.Lists.{append_three}
 use Rattle.aut_base.specs.Formula as formula
-use Rattle.hoa_parser.specs.Grammar.{Condition, Fands, Fatoms, Fatom, all_of, one_of, set_tokens, condition_tokens, fands_tokens, fatoms_tokens}
+use Rattle.hoa_parser.specs.Grammar.{Condition, Fands, Fatoms, Fatom, formula_conjunction, formula_disjunction, set_tokens, condition_tokens, fands_tokens, fatoms_tokens}
 use Rattle.hoa_parser.specs.Grammar.{fatom_tokens, condition_meaning, fands_meaning, fatoms_meaning, fatom_meaning}
 use Rattle.hoa_parser.specs.Grammar.Condition.{condition}
 use Rattle.hoa_parser.specs.Grammar.Fands.{no_fand, or_fand}
@@ -41,7 +41,7 @@ mutual
       (sym (append_three (fatom_tokens f) (fatoms_tokens fs) (fands_tokens ls) c) ∙ e ∙ append_three (fatom_tokens g) (fatoms_tokens gs) (fands_tokens ms) d) in
       let b = same_fatoms fs gs (fands_tokens ls ++ c) (fands_tokens ms ++ d) a.rest (fands_stop ls c s) (fands_stop ms d t) in
       let k = same_fands ls ms c d b.rest s t in
-      record { value = ap₃ (λ x y z. one_of (all_of x y) z) a.value b.value k.value; rest = k.rest }
+      record { value = ap₃ (λ x y z. formula_disjunction (formula_conjunction x y) z) a.value b.value k.value; rest = k.rest }
 
   pub same_fands : (ls ms : Fands) (c d : List Token) → fands_tokens ls ++ c ≡ fands_tokens ms ++ d → Stops is_join c → Stops is_join d → IsSame (fands_meaning ls) (fands_meaning ms) c d
   same_fands no_fand no_fand c d e s t = record { value = refl; rest = e }
@@ -52,7 +52,7 @@ mutual
       (sym (append_three (fatom_tokens f) (fatoms_tokens fs) (fands_tokens ls) c) ∙ later_tokens Bar Bar _ _ e ∙ append_three (fatom_tokens g) (fatoms_tokens gs) (fands_tokens ms) d) in
       let b = same_fatoms fs gs (fands_tokens ls ++ c) (fands_tokens ms ++ d) a.rest (fands_stop ls c s) (fands_stop ms d t) in
       let k = same_fands ls ms c d b.rest s t in
-      record { value = ap₃ (λ x y z. all_of x y ∷ z) a.value b.value k.value; rest = k.rest }
+      record { value = ap₃ (λ x y z. formula_conjunction x y ∷ z) a.value b.value k.value; rest = k.rest }
 
   pub same_fatoms : (fs gs : Fatoms) (c d : List Token) → fatoms_tokens fs ++ c ≡ fatoms_tokens gs ++ d → Stops is_amp c → Stops is_amp d → IsSame (fatoms_meaning fs) (fatoms_meaning gs) c d
   same_fatoms no_fatom no_fatom c d e s t = record { value = refl; rest = e }

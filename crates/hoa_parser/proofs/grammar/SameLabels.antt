@@ -6,7 +6,7 @@ use Rattle.std.proofs.lemmas.List.{append_assoc}
 use Rattle.hoa_lexer.specs.declared.token.Token.{Token}
 use Rattle.hoa_lexer.specs.declared.token.Token.TheVariants.{Bang, Amp, Bar, LeftParen, RightParen}
 use Rattle.hoa_parser.specs.Raw as raw
-use Rattle.hoa_parser.specs.Grammar.{Label, Lands, Lnots, Lnot, conjunction, disjunction, label_tokens, lands_tokens, lnots_tokens, lnot_tokens}
+use Rattle.hoa_parser.specs.Grammar.{Label, Lands, Lnots, Lnot, raw_conjunction, disjunction, label_tokens, lands_tokens, lnots_tokens, lnot_tokens}
 use Rattle.hoa_parser.specs.Grammar.{label_meaning, lands_meaning, lnots_meaning, lnot_meaning}
 use Rattle.hoa_parser.specs.Grammar.Label.{label}
 use Rattle.hoa_parser.specs.Grammar.Lands.{no_land, or_land}
@@ -28,7 +28,7 @@ mutual
       (sym (append_three (lnot_tokens f) (lnots_tokens fs) (lands_tokens ls) c) ∙ e ∙ append_three (lnot_tokens g) (lnots_tokens gs) (lands_tokens ms) d) in
       let b = same_lnots fs gs (lands_tokens ls ++ c) (lands_tokens ms ++ d) a.rest (lands_stop ls c s) (lands_stop ms d t) in
       let k = same_lands ls ms c d b.rest s t in
-      record { value = ap₃ (λ x y z. disjunction (conjunction x y) z) a.value b.value k.value; rest = k.rest }
+      record { value = ap₃ (λ x y z. disjunction (raw_conjunction x y) z) a.value b.value k.value; rest = k.rest }
 
   pub same_lands : (ls ms : Lands) (c d : List Token) → lands_tokens ls ++ c ≡ lands_tokens ms ++ d → Stops is_join c → Stops is_join d → IsSame (lands_meaning ls) (lands_meaning ms) c d
   same_lands no_land no_land c d e s t = record { value = refl; rest = e }
@@ -39,7 +39,7 @@ mutual
       (sym (append_three (lnot_tokens f) (lnots_tokens fs) (lands_tokens ls) c) ∙ later_tokens Bar Bar _ _ e ∙ append_three (lnot_tokens g) (lnots_tokens gs) (lands_tokens ms) d) in
       let b = same_lnots fs gs (lands_tokens ls ++ c) (lands_tokens ms ++ d) a.rest (lands_stop ls c s) (lands_stop ms d t) in
       let k = same_lands ls ms c d b.rest s t in
-      record { value = ap₃ (λ x y z. conjunction x y ∷ z) a.value b.value k.value; rest = k.rest }
+      record { value = ap₃ (λ x y z. raw_conjunction x y ∷ z) a.value b.value k.value; rest = k.rest }
 
   pub same_lnots : (fs gs : Lnots) (c d : List Token) → lnots_tokens fs ++ c ≡ lnots_tokens gs ++ d → Stops is_amp c → Stops is_amp d → IsSame (lnots_meaning fs) (lnots_meaning gs) c d
   same_lnots no_lnot no_lnot c d e s t = record { value = refl; rest = e }

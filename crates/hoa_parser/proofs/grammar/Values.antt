@@ -13,7 +13,7 @@ use Rattle.hoa_parser.proofs.reading.Steps.{fails_after, reads_as, reads_then, t
 use Rattle.hoa_parser.specs.inner.Parsing.{Advanced, Cursor, FailsAt, Passed, ReadsTo, State, Unadvanced, is_end}
 use Rattle.hoa_parser.specs.Standing.{most_depth}
 use Rattle.hoa_parser.specs.declared.fault.ReadFault.{ReadFault}
-use Rattle.hoa_parser.specs.inner.RuleReads.{AddsMarks, AddsNumbers, AreMarks, IsConj, IsNumber, is_value, token_of, values_part}
+use Rattle.hoa_parser.specs.inner.RuleReads.{AddsMarks, AddsNumbers, AreMarks, IsConj, IsIntToken, is_value, token_of, values_part}
 
 -- a list of what is spelled so
 abbrev pub AreSpelled : {V : Type 0} → (V → Token) → Cursor → Cursor → Type 0
@@ -28,9 +28,9 @@ pub record IsOneOf {V : Type 0} (part : Part) (spelled : V → Token) (z : Token
   pub room : nat_le (open_at (part ∷ [])) most_depth ≡ true
 
 -- it was taken, or it is what the reading ends at
-pub one_more : {V : Type 0} {part : Part} {spelled : V → Token} {s m s' : State} → IsOneOf part spelled m.ahead → ReadsTo (part ∷ []) (part ∷ []) (AreSpelled spelled) s m → Advanced m s'
+pub one_spelled : {V : Type 0} {part : Part} {spelled : V → Token} {s m s' : State} → IsOneOf part spelled m.ahead → ReadsTo (part ∷ []) (part ∷ []) (AreSpelled spelled) s m → Advanced m s'
     → ReadsTo (part ∷ []) (part ∷ []) (AreSpelled spelled) s s'
-one_more {part = part} {spelled = spelled} {m = m} one before next =
+one_spelled {part = part} {spelled = spelled} {m = m} one before next =
     reads_as (λ a c h. (h.1.0 ++ one.value ∷ [], spelled_more spelled h.1.0 one.value (h.1.0 ++ one.value ∷ []) a h.0 c refl h.1.1 (subst (λ (t : Token). Passed h.0 (t ∷ []) c) one.is h.2)))
     (reads_then before (takes part [] m.ahead refl one.taken one.room one.unended next))
 
@@ -77,7 +77,7 @@ numbers_more before numbers news n a b c is p q = (
 )
 
 -- the whole of a conjunction, and of marks in braces
-pub conj_whole : (first : ℕ) (before numbers : List ℕ) (a b c : Cursor) → before ≡ first ∷ [] → IsNumber first a b → AddsNumbers before numbers b c → IsConj numbers a c
+pub conj_whole : (first : ℕ) (before numbers : List ℕ) (a b c : Cursor) → before ≡ first ∷ [] → IsIntToken first a b → AddsNumbers before numbers b c → IsConj numbers a c
 conj_whole first before numbers a b c is p q = record {
   phrase = record { first = first; others = q.0 };
   within = tt;

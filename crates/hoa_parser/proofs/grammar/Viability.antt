@@ -5,8 +5,8 @@ use Rattle.std.proofs.lemmas.List.{append_assoc, append-nil}
 use Rattle.hoa_lexer.specs.declared.token.Token.{Token}
 use Rattle.hoa_lexer.specs.declared.token.Token.TheVariants as token
 use Rattle.hoa_parser.specs.inner.Expecting as part
-use Rattle.hoa_parser.specs.inner.Expecting.{Part, Move, Takes, Passes, Refuses, after, after_some, behind, moved, move, open_at}
-use Rattle.hoa_parser.specs.Grammar.{IsViable, Spells, acc_value_token, automaton_meaning, value_token}
+use Rattle.hoa_parser.specs.inner.Expecting.{Part, TokenUse, Takes, Passes, Refuses, parts_after, after_some, parts_behind, moved, move, open_at}
+use Rattle.hoa_parser.specs.Grammar.{IsViable, SpellsAutomaton, acc_value_token, automaton_meaning, value_token}
 use Rattle.hoa_parser.specs.Grammar.AccValue.{acc_number, acc_word}
 use Rattle.hoa_parser.specs.Grammar.Condition.{condition}
 use Rattle.hoa_parser.specs.Grammar.Fands.{no_fand, or_fand}
@@ -122,27 +122,27 @@ taken_derives most p ps others parts z u true l w e d =
     (z ∷ x.before, x.rest, w (leb-true (open_at ps) most (sym l)) x.before x.first, x.later, ap (λ y. z ∷ y) x.split)
 taken_derives most p ps others parts z u false l w e d = absurd (none_some parts e)
 
-moved_derives : (most : ℕ) (p : Part) (others parts : List Part) (z : Token) (u : List Token) (m : Move) → Writes most p z m → moved most m (behind most others z) others ≡ Some parts
-    → Derives most parts u → (behind most others z ≡ Some parts → Derives most others (z ∷ u)) → Derives most (p ∷ others) (z ∷ u)
+moved_derives : (most : ℕ) (p : Part) (others parts : List Part) (z : Token) (u : List Token) (m : TokenUse) → Writes most p z m → moved most m (parts_behind most others z) others ≡ Some parts
+    → Derives most parts u → (parts_behind most others z ≡ Some parts → Derives most others (z ∷ u)) → Derives most (p ∷ others) (z ∷ u)
 moved_derives most p others parts z u (Takes ps) w e d later = taken_derives most p ps others parts z u (leb (open_at ps) most) refl w e d
 moved_derives most p others parts z u Passes w e d later = ([], z ∷ u, w, later e, refl)
 moved_derives most p others parts z u Refuses w e d later = absurd (none_some parts e)
 
-behind_derives : (most : ℕ) (ps parts : List Part) (z : Token) (u : List Token) → behind most ps z ≡ Some parts → Derives most parts u → Derives most ps (z ∷ u)
+behind_derives : (most : ℕ) (ps parts : List Part) (z : Token) (u : List Token) → parts_behind most ps z ≡ Some parts → Derives most parts u → Derives most ps (z ∷ u)
 behind_derives most [] parts z u e d = absurd (none_some parts e)
 behind_derives most (p ∷ others) parts z u e d = moved_derives most p others parts z u (move p z) (writes most p z) e d (λ h. behind_derives most others parts z u h d)
 
-step_derives : (most : ℕ) (ps left : List Part) (z : Token) (ts u : List Token) (expected : Option (List Part)) → expected ≡ behind most ps z → after_some most expected ts ≡ Some left
-    → ((parts : List Part) → after most parts ts ≡ Some left → Derives most parts (ts ++ u)) → Derives most ps (z ∷ (ts ++ u))
+step_derives : (most : ℕ) (ps left : List Part) (z : Token) (ts u : List Token) (expected : Option (List Part)) → expected ≡ parts_behind most ps z → after_some most expected ts ≡ Some left
+    → ((parts : List Part) → parts_after most parts ts ≡ Some left → Derives most parts (ts ++ u)) → Derives most ps (z ∷ (ts ++ u))
 step_derives most ps left z ts u None is e later = absurd (none_some left e)
 step_derives most ps left z ts u (Some parts) is e later = behind_derives most ps parts z (ts ++ u) (sym is) (later parts e)
 
-after_derives : (most : ℕ) (ts : List Token) (ps left : List Part) (u : List Token) → after most ps ts ≡ Some left → Derives most left u → Derives most ps (ts ++ u)
+after_derives : (most : ℕ) (ts : List Token) (ps left : List Part) (u : List Token) → parts_after most ps ts ≡ Some left → Derives most left u → Derives most ps (ts ++ u)
 after_derives most [] ps left u e d = subst (λ (x : List Part). Derives most x u) (let same : left ≡ ps = cc in same) d
-after_derives most (t ∷ ts) ps left u e d = step_derives most ps left t ts u (behind most ps t) refl e (λ parts h. after_derives most ts parts left u h d)
+after_derives most (t ∷ ts) ps left u e d = step_derives most ps left t ts u (parts_behind most ps t) refl e (λ parts h. after_derives most ts parts left u h d)
 
 -- Where tokens can stand one after the other, an automaton may begin with them.
-pub viable : (most : ℕ) (ts : List Token) (left : List Part) → after most (part.Whole ∷ []) ts ≡ Some left → IsViable most ts
+pub viable : (most : ℕ) (ts : List Token) (left : List Part) → parts_after most (part.Whole ∷ []) ts ≡ Some left → IsViable most ts
 viable most ts left e =
     let rest = completable most left in
     let whole = single most part.Whole (ts ++ rest.tokens) (after_derives most ts (part.Whole ∷ []) left rest.tokens e rest.derives) in
@@ -153,7 +153,7 @@ viable most ts left e =
     }
 
 -- Where nothing is expected behind them, they spell one.
-pub whole_so : (most : ℕ) (ts : List Token) → after most (part.Whole ∷ []) ts ≡ Some [] → (w : Written) × Spells most ts w
+pub whole_so : (most : ℕ) (ts : List Token) → parts_after most (part.Whole ∷ []) ts ≡ Some [] → (w : Written) × SpellsAutomaton most ts w
 whole_so most ts e =
     let whole = single most part.Whole (ts ++ []) (after_derives most ts (part.Whole ∷ []) [] [] e refl) in
     (automaton_meaning whole.phrase, record { phrase = whole.phrase; within = whole.keeps; spelled = sym (append-nil ts) ∙ whole.spelled; means = refl })

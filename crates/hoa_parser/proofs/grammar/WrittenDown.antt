@@ -4,7 +4,7 @@ use Rattle.std.specs.Prelude.{codes}
 use Rattle.std.specs.Option.{option_map}
 use Rattle.hoa_lexer.specs.declared.token.Token.{Token}
 use Rattle.hoa_lexer.specs.declared.token.Token.TheVariants.{HeaderName, Int, Alias, LeftBracket, RightBracket}
-use Rattle.hoa_parser.specs.Grammar.{AutomatonPhrase, AutomatonWithin, EdgePhrase, ItemPhrase, ItemWithin, Label, OptionalWithin, Spells, StatePhrase}
+use Rattle.hoa_parser.specs.Grammar.{AutomatonPhrase, AutomatonWithin, EdgePhrase, ItemPhrase, ItemWithin, Label, OptionalWithin, SpellsAutomaton, StatePhrase}
 use Rattle.hoa_parser.specs.Grammar.{StateWithin, automaton_meaning, automaton_tokens, condition_meaning, edge_meaning, edge_tokens, item_meaning}
 use Rattle.hoa_parser.specs.Grammar.{item_tokens, label_meaning, marks_meaning, optional_label, optional_marks, state_meaning, state_tokens}
 use Rattle.hoa_parser.specs.Grammar.ItemPhrase.{states_item, start_item, names_item, alias_item, acceptance_item, acc_name_item, tool_item, name_item, properties_item, other_item}
@@ -178,6 +178,6 @@ written_down_is_read ts w text s apart =
       record {
         placed = read.placed;
         lexes = read.lexes;
-        spells = subst (λ (us : List Token). Spells most_depth us w) (sym read.tokens) (can_be_written_down most_depth ts w s);
+        spells = subst (λ (us : List Token). SpellsAutomaton most_depth us w) (sym read.tokens) (can_be_written_down most_depth ts w s);
       },
     )

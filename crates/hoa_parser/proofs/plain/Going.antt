@@ -7,8 +7,9 @@ use Rattle.hoa_parser.specs.Grammar.{label_tokens, lands_tokens, lnots_tokens, l
 use Rattle.hoa_parser.specs.declared.parse.plain.Next.{Next}
 use Rattle.hoa_parser.specs.declared.parse.plain.Next.TheVariants as next
 use Rattle.hoa_parser.specs.inner.AtHand.{next_token}
-use Rattle.hoa_parser.specs.inner.Expecting.{Part, Number, MoreNumbers, ClosingBracket, MaybeLabel, MaybeMarks, MaybeQuoted, Marks, Edges, States, after, behind, conj_parts, label_parts}
-use Rattle.hoa_parser.specs.inner.Parsing.{Cursor, Goes, Passed, Unended}
+use Rattle.hoa_parser.specs.inner.Expecting.{Part, Number, MoreNumbers, ClosingBracket, MaybeLabel, MaybeMarks, MaybeQuoted, Marks, Edges, States}
+use Rattle.hoa_parser.specs.inner.Expecting.{parts_after, parts_behind, conj_parts, expected_label}
+use Rattle.hoa_parser.specs.inner.Parsing.{Cursor, PassesTokens, Passed, Unended}
 use Rattle.hoa_parser.specs.Standing.{most_depth}
 use Rattle.hoa_parser.proofs.grammar.AfterLabels.{taken, left, regrouped, label_follows}
 use Rattle.hoa_parser.proofs.reading.Bodies.{state_name, state_rest}
@@ -51,11 +52,11 @@ abbrev behind_marks : Option (List ℕ) → List Part
 behind_marks None = MoreNumbers ∷ MaybeMarks ∷ Edges ∷ []
 behind_marks (Some marks) = Edges ∷ []
 
-marks_go : (ns : List ℕ) (others : List Part) → after most_depth (Marks ∷ others) (map token.Int ns ++ token.RightBrace ∷ []) ≡ Some others
+marks_go : (ns : List ℕ) (others : List Part) → parts_after most_depth (Marks ∷ others) (map token.Int ns ++ token.RightBrace ∷ []) ≡ Some others
 marks_go [] others = taken most_depth Marks [] others token.RightBrace [] refl (omega arith)
 marks_go (n ∷ ns) others = taken most_depth Marks (Marks ∷ []) others (token.Int n) (map token.Int ns ++ token.RightBrace ∷ []) refl (omega arith) ∙ marks_go ns others
 
-goal_goes : (marks : Option (List ℕ)) (others : List Part) → after most_depth (MoreNumbers ∷ MaybeMarks ∷ Edges ∷ others) (optional_marks marks) ≡ Some (behind_marks marks ++ others)
+goal_goes : (marks : Option (List ℕ)) (others : List Part) → parts_after most_depth (MoreNumbers ∷ MaybeMarks ∷ Edges ∷ others) (optional_marks marks) ≡ Some (behind_marks marks ++ others)
 goal_goes None others = refl
 goal_goes (Some marks) others =
     left most_depth MoreNumbers (MaybeMarks ∷ Edges ∷ others) (optional_marks (Some marks)) refl
@@ -67,25 +68,26 @@ abbrev pub plain_tokens : Label → ℕ → Option (List ℕ) → List Token
 plain_tokens l n marks = optional_label (Some l) ++ (token.Int n ∷ optional_marks marks)
 
 leads_edge : (l : Label) (n : ℕ) (marks : Option (List ℕ)) (others : List Part) → LabelWithin most_depth 0 l
-    → after most_depth (Edges ∷ others) (plain_tokens l n marks) ≡ Some (behind_marks marks ++ others)
+    → parts_after most_depth (Edges ∷ others) (plain_tokens l n marks) ≡ Some (behind_marks marks ++ others)
 leads_edge l n marks others w =
     let c : List Token = token.Int n ∷ optional_marks marks in
     let parts : List Part = conj_parts ++ MaybeMarks ∷ Edges ∷ others in
-    taken most_depth Edges (label_parts 0 ++ ClosingBracket ∷ (conj_parts ++ MaybeMarks ∷ Edges ∷ [])) others token.LeftBracket ((label_tokens l ++ token.RightBracket ∷ []) ++ c) refl (omega arith)
-    ∙ regrouped most_depth (label_parts 0 ++ ClosingBracket ∷ parts) (label_tokens l) (token.RightBracket ∷ []) c
+    taken most_depth Edges (expected_label 0 ++ ClosingBracket ∷ (conj_parts ++ MaybeMarks ∷ Edges ∷ [])) others token.LeftBracket ((label_tokens l ++ token.RightBracket ∷ []) ++ c) refl (omega arith)
+    ∙ regrouped most_depth (expected_label 0 ++ ClosingBracket ∷ parts) (label_tokens l) (token.RightBracket ∷ []) c
     ∙ label_follows most_depth 0 l (ClosingBracket ∷ parts) (token.RightBracket ∷ c) (omega arith) w refl refl
     ∙ taken most_depth ClosingBracket [] parts token.RightBracket c refl (omega arith)
     ∙ taken most_depth Number [] (MoreNumbers ∷ MaybeMarks ∷ Edges ∷ others) (token.Int n) (optional_marks marks) refl (omega arith)
     ∙ goal_goes marks others
 
-over_marks : (n : Next) (marks : Option (List ℕ)) (z : Token) (most : ℕ) (others : List Part) → z ≡ next_token n → behind most (behind_marks marks ++ others) z ≡ behind most (Edges ∷ others) z
-over_marks next.Edge None z most others e = subst (λ (t : Token). behind most (behind_marks None ++ others) t ≡ behind most (Edges ∷ others) t) (sym e) refl
-over_marks next.State None z most others e = subst (λ (t : Token). behind most (behind_marks None ++ others) t ≡ behind most (Edges ∷ others) t) (sym e) refl
+over_marks : (n : Next) (marks : Option (List ℕ)) (z : Token) (most : ℕ) (others : List Part) → z ≡ next_token n
+    → parts_behind most (behind_marks marks ++ others) z ≡ parts_behind most (Edges ∷ others) z
+over_marks next.Edge None z most others e = subst (λ (t : Token). parts_behind most (behind_marks None ++ others) t ≡ parts_behind most (Edges ∷ others) t) (sym e) refl
+over_marks next.State None z most others e = subst (λ (t : Token). parts_behind most (behind_marks None ++ others) t ≡ parts_behind most (Edges ∷ others) t) (sym e) refl
 over_marks n (Some marks) z most others e = refl
 
 -- An edge with a label was passed, and what begins behind it is at hand.
 pub edge_goes : (k : Next) (l : Label) (n : ℕ) (marks : Option (List ℕ)) (a b : Cursor) → LabelWithin most_depth 0 l → Passed a (plain_tokens l n marks) b → b.token ≡ next_token k
-    → Goes (Edges ∷ []) a (Edges ∷ []) b
+    → PassesTokens (Edges ∷ []) a (Edges ∷ []) b
 edge_goes k l n marks a b w passed at = record {
   tokens = plain_tokens l n marks;
   passed = passed;
@@ -101,7 +103,7 @@ abbrev behind_head : Option (List ℕ) → List Part
 behind_head None = MaybeQuoted ∷ MaybeMarks ∷ Edges ∷ States ∷ []
 behind_head (Some marks) = Edges ∷ States ∷ []
 
-number_goes : (marks : Option (List ℕ)) (others : List Part) → after most_depth (MaybeQuoted ∷ MaybeMarks ∷ Edges ∷ States ∷ others) (optional_marks marks) ≡ Some (behind_head marks ++ others)
+number_goes : (marks : Option (List ℕ)) (others : List Part) → parts_after most_depth (MaybeQuoted ∷ MaybeMarks ∷ Edges ∷ States ∷ others) (optional_marks marks) ≡ Some (behind_head marks ++ others)
 number_goes None others = refl
 number_goes (Some marks) others =
     left most_depth MaybeQuoted (MaybeMarks ∷ Edges ∷ States ∷ others) (optional_marks (Some marks)) refl
@@ -112,7 +114,7 @@ number_goes (Some marks) others =
 abbrev pub plain_head_tokens : ℕ → Option (List ℕ) → List Token
 plain_head_tokens n marks = state_name ∷ token.Int n ∷ optional_marks marks
 
-leads_head : (n : ℕ) (marks : Option (List ℕ)) (others : List Part) → after most_depth (States ∷ others) (plain_head_tokens n marks) ≡ Some (behind_head marks ++ others)
+leads_head : (n : ℕ) (marks : Option (List ℕ)) (others : List Part) → parts_after most_depth (States ∷ others) (plain_head_tokens n marks) ≡ Some (behind_head marks ++ others)
 leads_head n marks others =
     let c : List Token = token.Int n ∷ optional_marks marks in
     let parts : List Part = Number ∷ MaybeQuoted ∷ MaybeMarks ∷ Edges ∷ States ∷ others in
@@ -121,13 +123,14 @@ leads_head n marks others =
     ∙ taken most_depth Number [] (MaybeQuoted ∷ MaybeMarks ∷ Edges ∷ States ∷ others) (token.Int n) (optional_marks marks) refl (omega arith)
     ∙ number_goes marks others
 
-over_head : (n : Next) (marks : Option (List ℕ)) (z : Token) (most : ℕ) (others : List Part) → z ≡ next_token n → behind most (behind_head marks ++ others) z ≡ behind most (Edges ∷ States ∷ others) z
-over_head next.Edge None z most others e = subst (λ (t : Token). behind most (behind_head None ++ others) t ≡ behind most (Edges ∷ States ∷ others) t) (sym e) refl
-over_head next.State None z most others e = subst (λ (t : Token). behind most (behind_head None ++ others) t ≡ behind most (Edges ∷ States ∷ others) t) (sym e) refl
+over_head : (n : Next) (marks : Option (List ℕ)) (z : Token) (most : ℕ) (others : List Part) → z ≡ next_token n
+    → parts_behind most (behind_head marks ++ others) z ≡ parts_behind most (Edges ∷ States ∷ others) z
+over_head next.Edge None z most others e = subst (λ (t : Token). parts_behind most (behind_head None ++ others) t ≡ parts_behind most (Edges ∷ States ∷ others) t) (sym e) refl
+over_head next.State None z most others e = subst (λ (t : Token). parts_behind most (behind_head None ++ others) t ≡ parts_behind most (Edges ∷ States ∷ others) t) (sym e) refl
 over_head n (Some marks) z most others e = refl
 
 -- A state was passed up to its edges, and what begins behind it is at hand.
-pub head_goes : (k : Next) (n : ℕ) (marks : Option (List ℕ)) (a b : Cursor) → Passed a (plain_head_tokens n marks) b → b.token ≡ next_token k → Goes (States ∷ []) a (Edges ∷ States ∷ []) b
+pub head_goes : (k : Next) (n : ℕ) (marks : Option (List ℕ)) (a b : Cursor) → Passed a (plain_head_tokens n marks) b → b.token ≡ next_token k → PassesTokens (States ∷ []) a (Edges ∷ States ∷ []) b
 head_goes k n marks a b passed at = record {
   tokens = plain_head_tokens n marks;
   passed = passed;

@@ -1,7 +1,7 @@
 -- Bytes at hand that were passed, up to a byte or a word.
 use Rattle.std.proofs.Common.{◌≡◌, ℕ, suc, zero, ◌-◌, ◌≤◌, Bool, List, [], ◌∷◌, ◌++◌, length, take, Option, None, refl, sym, ap, subst, ◌∙◌, arith}
 use Rattle.std.proofs.lemmas.List.{append_assoc, length-append, take-take, take_at}
-use Rattle.hoa_lexer.specs.Spelling.{Ends, StopsAt}
+use Rattle.hoa_lexer.specs.Spelling.{IsDelimited, StopsAt}
 use Rattle.hoa_lexer.specs.declared.token.Token.{Token}
 use Rattle.hoa_lexer.specs.declared.token.Token.TheVariants as token
 use Rattle.hoa_parser.specs.inner.Parsing.{Cursor}
@@ -13,7 +13,7 @@ stops_front : (p : ℕ → Bool) (front : List ℕ) (b : ℕ) (u v : List ℕ) �
 stops_front p [] b u v h = h
 stops_front p (c ∷ front) b u v h = h
 
-ends_front : (t : Token) (front : List ℕ) (b : ℕ) (u v : List ℕ) → Ends t (front ++ b ∷ u) → Ends t (front ++ b ∷ v)
+ends_front : (t : Token) (front : List ℕ) (b : ℕ) (u v : List ℕ) → IsDelimited t (front ++ b ∷ u) → IsDelimited t (front ++ b ∷ v)
 ends_front (token.Identifier name) front b u v h = (stops_front _ front b u v h.0, stops_front _ front b u v h.1)
 ends_front (token.Int zero) front b u v h = tt
 ends_front (token.Int (suc n)) front b u v h = stops_front _ front b u v h
@@ -40,7 +40,7 @@ spelled_before (t ∷ ts) x b next s =
         s.3.word ++ (k.front ++ b ∷ v),
         k.front ++ b ∷ v,
         record { before = s.2.before; split = regrouped s.2.before s.3.word k.front (b ∷ v); blanks = s.2.blanks },
-        record { word = s.3.word; split = refl; spells = s.3.spells; ends = ends_front t k.front b next v (subst (Ends t) k.split s.3.ends) },
+        record { word = s.3.word; split = refl; spells = s.3.spells; ends = ends_front t k.front b next v (subst (IsDelimited t) k.split s.3.ends) },
         k.again v,
       );
     }

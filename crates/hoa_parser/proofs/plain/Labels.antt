@@ -2,14 +2,14 @@
 use Rattle.std.proofs.Common.{◌≡◌, ℕ, ◌≤◌, List, [], ◌∷◌, ◌++◌, length, lit≤, refl, sym, ap, subst, ◌∙◌}
 use Rattle.std.specs.Prelude.{codes}
 use Rattle.std.proofs.lemmas.List.{append-nil, append_assoc}
-use Rattle.hoa_lexer.specs.Spelling.{Ends, IsIdentifier}
+use Rattle.hoa_lexer.specs.Spelling.{IsDelimited, IsIdentifier}
 use Rattle.hoa_lexer.specs.Text.{IsFront}
-use Rattle.hoa_lexer.specs.inner.Steps.{Skips}
+use Rattle.hoa_lexer.specs.inner.Steps.{PassesBlanks}
 use Rattle.hoa_lexer.specs.declared.token.Token.{Token}
 use Rattle.hoa_lexer.specs.declared.token.Token.TheVariants as token
 use Rattle.hoa_lexer.proofs.next_token.Fronts.{skips_none}
 use Rattle.hoa_lexer.proofs.spelling.FirstBytes.{mark_front}
-use Rattle.hoa_parser.specs.Grammar.{Label, Lands, Lnot, Lnots, LabelWithin, LandsWithin, LnotWithin, LnotsWithin, and_lnot, conjunction, disjunction, false_label, group, label, label_tokens}
+use Rattle.hoa_parser.specs.Grammar.{Label, Lands, Lnot, Lnots, LabelWithin, LandsWithin, LnotWithin, LnotsWithin, and_lnot, raw_conjunction, disjunction, false_label, group, label, label_tokens}
 use Rattle.hoa_parser.specs.Grammar.{lands_meaning, lands_tokens, lnot_meaning, lnot_tokens, lnots_meaning, lnots_tokens, negated, no_land, no_lnot, or_land, proposition, true_label}
 use Rattle.hoa_parser.specs.inner.RuleReads.{LandPhrase, LandWithin, land_meaning, land_tokens}
 use Rattle.hoa_parser.specs.Raw as raw
@@ -17,15 +17,15 @@ use Rattle.hoa_parser.specs.Raw.{RawTree, raw_list, raw_parts, raw_tree, raw_tre
 use Rattle.hoa_parser.specs.Standing.{most_depth}
 use Rattle.hoa_parser.specs.declared.raw.RawLabel.{RawLabel}
 use Rattle.hoa_parser.specs.declared.raw.RawLabels.{RawLabels}
-use Rattle.hoa_parser.specs.inner.AtHand.{AreFactors, AreLiterals, AreMoreFactors, AreMoreLiterals, IsConjunction, IsFactor, IsGrouped, IsLabel, IsLiteral, IsNumber, IsSigned, Spelled}
+use Rattle.hoa_parser.specs.inner.AtHand.{AreFactors, AreLiterals, AreMoreFactors, AreMoreLiterals, IsConjunctionText, IsFactor, IsGrouped, IsLabel, IsLiteral, IsIntText, IsSigned, Spelled}
 use Rattle.hoa_parser.specs.inner.AtHand.{factors_meaning, literals_meaning}
 use Rattle.hoa_parser.proofs.plain.Passing.{spelled_then}
 use Rattle.hoa_parser.proofs.plain.Signs.{same_tokens, sign_alone, sign_then, spelled_length}
 
-pub number_label : (l : RawLabel) (n : ℕ) (x y : List ℕ) → raw_tree l ≡ raw.Prop n → IsNumber n x y → IsLiteral l x y
+pub number_label : (l : RawLabel) (n : ℕ) (x y : List ℕ) → raw_tree l ≡ raw.Prop n → IsIntText n x y → IsLiteral l x y
 number_label l n x y is s = record { phrase = proposition n; within = λ d m. tt; spelled = s; means = is }
 
-pub negated_label : (l : RawLabel) (n b : ℕ) (w x y : List ℕ) → raw_tree l ≡ raw.Not (raw.Prop n) → w ≡ b ∷ x → b ≡ 33 → IsNumber n x y → IsLiteral l w y
+pub negated_label : (l : RawLabel) (n b : ℕ) (w x y : List ℕ) → raw_tree l ≡ raw.Not (raw.Prop n) → w ≡ b ∷ x → b ≡ 33 → IsIntText n x y → IsLiteral l w y
 negated_label l n b w x y is first bang s = subst (λ (v : List ℕ). IsLiteral l v y) (sym first) (record {
   phrase = negated (proposition n);
   within = λ d m. (m, tt);
@@ -33,10 +33,10 @@ negated_label l n b w x y is first bang s = subst (λ (v : List ℕ). IsLiteral 
   means = is;
 })
 
-letter : (word : List ℕ) (b : ℕ) (x : List ℕ) → word ≡ b ∷ [] → IsIdentifier word → Ends (token.Identifier word) x → IsFront (b ∷ x) (token.Identifier word) x
+letter : (word : List ℕ) (b : ℕ) (x : List ℕ) → word ≡ b ∷ [] → IsIdentifier word → IsDelimited (token.Identifier word) x → IsFront (b ∷ x) (token.Identifier word) x
 letter word b x is identifier ends = record { word = word; split = ap (λ w. w ++ x) (sym is); spells = (identifier, refl); ends = ends }
 
-pub true_front : (l : RawLabel) (b : ℕ) (w x y : List ℕ) → raw_tree l ≡ raw.True → w ≡ b ∷ x → b ≡ 116 → Ends (token.Identifier (codes "t")) x → Skips x y → IsLiteral l w y
+pub true_front : (l : RawLabel) (b : ℕ) (w x y : List ℕ) → raw_tree l ≡ raw.True → w ≡ b ∷ x → b ≡ 116 → IsDelimited (token.Identifier (codes "t")) x → PassesBlanks x y → IsLiteral l w y
 true_front l b w x y is first same ends s = subst (λ (v : List ℕ). IsLiteral l v y) (sym first) (record {
   phrase = true_label;
   within = λ d m. tt;
@@ -44,7 +44,7 @@ true_front l b w x y is first same ends s = subst (λ (v : List ℕ). IsLiteral 
   means = is;
 })
 
-pub false_front : (l : RawLabel) (b : ℕ) (w x y : List ℕ) → raw_tree l ≡ raw.False → w ≡ b ∷ x → b ≡ 102 → Ends (token.Identifier (codes "f")) x → Skips x y → IsLiteral l w y
+pub false_front : (l : RawLabel) (b : ℕ) (w x y : List ℕ) → raw_tree l ≡ raw.False → w ≡ b ∷ x → b ≡ 102 → IsDelimited (token.Identifier (codes "f")) x → PassesBlanks x y → IsLiteral l w y
 false_front l b w x y is first same ends s = subst (λ (v : List ℕ). IsLiteral l v y) (sym first) (record {
   phrase = false_label;
   within = λ d m. tt;
@@ -82,7 +82,7 @@ lands_or_tokens (or_land f fs ls) p =
 
 lands_or_meaning : (ls : Lands) (p : LandPhrase) → lands_meaning ls ++ land_meaning p ∷ [] ≡ lands_meaning (lands_or ls p)
 lands_or_meaning no_land p = refl
-lands_or_meaning (or_land f fs ls) p = ap (λ ts. conjunction (lnot_meaning f) (lnots_meaning fs) ∷ ts) (lands_or_meaning ls p)
+lands_or_meaning (or_land f fs ls) p = ap (λ ts. raw_conjunction (lnot_meaning f) (lnots_meaning fs) ∷ ts) (lands_or_meaning ls p)
 
 lands_or_within : (ls : Lands) (p : LandPhrase) → LandsWithin most_depth 0 ls → LandWithin 0 p → LandsWithin most_depth 0 (lands_or ls p)
 lands_or_within no_land p w v = (v.0, v.1, tt)
@@ -110,10 +110,10 @@ literals_and us vs l x y z w is s sign k =
           ∙ ap (λ ts. lnot_meaning p.first ∷ ts) (lnots_and_meaning p.others k.phrase);
     }
 
-pub literals_more : (first : RawTree) (us : List RawTree) (l : RawLabel) (x y : List ℕ) → raw_tree l ≡ conjunction first us → AreLiterals us x y → AreMoreLiterals first l x y
-literals_more first us l x y is s = record { phrase = s.phrase; within = s.within; spelled = s.spelled; means = is ∙ ap (conjunction first) s.means }
+pub literals_more : (first : RawTree) (us : List RawTree) (l : RawLabel) (x y : List ℕ) → raw_tree l ≡ raw_conjunction first us → AreLiterals us x y → AreMoreLiterals first l x y
+literals_more first us l x y is s = record { phrase = s.phrase; within = s.within; spelled = s.spelled; means = is ∙ ap (raw_conjunction first) s.means }
 
-pub one_conjunction : (l : RawLabel) (x y : List ℕ) → IsLiteral l x y → IsConjunction l x y
+pub one_conjunction : (l : RawLabel) (x y : List ℕ) → IsLiteral l x y → IsConjunctionText l x y
 one_conjunction l x y s = record {
   phrase = record { first = s.phrase; others = no_lnot };
   within = λ d m. (s.within d m, tt);
@@ -121,16 +121,16 @@ one_conjunction l x y s = record {
   means = s.means;
 }
 
-pub conjunction_more : (f l : RawLabel) (x y z w : List ℕ) → IsLiteral f x y → IsSigned 38 y z → AreMoreLiterals (raw_tree f) l z w → IsConjunction l x w
+pub conjunction_more : (f l : RawLabel) (x y z w : List ℕ) → IsLiteral f x y → IsSigned 38 y z → AreMoreLiterals (raw_tree f) l z w → IsConjunctionText l x w
 conjunction_more f l x y z w s sign k = record {
   phrase = record { first = s.phrase; others = and_lnot k.phrase.first k.phrase.others };
   within = λ d m. (s.within d m, k.within d m);
   spelled = spelled_then (lnot_tokens s.phrase) (token.Amp ∷ land_tokens k.phrase) x y w s.spelled (sign_then token.Amp 38 (land_tokens k.phrase) y z w refl sign k.spelled);
-  means = k.means ∙ ap (λ t. conjunction t (literals_meaning k.phrase)) s.means;
+  means = k.means ∙ ap (λ t. raw_conjunction t (literals_meaning k.phrase)) s.means;
 }
 
 -- a conjunction in parentheses, or without
-pub grouped : (l : RawLabel) (x y z : List ℕ) → IsConjunction l x y → IsSigned 41 y z → IsGrouped l x z
+pub grouped : (l : RawLabel) (x y z : List ℕ) → IsConjunctionText l x y → IsSigned 41 y z → IsGrouped l x z
 grouped l x y z s sign = record {
   phrase = s.phrase;
   within = s.within;
@@ -152,7 +152,7 @@ group_factor l x y z sign s =
       means = s.means;
     }
 
-pub bare_factor : (l : RawLabel) (x y : List ℕ) → IsConjunction l x y → IsFactor l x y
+pub bare_factor : (l : RawLabel) (x y : List ℕ) → IsConjunctionText l x y → IsFactor l x y
 bare_factor l x y s = record { phrase = s.phrase; within = s.within 0 (lit≤ tt); spelled = s.spelled; means = s.means }
 
 -- a disjunction, part by part
@@ -174,7 +174,7 @@ label_or_tokens (label f fs ls) p =
     ∙ ap (λ ts. lnot_tokens f ++ ts) (append_assoc (lnots_tokens fs) (lands_tokens ls) (token.Bar ∷ land_tokens p) ∙ ap (λ ts. lnots_tokens fs ++ ts) (lands_or_tokens ls p))
 
 label_or_meaning : (l : Label) (p : LandPhrase) → factors_meaning l ++ land_meaning p ∷ [] ≡ factors_meaning (label_or l p)
-label_or_meaning (label f fs ls) p = ap (λ ts. conjunction (lnot_meaning f) (lnots_meaning fs) ∷ ts) (lands_or_meaning ls p)
+label_or_meaning (label f fs ls) p = ap (λ ts. raw_conjunction (lnot_meaning f) (lnots_meaning fs) ∷ ts) (lands_or_meaning ls p)
 
 label_or_within : (l : Label) (p : LandPhrase) → LabelWithin most_depth 0 l → LandWithin 0 p → LabelWithin most_depth 0 (label_or l p)
 label_or_within (label f fs ls) p w v = (w.0, w.1, lands_or_within ls p w.2 v)
@@ -222,7 +222,7 @@ pub record Parted (Are : List RawTree → List ℕ → List ℕ → Type 0) (fir
 
 abbrev all_and : List RawTree → RawTree
 all_and [] = raw.True
-all_and (t ∷ ts) = conjunction t ts
+all_and (t ∷ ts) = raw_conjunction t ts
 
 abbrev all_or : List RawTree → RawTree
 all_or [] = raw.False

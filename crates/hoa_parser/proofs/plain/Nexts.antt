@@ -3,7 +3,7 @@ use Rattle.std.proofs.Common.{◌≡◌, ℕ, ◌+◌, ◌-◌, ◌≤◌, false
 use Rattle.std.specs.Prelude.{codes}
 use Rattle.std.proofs.lemmas.List.{length-append}
 use Rattle.aut_io.specs.Seen.{Seen}
-use Rattle.hoa_lexer.specs.Moves.{Elsewhere, Moves}
+use Rattle.hoa_lexer.specs.Moves.{Elsewhere, MovesLexer}
 use Rattle.hoa_lexer.specs.Reading.{Tells, held_count, unread}
 use Rattle.hoa_lexer.specs.Spelling.{closes_itself}
 use Rattle.hoa_lexer.specs.Text.{IsFront}
@@ -20,7 +20,7 @@ use Rattle.hoa_parser.specs.declared.parse.plain.Next.TheVariants as next
 use Rattle.hoa_parser.specs.declared.raw.RawEdge.{RawEdge}
 use Rattle.hoa_parser.specs.inner.AtHand.{IsPlain, IsPlainHead, Spelled, next_word, next_token}
 use Rattle.hoa_parser.specs.inner.Expecting.{Edges, Part, States}
-use Rattle.hoa_parser.specs.inner.Parsing.{Cursor, Goes, Passed, ReadsTo, Relation, place, state}
+use Rattle.hoa_parser.specs.inner.Parsing.{Cursor, PassesTokens, Passed, ReadsTo, Relation, cursor_of, reader_state}
 use Rattle.hoa_parser.specs.inner.RuleReads.{IsEdge, IsHead}
 use Rattle.hoa_parser.proofs.plain.Going.{edge_goes, head_goes}
 use Rattle.hoa_parser.proofs.plain.Here.{Before, cursor_at, spelled_before, taken_of, word_taken}
@@ -72,12 +72,12 @@ passed_next ts n bytes left a b s at none taken o u =
 
 -- what is so of the places, where the tokens were passed
 abbrev Said : List Token → List Part → List Part → Relation → Next → Token → Type 0
-Said ts parts target A n z = (a b : Cursor) → a.token ≡ z → b.token ≡ next_token n → Passed a (a.token ∷ ts) b → A a b × Goes parts a target b
+Said ts parts target A n z = (a b : Cursor) → a.token ≡ z → b.token ≡ next_token n → Passed a (a.token ∷ ts) b → A a b × PassesTokens parts a target b
 
 reads_next : (ts : List Token) (parts target : List Part) (A : Relation) (n : Next) (bytes left hand : List ℕ) (count : ℕ) (z z' : Token) (l l' : Lexer) (seen seen' : Seen)
     → Said ts parts target A n z → Spelled bytes ts (next_word n ++ left) → z' ≡ next_token n → l.held ≡ None → l'.held ≡ None → bytes ≡ take (length bytes) hand
-    → count ≡ length bytes - length left → Tells seen seen' (λ x y. x ≡ take count hand ++ y) → l'.offset + length (next_word n) ≡ l'.since → Moves Elsewhere l l' seen seen' → l'.spent ≡ false
-    → ReadsTo parts target A (state l z seen) (state l' z' seen')
+    → count ≡ length bytes - length left → Tells seen seen' (λ x y. x ≡ take count hand ++ y) → l'.offset + length (next_word n) ≡ l'.since → MovesLexer Elsewhere l l' seen seen' → l'.spent ≡ false
+    → ReadsTo parts target A (reader_state l z seen) (reader_state l' z' seen')
 reads_next ts parts target A n bytes left hand count z z' l l' seen seen' said s at none none' front is passes last moves unspent = record {
   moves = moves;
   spent = unspent;
@@ -88,8 +88,8 @@ reads_next ts parts target A n bytes left hand count z z' l l' seen seen' said s
       let no : held_count l.held ≡ 0 = ap held_count none in
       let no' : held_count l'.held ≡ 0 = ap held_count none' in
       let few : length bytes - length left ≤ length bytes = omega arith in
-      said (place (state l z seen) x) (place (state l' z' seen') y) refl at
-      (passed_next ts n bytes left (place (state l z seen) x) (place (state l' z' seen') y) s at none'
+      said (cursor_of (reader_state l z seen) x) (cursor_of (reader_state l' z' seen') y) refl at
+      (passed_next ts n bytes left (cursor_of (reader_state l z seen) x) (cursor_of (reader_state l' z' seen') y) s at none'
       (open_x ∙ taken_of (length bytes - length left) (length bytes) hand bytes x y front few (e ∙ ap (λ c. take c hand ++ y) is) ∙ ap (λ w. take (length bytes - length left) bytes ++ w) (sym open_y))
       (omega (arith, ap length open_x, ap length open_y, no, no', m, moves.since, last, length-append (next_word n) (unread l'.held y)))
       (omega (arith, ap length open_x, ap length open_y, no, no', m, moves.since))))
@@ -117,8 +117,8 @@ edge_said edge n bytes y z p first a b is at to =
 
 pub edge_reads : (edge : RawEdge) (n : Next) (bytes left hand : List ℕ) (count : ℕ) (z z' : Token) (l l' : Lexer) (seen seen' : Seen) → IsPlain edge bytes (next_word n ++ left)
     → z ≡ token.LeftBracket → z' ≡ next_token n → l.held ≡ None → l'.held ≡ None → bytes ≡ take (length bytes) hand → count ≡ length bytes - length left
-    → Tells seen seen' (λ x y. x ≡ take count hand ++ y) → l'.offset + length (next_word n) ≡ l'.since → Moves Elsewhere l l' seen seen' → l'.spent ≡ false
-    → ReadsTo (Edges ∷ []) (Edges ∷ []) (IsEdge edge) (state l z seen) (state l' z' seen')
+    → Tells seen seen' (λ x y. x ≡ take count hand ++ y) → l'.offset + length (next_word n) ≡ l'.since → MovesLexer Elsewhere l l' seen seen' → l'.spent ≡ false
+    → ReadsTo (Edges ∷ []) (Edges ∷ []) (IsEdge edge) (reader_state l z seen) (reader_state l' z' seen')
 edge_reads edge n bytes left hand count z z' l l' seen seen' p first at none none' front is passes last moves unspent =
     reads_next ((label_tokens p.label ++ token.RightBracket ∷ []) ++ (token.Int p.goal ∷ optional_marks p.marks)) (Edges ∷ []) (Edges ∷ []) (IsEdge edge)
     n bytes left hand count z z' l l' seen seen' (edge_said edge n bytes (next_word n ++ left) z p first) p.spelled at none none' front is passes last moves unspent
@@ -139,8 +139,8 @@ head_said head n bytes y z p first a b is at to =
 
 pub head_reads : (head : StateHead) (n : Next) (bytes left hand : List ℕ) (count : ℕ) (z z' : Token) (l l' : Lexer) (seen seen' : Seen) → IsPlainHead head bytes (next_word n ++ left)
     → z ≡ state_name → z' ≡ next_token n → l.held ≡ None → l'.held ≡ None → bytes ≡ take (length bytes) hand → count ≡ length bytes - length left
-    → Tells seen seen' (λ x y. x ≡ take count hand ++ y) → l'.offset + length (next_word n) ≡ l'.since → Moves Elsewhere l l' seen seen' → l'.spent ≡ false
-    → ReadsTo (States ∷ []) (Edges ∷ States ∷ []) (IsHead head) (state l z seen) (state l' z' seen')
+    → Tells seen seen' (λ x y. x ≡ take count hand ++ y) → l'.offset + length (next_word n) ≡ l'.since → MovesLexer Elsewhere l l' seen seen' → l'.spent ≡ false
+    → ReadsTo (States ∷ []) (Edges ∷ States ∷ []) (IsHead head) (reader_state l z seen) (reader_state l' z' seen')
 head_reads head n bytes left hand count z z' l l' seen seen' p first at none none' front is passes last moves unspent =
     reads_next (token.Int head.number ∷ optional_marks p.marks) (States ∷ []) (Edges ∷ States ∷ []) (IsHead head)
     n bytes left hand count z z' l l' seen seen' (head_said head n bytes (next_word n ++ left) z p first) p.spelled at none none' front is passes last moves unspent

@@ -3,7 +3,7 @@ use Rattle.std.proofs.Common.{◌≡◌, ℕ, ◌+◌, ◌-◌, ◌≤◌, Bool,
 use Rattle.std.proofs.lemmas.List.{append_assoc, length-append}
 use Rattle.hoa_lexer.specs.Spelling.{closes_itself}
 use Rattle.hoa_lexer.specs.Text.{IsFront}
-use Rattle.hoa_lexer.specs.inner.Steps.{Skips}
+use Rattle.hoa_lexer.specs.inner.Steps.{PassesBlanks}
 use Rattle.hoa_lexer.proofs.next_token.Fronts.{skips_then, token_ok}
 use Rattle.hoa_lexer.proofs.next_token.Asked.{ends_on}
 use Rattle.hoa_lexer.specs.declared.token.Token.{Token}
@@ -11,7 +11,7 @@ use Rattle.hoa_parser.specs.inner.Parsing.{Cursor, Follows, Passed}
 use Rattle.hoa_parser.specs.inner.AtHand.{Spelled}
 
 -- blanks before, and one behind the other
-pub spelled_behind : (ts : List Token) (x y z : List ℕ) → Skips x y → Spelled y ts z → Spelled x ts z
+pub spelled_behind : (ts : List Token) (x y z : List ℕ) → PassesBlanks x y → Spelled y ts z → Spelled x ts z
 spelled_behind [] x y z s t = skips_then x y z s t
 spelled_behind (t ∷ ts) x y z s k = (k.0, k.1, skips_then x y k.0 s k.2, k.3, k.4)
 
@@ -20,7 +20,7 @@ spelled_then [] us x y z s t = spelled_behind us x y z s t
 spelled_then (t ∷ ts) us x y z s k = (s.0, s.1, s.2, s.3, spelled_then ts us s.1 y z s.4 k)
 
 -- more bytes may follow
-skips_more : (x y more : List ℕ) → Skips x y → Skips (x ++ more) (y ++ more)
+skips_more : (x y more : List ℕ) → PassesBlanks x y → PassesBlanks (x ++ more) (y ++ more)
 skips_more x y more s = record {
   before = s.before;
   split = ap (λ w. w ++ more) s.split ∙ append_assoc s.before y more;
@@ -39,7 +39,7 @@ pub spelled_more : (ts : List Token) (x y more : List ℕ) → Spelled x ts y �
 spelled_more [] x y more s = skips_more x y more s
 spelled_more (t ∷ ts) x y more s = (s.0 ++ more, s.1 ++ more, skips_more x s.0 more s.2, front_more s.0 s.1 more t s.3, spelled_more ts s.1 y more s.4)
 
-pub skips_length : (x y : List ℕ) → Skips x y → length y ≤ length x
+pub skips_length : (x y : List ℕ) → PassesBlanks x y → length y ≤ length x
 skips_length x y s = omega (arith, ap length s.split, length-append s.before y)
 
 pub front_length : (x y : List ℕ) (token : Token) → IsFront x token y → length y ≤ length x
@@ -57,7 +57,7 @@ needs false = refl
 abbrev pub cursor : Token → ℕ → ℕ → Option ℕ → List ℕ → Cursor
 cursor t offset used held rest = record { token = t; offset = offset; used = used; held = held; rest = rest }
 
-follows_at : (a : Cursor) (t : Token) (offset used : ℕ) (held : Option ℕ) (at behind : List ℕ) → Skips a.rest at → IsFront at t behind → a.used + length a.rest ≡ offset + length at
+follows_at : (a : Cursor) (t : Token) (offset used : ℕ) (held : Option ℕ) (at behind : List ℕ) → PassesBlanks a.rest at → IsFront at t behind → a.used + length a.rest ≡ offset + length at
     → a.used + length a.rest ≡ used + length behind → is_some held ≡ not (closes_itself t) → Follows a (cursor t offset used held behind)
 follows_at a t offset used held at behind s f o u h = record {
   next = token_ok t a.used offset a.rest at behind s o f;

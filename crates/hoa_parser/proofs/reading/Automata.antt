@@ -7,7 +7,7 @@ use Rattle.hoa_parser.proofs.reading.FrontParts.{passed_then}
 use Rattle.hoa_parser.proofs.reading.Steps.{Read}
 use Rattle.hoa_parser.specs.Grammar.{item_tokens, state_tokens}
 use Rattle.hoa_parser.specs.inner.Parsing.{Cursor}
-use Rattle.hoa_parser.specs.inner.RuleReads.{AreItems, AreStates, IsAutomaton, IsWord}
+use Rattle.hoa_parser.specs.inner.RuleReads.{AreItems, AreStatesWritten, IsAutomaton, IsIdentifierToken}
 use Rattle.hoa_parser.specs.Raw.{Written, WrittenItem, WrittenState}
 use Rattle.hoa_parser.specs.declared.raw.Item.{Item}
 use Rattle.hoa_parser.specs.declared.raw.RawState.{RawState}
@@ -20,8 +20,8 @@ whole_means : (version : List ℕ) (items items' : List WrittenItem) (states sta
     → (let e : Written = record { version = version; items = items; states = states } in e) ≡ record { version = version; items = items'; states = states' }
 whole_means version items items' states states' same_items same_states = cc
 
-pub whole_is : (version : List ℕ) (items : List Item) (states : List RawState) (a b c d e f : Cursor) → Read opening a b → IsWord version b c → AreItems items c d → Read token.Body d e
-    → AreStates states e f → IsAutomaton (record { version = version; items = items; states = states }) a f
+pub whole_is : (version : List ℕ) (items : List Item) (states : List RawState) (a b c d e f : Cursor) → Read opening a b → IsIdentifierToken version b c → AreItems items c d → Read token.Body d e
+    → AreStatesWritten states e f → IsAutomaton (record { version = version; items = items; states = states }) a f
 whole_is version items states a b c d e f opens names heads goes body = record {
   is_written = record {
     phrase = record { version = version; items = heads.phrase; states = body.written.phrase };

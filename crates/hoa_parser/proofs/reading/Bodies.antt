@@ -8,10 +8,11 @@ use Rattle.hoa_parser.proofs.grammar.HeaderNames.{IsNamed, named}
 use Rattle.hoa_parser.proofs.reading.FrontParts.{passed_then}
 use Rattle.hoa_parser.proofs.reading.Steps.{Read}
 use Rattle.hoa_parser.specs.inner.Expecting as part
-use Rattle.hoa_parser.specs.inner.Expecting.{Part, behind, if_header, move}
+use Rattle.hoa_parser.specs.inner.Expecting.{Part, parts_behind, if_header, move}
 use Rattle.hoa_parser.specs.Grammar.{conj_tokens, edge_tokens, header_of, label_tokens, optional_label, optional_marks, optional_text}
 use Rattle.hoa_parser.specs.inner.Parsing.{Cursor, Passed}
-use Rattle.hoa_parser.specs.inner.RuleReads.{AreEdges, AreMarks, HeadPhrase, IsConj, IsEdge, IsHead, IsLabel, IsMaybeLabel, IsNumber, IsOptionalText, IsState, WrittenHead, head_meaning, head_tokens}
+use Rattle.hoa_parser.specs.inner.RuleReads.{AreEdgesWritten, AreMarks, HeadPhrase, IsConj, IsEdge, IsHead, IsLabel, IsMaybeLabel, IsIntToken}
+use Rattle.hoa_parser.specs.inner.RuleReads.{IsOptionalText, IsState, WrittenHead, head_meaning, head_tokens}
 use Rattle.hoa_parser.specs.Raw.{RawTree, WrittenEdge, WrittenState, written_edge}
 use Rattle.hoa_parser.specs.declared.header.Header.{Header}
 use Rattle.hoa_parser.specs.declared.header.Header.TheVariants as header
@@ -32,7 +33,7 @@ bracketed l a b c d opens is closes = record {
 abbrev pub edge_parts : List Part
 edge_parts = part.MaybeLabel ∷ part.Number ∷ part.MoreNumbers ∷ part.MaybeMarks ∷ part.Edges ∷ []
 
-pub edge_front : (most : ℕ) (others : List Part) (z : Token) → move part.Edges z ≢ part.Passes → behind most (part.Edges ∷ others) z ≡ behind most (edge_parts ++ others) z
+pub edge_front : (most : ℕ) (others : List Part) (z : Token) → move part.Edges z ≢ part.Passes → parts_behind most (part.Edges ∷ others) z ≡ parts_behind most (edge_parts ++ others) z
 edge_front most others token.LeftBracket begins = refl
 edge_front most others (token.Int n) begins = refl
 edge_front most others z begins = absurd (begins refl)
@@ -64,7 +65,7 @@ head_means : (l k : Option RawTree) (n : ℕ) (marks marks' : List ℕ) → l �
 head_means l k n marks marks' same_label same_marks = cc
 
 -- a state up to its edges
-pub head_is : (l : Option RawLabel) (n : ℕ) (marks : List ℕ) (a b c d e f : Cursor) → Read state_name a b → IsMaybeLabel l b c → IsNumber n c d → IsOptionalText tt d e → AreMarks marks e f
+pub head_is : (l : Option RawLabel) (n : ℕ) (marks : List ℕ) (a b c d e f : Cursor) → Read state_name a b → IsMaybeLabel l b c → IsIntToken n c d → IsOptionalText tt d e → AreMarks marks e f
     → IsHead (record { label = l; number = n; marks = marks }) a f
 head_is l n marks a b c d e f opens labelled numbered texts marked = record {
   phrase = record { label = labelled.phrase; number = n; name = texts.0; marks = marked.phrase };
@@ -84,7 +85,7 @@ state_grouped h edges = ap (λ ts. state_name ∷ ts)
     (append_assoc (optional_label h.label) (token.Int h.number ∷ (optional_text h.name ++ optional_marks h.marks)) edges
     ∙ ap (λ ts. optional_label h.label ++ (token.Int h.number ∷ ts)) (append_assoc (optional_text h.name) (optional_marks h.marks) edges))
 
-pub state_is : (head : StateHead) (edges : List RawEdge) (a b c : Cursor) → IsHead head a b → AreEdges edges b c
+pub state_is : (head : StateHead) (edges : List RawEdge) (a b c : Cursor) → IsHead head a b → AreEdgesWritten edges b c
     → IsState (record { label = head.label; number = head.number; marks = head.marks; edges = edges }) a c
 state_is head edges a b c begins goes =
     let h : HeadPhrase = begins.phrase in

@@ -5,7 +5,7 @@ use Rattle.hoa_lexer.specs.declared.token.Token.TheVariants as token
 use Rattle.hoa_parser.proofs.reading.FrontParts.{passed_then, subst_tokens}
 use Rattle.hoa_parser.proofs.reading.Chains.{IsChain, chain_whole}
 use Rattle.hoa_parser.specs.inner.Chains.{AddsFands, AddsFatoms}
-use Rattle.hoa_parser.specs.Grammar.{FandsWithin, FatomWithin, FatomsWithin, and_fatom, all_of, one_of, condition, fands_meaning, fands_tokens}
+use Rattle.hoa_parser.specs.Grammar.{FandsWithin, FatomWithin, FatomsWithin, and_fatom, formula_conjunction, formula_disjunction, condition, fands_meaning, fands_tokens}
 use Rattle.hoa_parser.specs.Grammar.{fatom_meaning, fatom_tokens, fatoms_meaning, fatoms_tokens, no_fand, no_fatom, or_fand}
 use Rattle.hoa_parser.specs.inner.Parsing.{Cursor}
 use Rattle.hoa_parser.specs.inner.RuleReads.{IsAndFatoms, IsCondition, IsFand, IsFatom, IsOrFands, FandWithin, fand_meaning, fand_tokens}
@@ -41,12 +41,13 @@ fands_chain depth = record {
 -- all of the parts, as one condition
 pub fatoms_whole : (depth : ℕ) (first : FormulaTree) (parts : Formulas) (l : Formula) (a b : Cursor)
     → formula_tree l ≡ formula.And (formula_parts parts).first (formula_parts parts).second (trees (formula_parts parts).others) → AddsFatoms depth first parts a b → IsAndFatoms depth first l a b
-fatoms_whole depth first parts l = chain_whole (fatoms_chain depth) (λ x y zs. formula.And x y (trees zs)) all_of (λ t u us. refl) (formula_parts parts).first (formula_parts parts).second
+fatoms_whole depth first parts l = chain_whole (fatoms_chain depth) (λ x y zs. formula.And x y (trees zs)) formula_conjunction (λ t u us. refl) (formula_parts parts).first (formula_parts parts).second
     first (formula_tree l) (formula_parts parts).others
 
 pub fands_whole : (depth : ℕ) (first : FormulaTree) (parts : Formulas) (l : Formula) (a b : Cursor)
     → formula_tree l ≡ formula.Or (formula_parts parts).first (formula_parts parts).second (trees (formula_parts parts).others) → AddsFands depth first parts a b → IsOrFands depth first l a b
-fands_whole depth first parts l = chain_whole (fands_chain depth) (λ x y zs. formula.Or x y (trees zs)) one_of (λ t u us. refl) (formula_parts parts).first (formula_parts parts).second first
+fands_whole depth first parts l = chain_whole (fands_chain depth) (λ x y zs. formula.Or x y (trees zs)) formula_disjunction (λ t u us. refl) (formula_parts parts).first
+    (formula_parts parts).second first
     (formula_tree l) (formula_parts parts).others
 
 -- a first part, and a chain behind it
@@ -55,7 +56,7 @@ fand_of depth first l a b c one chain = record {
   phrase = record { first = one.phrase; others = chain.phrase };
   within = (one.within, chain.within);
   passed = passed_then a b c (fatom_tokens one.phrase) (fatoms_tokens chain.phrase) one.passed chain.passed;
-  means = chain.means ∙ ap (λ (t : FormulaTree). all_of t (fatoms_meaning chain.phrase)) one.means;
+  means = chain.means ∙ ap (λ (t : FormulaTree). formula_conjunction t (fatoms_meaning chain.phrase)) one.means;
 }
 
 pub condition_of : (depth : ℕ) (first l : Formula) (a b c : Cursor) → IsFand depth first a b → IsOrFands depth (formula_tree first) l b c → IsCondition depth l a c
@@ -64,5 +65,5 @@ condition_of depth first l a b c one chain = record {
   within = (one.within.0, one.within.1, chain.within);
   passed = subst_tokens a c (append_assoc (fatom_tokens one.phrase.first) (fatoms_tokens one.phrase.others) (fands_tokens chain.phrase))
       (passed_then a b c (fand_tokens one.phrase) (fands_tokens chain.phrase) one.passed chain.passed);
-  means = chain.means ∙ ap (λ (t : FormulaTree). one_of t (fands_meaning chain.phrase)) one.means;
+  means = chain.means ∙ ap (λ (t : FormulaTree). formula_disjunction t (fands_meaning chain.phrase)) one.means;
 }

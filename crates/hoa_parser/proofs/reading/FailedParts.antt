@@ -6,16 +6,16 @@ use Rattle.hoa_lexer.specs.declared.token.Token.{Token}
 use Rattle.hoa_lexer.specs.declared.token.Token.TheVariants as token
 use Rattle.hoa_parser.proofs.grammar.NoAbort.{abort}
 use Rattle.hoa_parser.proofs.reading.FrontParts.{goes_more, goes_nowhere, goes_then, takes_behind}
-use Rattle.hoa_parser.specs.inner.Expecting.{Part, Takes, behind, move, open_at}
-use Rattle.hoa_parser.specs.inner.Parsing.{Cursor, Fails, Goes, HaltsHere, Refuses, TooDeep, Unlexed, Unread, is_end}
+use Rattle.hoa_parser.specs.inner.Expecting.{Part, Takes, parts_behind, move, open_at}
+use Rattle.hoa_parser.specs.inner.Parsing.{Cursor, FailsParts, PassesTokens, HaltsHere, RefusesToken, TooDeep, Unlexed, Unread, is_end}
 use Rattle.hoa_parser.specs.Standing.{most_depth}
 use Rattle.hoa_parser.specs.declared.fault.ReadFault.{ReadFault}
 use Rattle.hoa_parser.specs.declared.fault.ReadFault.TheVariants as fault
 
-refuses_then : (p q : List Part) (a m b : Cursor) → Goes p a q m → Refuses q m b → Refuses p a b
+refuses_then : (p q : List Part) (a m b : Cursor) → PassesTokens p a q m → RefusesToken q m b → RefusesToken p a b
 refuses_then p q a m b one two = record { target = two.target; goes = goes_then p q two.target a m b one two.goes; refused = two.refused }
 
-deep_then : (p q : List Part) (a m b : Cursor) → Goes p a q m → TooDeep q m b → TooDeep p a b
+deep_then : (p q : List Part) (a m b : Cursor) → PassesTokens p a q m → TooDeep q m b → TooDeep p a b
 deep_then p q a m b one two = record {
   target = two.target;
   goes = goes_then p q two.target a m b one two.goes;
@@ -26,7 +26,7 @@ deep_then p q a m b one two = record {
   taken = two.taken;
 }
 
-halts_then : (f : ReadFault) (p q : List Part) (a m b : Cursor) → Goes p a q m → HaltsHere f q m b → HaltsHere f p a b
+halts_then : (f : ReadFault) (p q : List Part) (a m b : Cursor) → PassesTokens p a q m → HaltsHere f q m b → HaltsHere f p a b
 halts_then (fault.Syntax k) p q a m b one h = (refuses_then p q a m b one h.0, h.1)
 halts_then fault.Depth p q a m b one h = deep_then p q a m b one h
 halts_then fault.Memory p q a m b one h = (h.0, goes_then p q h.0 a m b one h.1)
@@ -34,7 +34,7 @@ halts_then fault.Truncated p q a m b one h = absurd h
 halts_then fault.Bytes p q a m b one h = absurd h
 halts_then fault.Read p q a m b one h = absurd h
 
-unread_then : (f : ReadFault) (p q : List Part) (a m last : Cursor) → Goes p a q m → Unread f q m last → Unread f p a last
+unread_then : (f : ReadFault) (p q : List Part) (a m last : Cursor) → PassesTokens p a q m → Unread f q m last → Unread f p a last
 unread_then f p q a m last one two = record {
   target = two.target;
   b = two.b;
@@ -48,17 +48,17 @@ unread_then f p q a m last one two = record {
 }
 
 -- what was read before does not change why the rest could not be read
-pub fails_then : (f : ReadFault) (p q : List Part) (a m last : Cursor) → Goes p a q m → Fails f q m last → Fails f p a last
+pub fails_then : (f : ReadFault) (p q : List Part) (a m last : Cursor) → PassesTokens p a q m → FailsParts f q m last → FailsParts f p a last
 fails_then f p q a m last one (inl h) = inl (halts_then f p q a m last one h)
 fails_then f p q a m last one (inr h) = inr (unread_then f p q a m last one h)
 
-behind_more : (most : ℕ) (p more others : List Part) (z : Token) → behind most ((p ++ more) ++ others) z ≡ behind most (p ++ (more ++ others)) z
-behind_more most p more others z = ap (λ (ps : List Part). behind most ps z) (append_assoc p more others)
+behind_more : (most : ℕ) (p more others : List Part) (z : Token) → parts_behind most ((p ++ more) ++ others) z ≡ parts_behind most (p ++ (more ++ others)) z
+behind_more most p more others z = ap (λ (ps : List Part). parts_behind most ps z) (append_assoc p more others)
 
 some_more : (left more others : List Part) → Some (left ++ (more ++ others)) ≡ Some ((left ++ more) ++ others)
 some_more left more others = ap (λ (ps : List Part). Some ps) (sym (append_assoc left more others))
 
-refuses_more : (p more : List Part) (a b : Cursor) → Refuses p a b → Refuses (p ++ more) a b
+refuses_more : (p more : List Part) (a b : Cursor) → RefusesToken p a b → RefusesToken (p ++ more) a b
 refuses_more p more a b one = record {
   target = one.target ++ more;
   goes = goes_more p one.target more a b one.goes;
@@ -98,15 +98,15 @@ unread_more f p more a last one = record {
 }
 
 -- nor does what is expected behind it
-pub fails_more : (f : ReadFault) (p more : List Part) (a last : Cursor) → Fails f p a last → Fails f (p ++ more) a last
+pub fails_more : (f : ReadFault) (p more : List Part) (a last : Cursor) → FailsParts f p a last → FailsParts f (p ++ more) a last
 fails_more f p more a last (inl h) = inl (halts_more f p more a last h)
 fails_more f p more a last (inr h) = inr (unread_more f p more a last h)
 
 -- what a part takes is not `--ABORT--`
 pub taken_no_abort : (part : Part) (parts : List Part) (z : Token) → move part z ≡ Takes parts → nat_le (open_at parts) most_depth ≡ true → z ≢ token.Abort
 taken_no_abort part parts z takes opens is =
-    let some : behind most_depth (part ∷ []) token.Abort ≡ Some (parts ++ []) = takes_behind most_depth part parts [] token.Abort (ap (move part) (sym is) ∙ takes) opens in
-    let none : behind most_depth (part ∷ []) token.Abort ≡ None = abort most_depth (part ∷ []) in
+    let some : parts_behind most_depth (part ∷ []) token.Abort ≡ Some (parts ++ []) = takes_behind most_depth part parts [] token.Abort (ap (move part) (sym is) ∙ takes) opens in
+    let none : parts_behind most_depth (part ∷ []) token.Abort ≡ None = abort most_depth (part ∷ []) in
     cc
 
 -- there is no token behind one that the first part takes

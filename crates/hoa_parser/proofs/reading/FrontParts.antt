@@ -4,8 +4,8 @@ use Rattle.std.proofs.lemmas.List.{append_assoc, append-nil, map-append}
 use Rattle.std.specs.Prelude.{nat_le}
 use Rattle.hoa_lexer.specs.declared.token.Token.{Token}
 use Rattle.hoa_parser.proofs.grammar.AfterLabels.{after_append}
-use Rattle.hoa_parser.specs.inner.Expecting.{Part, Move, Takes, Passes, Refuses, after, after_some, behind, move, moved, open_at}
-use Rattle.hoa_parser.specs.inner.Parsing.{Follows, Goes, Leads, Passed, Cursor, Unended, is_end}
+use Rattle.hoa_parser.specs.inner.Expecting.{Part, TokenUse, Takes, Passes, Refuses, parts_after, after_some, parts_behind, move, moved, open_at}
+use Rattle.hoa_parser.specs.inner.Parsing.{Follows, PassesTokens, LeadsToParts, Passed, Cursor, Unended, is_end}
 use Rattle.hoa_parser.specs.Standing.{most_depth}
 
 pub passed_then : (a m b : Cursor) (u v : List Token) → Passed a u m → Passed m v b → Passed a (u ++ v) b
@@ -21,17 +21,17 @@ unended_then (t ∷ u) v p q = (p.0, unended_then u v p.1 q)
 
 -- a part that takes a token leaves what it leaves, whatever is behind it
 pub takes_behind : (most : ℕ) (part : Part) (parts others : List Part) (z : Token) → move part z ≡ Takes parts → nat_le (open_at parts) most ≡ true
-    → behind most (part ∷ others) z ≡ Some (parts ++ others)
+    → parts_behind most (part ∷ others) z ≡ Some (parts ++ others)
 takes_behind most part parts others z takes opens =
-    ap (λ (m : Move). moved most m (behind most others z) others) takes ∙ ap (λ (b : Bool). if b then Some (parts ++ others) else None) opens
+    ap (λ (m : TokenUse). moved most m (parts_behind most others z) others) takes ∙ ap (λ (b : Bool). if b then Some (parts ++ others) else None) opens
 
-pub passes_behind : (most : ℕ) (part : Part) (others : List Part) (z : Token) → move part z ≡ Passes → behind most (part ∷ others) z ≡ behind most others z
-passes_behind most part others z passes = ap (λ (m : Move). moved most m (behind most others z) others) passes
+pub passes_behind : (most : ℕ) (part : Part) (others : List Part) (z : Token) → move part z ≡ Passes → parts_behind most (part ∷ others) z ≡ parts_behind most others z
+passes_behind most part others z passes = ap (λ (m : TokenUse). moved most m (parts_behind most others z) others) passes
 
-pub refuses_behind : (most : ℕ) (part : Part) (others : List Part) (z : Token) → move part z ≡ Refuses → behind most (part ∷ others) z ≡ None
-refuses_behind most part others z refuses = ap (λ (m : Move). moved most m (behind most others z) others) refuses
+pub refuses_behind : (most : ℕ) (part : Part) (others : List Part) (z : Token) → move part z ≡ Refuses → parts_behind most (part ∷ others) z ≡ None
+refuses_behind most part others z refuses = ap (λ (m : TokenUse). moved most m (parts_behind most others z) others) refuses
 
-pub leads_one : (part : Part) (parts others : List Part) (z : Token) → move part z ≡ Takes parts → nat_le (open_at parts) most_depth ≡ true → Leads (part ∷ others) (z ∷ []) (parts ++ others)
+pub leads_one : (part : Part) (parts others : List Part) (z : Token) → move part z ≡ Takes parts → nat_le (open_at parts) most_depth ≡ true → LeadsToParts (part ∷ others) (z ∷ []) (parts ++ others)
 leads_one part parts others z takes opens = record {
   runs = λ more.
       ap (λ (o : Option (List Part)). after_some most_depth o []) (takes_behind most_depth part parts (others ++ more) z takes opens)
@@ -39,16 +39,16 @@ leads_one part parts others z takes opens = record {
 }
 
 -- no token was passed, and the one at hand is to these parts what it is to those
-pub goes_over : (p q : List Part) (a : Cursor) → ((most : ℕ) (others : List Part) → behind most (p ++ others) a.token ≡ behind most (q ++ others) a.token) → Goes p a q a
+pub goes_over : (p q : List Part) (a : Cursor) → ((most : ℕ) (others : List Part) → parts_behind most (p ++ others) a.token ≡ parts_behind most (q ++ others) a.token) → PassesTokens p a q a
 goes_over p q a over = record { tokens = []; passed = refl; left = p; leads = record { runs = λ others. refl }; unended = tt; over = over }
 
-pub goes_nowhere : (parts : List Part) (a : Cursor) → Goes parts a parts a
+pub goes_nowhere : (parts : List Part) (a : Cursor) → PassesTokens parts a parts a
 goes_nowhere parts a = goes_over parts parts a (λ most others. refl)
 
 -- the token at hand is taken by the first part
-pub goes_on : (part : Part) (parts others : List Part) (a b : Cursor) → move part a.token ≡ Takes parts → nat_le (open_at parts) most_depth ≡ true → is_end a.token ≡ false → Follows a b
-    → Goes (part ∷ others) a (parts ++ others) b
-goes_on part parts others a b takes opens unended follows = record {
+pub follows_parts : (part : Part) (parts others : List Part) (a b : Cursor) → move part a.token ≡ Takes parts → nat_le (open_at parts) most_depth ≡ true → is_end a.token ≡ false → Follows a b
+    → PassesTokens (part ∷ others) a (parts ++ others) b
+follows_parts part parts others a b takes opens unended follows = record {
   tokens = a.token ∷ [];
   passed = (b, refl, follows, refl);
   left = parts ++ others;
@@ -57,8 +57,9 @@ goes_on part parts others a b takes opens unended follows = record {
   over = λ most more. refl;
 }
 
-leads_then : (p q left last : List Part) (u v : List Token) (z : Token) → Leads p u left → ((others : List Part) → behind most_depth (left ++ others) z ≡ behind most_depth (q ++ others) z)
-    → Leads q (z ∷ v) last → Leads p (u ++ z ∷ v) last
+leads_then : (p q left last : List Part) (u v : List Token) (z : Token) → LeadsToParts p u left
+    → ((others : List Part) → parts_behind most_depth (left ++ others) z ≡ parts_behind most_depth (q ++ others) z)
+    → LeadsToParts q (z ∷ v) last → LeadsToParts p (u ++ z ∷ v) last
 leads_then p q left last u v z first over second = record {
   runs = λ others.
       after_append most_depth (Some (p ++ others)) u (z ∷ v)
@@ -68,17 +69,17 @@ leads_then p q left last u v z first over second = record {
 }
 
 -- where no token was passed, all is still expected
-same_left : (q last : List Part) → Leads q [] last → last ≡ q
+same_left : (q last : List Part) → LeadsToParts q [] last → last ≡ q
 same_left q last leads =
     let all : Some (q ++ []) ≡ Some (last ++ []) = leads.runs [] in
     let parts : q ++ [] ≡ last ++ [] = cc in
     sym (append-nil last) ∙ sym parts ∙ append-nil q
 
-leads_nil : (p left : List Part) (u : List Token) → Leads p u left → Leads p (u ++ []) left
-leads_nil p left u leads = subst (λ (us : List Token). Leads p us left) (sym (append-nil u)) leads
+leads_nil : (p left : List Part) (u : List Token) → LeadsToParts p u left → LeadsToParts p (u ++ []) left
+leads_nil p left u leads = subst (λ (us : List Token). LeadsToParts p us left) (sym (append-nil u)) leads
 
-goes_both : (p q r : List Part) (a m b : Cursor) (one : Goes p a q m) (v : List Token) (left : List Part) → Passed m v b → Leads q v left → Unended v
-    → ((most : ℕ) (others : List Part) → behind most (left ++ others) b.token ≡ behind most (r ++ others) b.token) → Goes p a r b
+goes_both : (p q r : List Part) (a m b : Cursor) (one : PassesTokens p a q m) (v : List Token) (left : List Part) → Passed m v b → LeadsToParts q v left → Unended v
+    → ((most : ℕ) (others : List Part) → parts_behind most (left ++ others) b.token ≡ parts_behind most (r ++ others) b.token) → PassesTokens p a r b
 goes_both p q r a m b one [] left passed leads unended over = record {
   tokens = one.tokens ++ [];
   passed = passed_then a m b one.tokens [] one.passed passed;
@@ -86,8 +87,8 @@ goes_both p q r a m b one [] left passed leads unended over = record {
   leads = leads_nil p one.left one.tokens one.leads;
   unended = unended_then one.tokens [] one.unended unended;
   over = λ most others.
-      subst (λ (x : Cursor). behind most (one.left ++ others) x.token ≡ behind most (q ++ others) x.token) passed (one.over most others)
-      ∙ sym (ap (λ (ps : List Part). behind most (ps ++ others) b.token) (same_left q left leads))
+      subst (λ (x : Cursor). parts_behind most (one.left ++ others) x.token ≡ parts_behind most (q ++ others) x.token) passed (one.over most others)
+      ∙ sym (ap (λ (ps : List Part). parts_behind most (ps ++ others) b.token) (same_left q left leads))
       ∙ over most others;
 }
 goes_both p q r a m b one (z ∷ v) left passed leads unended over = record {
@@ -95,25 +96,25 @@ goes_both p q r a m b one (z ∷ v) left passed leads unended over = record {
   passed = passed_then a m b one.tokens (z ∷ v) one.passed passed;
   left = left;
   leads = leads_then p q one.left left one.tokens v z one.leads
-      (λ others. subst (λ (t : Token). behind most_depth (one.left ++ others) t ≡ behind most_depth (q ++ others) t) (sym passed.1) (one.over most_depth others)) leads;
+      (λ others. subst (λ (t : Token). parts_behind most_depth (one.left ++ others) t ≡ parts_behind most_depth (q ++ others) t) (sym passed.1) (one.over most_depth others)) leads;
   unended = unended_then one.tokens (z ∷ v) one.unended unended;
   over = over;
 }
 
 -- one reading and the next
-pub goes_then : (p q r : List Part) (a m b : Cursor) → Goes p a q m → Goes q m r b → Goes p a r b
+pub goes_then : (p q r : List Part) (a m b : Cursor) → PassesTokens p a q m → PassesTokens q m r b → PassesTokens p a r b
 goes_then p q r a m b one two = goes_both p q r a m b one two.tokens two.left two.passed two.leads two.unended two.over
 
 -- behind the parts more may be expected
-pub leads_more : (p left more : List Part) (u : List Token) → Leads p u left → Leads (p ++ more) u (left ++ more)
+pub leads_more : (p left more : List Part) (u : List Token) → LeadsToParts p u left → LeadsToParts (p ++ more) u (left ++ more)
 leads_more p left more u leads = record {
   runs = λ others.
-      ap (λ (ps : List Part). after most_depth ps u) (append_assoc p more others)
+      ap (λ (ps : List Part). parts_after most_depth ps u) (append_assoc p more others)
       ∙ leads.runs (more ++ others)
       ∙ ap (λ (ps : List Part). Some ps) (sym (append_assoc left more others));
 }
 
-pub goes_more : (p q more : List Part) (a b : Cursor) → Goes p a q b → Goes (p ++ more) a (q ++ more) b
+pub goes_more : (p q more : List Part) (a b : Cursor) → PassesTokens p a q b → PassesTokens (p ++ more) a (q ++ more) b
 goes_more p q more a b one = record {
   tokens = one.tokens;
   passed = one.passed;
@@ -121,9 +122,9 @@ goes_more p q more a b one = record {
   leads = leads_more p one.left more one.tokens one.leads;
   unended = one.unended;
   over = λ most others.
-      ap (λ (ps : List Part). behind most ps b.token) (append_assoc one.left more others)
+      ap (λ (ps : List Part). parts_behind most ps b.token) (append_assoc one.left more others)
       ∙ one.over most (more ++ others)
-      ∙ sym (ap (λ (ps : List Part). behind most ps b.token) (append_assoc q more others));
+      ∙ sym (ap (λ (ps : List Part). parts_behind most ps b.token) (append_assoc q more others));
 }
 
 -- no tokens

@@ -14,10 +14,10 @@ use Rattle.hoa_parser.specs.inner.Expecting as expecting
 use Rattle.hoa_parser.specs.Grammar.{ItemPhrase, ItemWithin, acc_name_item, acceptance_item, alias_item, header_of, item_meaning, item_tokens}
 use Rattle.hoa_parser.specs.Grammar.{name_item, names_item, other_item, properties_item, start_item, states_item, tool_item, acc_value_token}
 use Rattle.hoa_parser.specs.Grammar.{conj_tokens, condition_tokens, label_tokens, optional_text, value_token}
-use Rattle.hoa_parser.specs.inner.Parsing.{Advanced, Cursor, FailsAt, Passed, Reads, ReadsTo, State, Unadvanced}
+use Rattle.hoa_parser.specs.inner.Parsing.{Advanced, Cursor, FailsAt, Passed, ReadsParts, ReadsTo, State, Unadvanced}
 use Rattle.hoa_parser.specs.inner.Expecting.{header_parts}
-use Rattle.hoa_parser.specs.inner.RuleReads.{AreTexts, AreValues, AreWords, IsAliasName, IsCondition, IsConj, IsItem, IsItemOf}
-use Rattle.hoa_parser.specs.inner.RuleReads.{IsItemWritten, IsLabel, IsNumber, IsOptionalText, IsQuoted, IsWord, ItemRest}
+use Rattle.hoa_parser.specs.inner.RuleReads.{AreTexts, AreValues, AreWords, IsAliasToken, IsCondition, IsConj, IsItem, IsItemOf}
+use Rattle.hoa_parser.specs.inner.RuleReads.{IsItemWritten, IsLabel, IsIntToken, IsOptionalText, IsQuoted, IsIdentifierToken, ItemRest}
 use Rattle.hoa_parser.specs.Raw as raw
 use Rattle.hoa_parser.specs.Raw.{WrittenItem, written_item}
 use Rattle.hoa_parser.specs.Standing.{most_depth}
@@ -40,24 +40,24 @@ rest_of name h known ts phrase i a b is within spelled means passed = record {
   is_item = λ e. record { phrase = phrase; within = within; spelled = ap (λ (n : List ℕ). token.HeaderName n ∷ ts) (is e) ∙ spelled; means = means };
 }
 
-pub names_read : (count : ℕ) (names : List (List ℕ)) (a b c : Cursor) → IsNumber count a b → AreTexts names b c → IsItemWritten header.Ap (item.Ap count names) a c
+pub names_read : (count : ℕ) (names : List (List ℕ)) (a b c : Cursor) → IsIntToken count a b → AreTexts names b c → IsItemWritten header.Ap (item.Ap count names) a c
 names_read count names a b c p q = λ name.
     rest_of name header.Ap (codes "AP") (token.Int count ∷ map token.Str names) (names_item count names) (raw.Ap count names) a c (λ e. name_of name header.Ap e) tt refl refl
     (passed_then a b c (token.Int count ∷ []) (map token.Str names) p q)
 
-pub alias_read : (text : List ℕ) (l : RawLabel) (a b c : Cursor) → IsAliasName text a b → IsLabel 0 l b c → IsItemWritten header.Alias (item.Alias text l) a c
+pub alias_read : (text : List ℕ) (l : RawLabel) (a b c : Cursor) → IsAliasToken text a b → IsLabel 0 l b c → IsItemWritten header.Alias (item.Alias text l) a c
 alias_read text l a b c p q = λ name.
     rest_of name header.Alias (codes "Alias") (token.Alias text ∷ label_tokens q.phrase) (alias_item text q.phrase) (written_item (item.Alias text l)) a c (λ e. name_of name header.Alias e)
     q.within refl
     (ap (raw.AliasOf text) q.means) (passed_then a b c (token.Alias text ∷ []) (label_tokens q.phrase) p q.passed)
 
-pub acceptance_read : (sets : ℕ) (f : Formula) (a b c : Cursor) → IsNumber sets a b → IsCondition 0 f b c → IsItemWritten header.Acceptance (item.Acceptance sets f) a c
+pub acceptance_read : (sets : ℕ) (f : Formula) (a b c : Cursor) → IsIntToken sets a b → IsCondition 0 f b c → IsItemWritten header.Acceptance (item.Acceptance sets f) a c
 acceptance_read sets f a b c p q = λ name.
     rest_of name header.Acceptance (codes "Acceptance") (token.Int sets ∷ condition_tokens q.phrase) (acceptance_item sets q.phrase) (written_item (item.Acceptance sets f)) a c
     (λ e. name_of name header.Acceptance e) q.within refl
     (ap (raw.Acceptance sets) q.means) (passed_then a b c (token.Int sets ∷ []) (condition_tokens q.phrase) p q.passed)
 
-pub acc_name_read : (word : List ℕ) (done : Unit {0}) (a b c : Cursor) → IsWord word a b → AreValues false done b c → IsItemWritten header.AccName item.AccName a c
+pub acc_name_read : (word : List ℕ) (done : Unit {0}) (a b c : Cursor) → IsIdentifierToken word a b → AreValues false done b c → IsItemWritten header.AccName item.AccName a c
 acc_name_read word done a b c p q = λ name.
     rest_of name header.AccName (codes "acc-name") (token.Identifier word ∷ map acc_value_token q.0) (acc_name_item word q.0) raw.AccName a c (λ e. name_of name header.AccName e) tt refl refl
     (passed_then a b c (token.Identifier word ∷ []) (map acc_value_token q.0) p q.1)
@@ -68,7 +68,7 @@ tool_read text done a b c p q = λ name.
     (passed_then a b c (token.Str text ∷ []) (optional_text q.0) p q.1)
 
 -- the items of one part
-pub states_read : (name : List ℕ) (n : ℕ) (a b : Cursor) → IsNumber n a b → IsItemOf header.States name (item.States n) a b
+pub states_read : (name : List ℕ) (n : ℕ) (a b : Cursor) → IsIntToken n a b → IsItemOf header.States name (item.States n) a b
 states_read name n a b p = rest_of name header.States (codes "States") (token.Int n ∷ []) (states_item n) (raw.States n) a b (λ e. name_of name header.States e) tt refl refl p
 
 pub start_read : (name : List ℕ) (states : List ℕ) (a b : Cursor) → IsConj states a b → IsItemOf header.Start name (item.Start states) a b
@@ -132,15 +132,15 @@ pub header_last : {f : ReadFault} (name : List ℕ) (h : Header) {s s' : State} 
 header_last name h same no_opening no_state is one = takes_last Items [] (token.HeaderName name) is (ap header_move (sym same) ∙ header_takes h no_opening no_state) (header_opens h) refl one
 
 -- an item that has a form of its own
-pub item_of_form : (h : Header) (name : List ℕ) (result : Result Item ReadFault) (s s' : State) → Reads (header_parts h) [] (IsItemWritten h) result s s'
-    → Reads (header_parts h) [] (IsItemOf h name) result s s'
+pub item_of_form : (h : Header) (name : List ℕ) (result : Result Item ReadFault) (s s' : State) → ReadsParts (header_parts h) [] (IsItemWritten h) result s s'
+    → ReadsParts (header_parts h) [] (IsItemOf h name) result s s'
 item_of_form h name (Ok i) s s' one = reads_as (λ a b p. p name) one
 item_of_form h name (Err f) s s' one = one
 
 -- whatever is answered of what is behind the name
 pub item_behind : {s m : State} (name : List ℕ) (h : Header) (result : Result Item ReadFault) (s' : State) → h ≡ header_of name → h ≢ header.Opening → h ≢ header.State
     → s.ahead ≡ token.HeaderName name → Advanced s m
-    → Reads (header_parts h) [] (IsItemOf h name) result m s' → Reads (Items ∷ []) (Items ∷ []) IsItem result s s'
+    → ReadsParts (header_parts h) [] (IsItemOf h name) result m s' → ReadsParts (Items ∷ []) (Items ∷ []) IsItem result s s'
 item_behind name h result s' same no_opening no_state is one two =
     next_answer (header_parts h) (Items ∷ []) (IsItemOf h name) IsItem result s' (λ w a d p. item_whole name w a p.0 d p.1 (subst (λ (k : Header). IsItemOf k name w p.0 d) same p.2))
     (header_taken name h same no_opening no_state is one) two

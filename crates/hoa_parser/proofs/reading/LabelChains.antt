@@ -5,7 +5,7 @@ use Rattle.hoa_lexer.specs.declared.token.Token.TheVariants as token
 use Rattle.hoa_parser.proofs.reading.FrontParts.{passed_then, subst_tokens}
 use Rattle.hoa_parser.proofs.reading.Chains.{IsChain, chain_whole}
 use Rattle.hoa_parser.specs.inner.Chains.{AddsLands, AddsLnots}
-use Rattle.hoa_parser.specs.Grammar.{LandsWithin, LnotWithin, LnotsWithin, and_lnot, conjunction, disjunction, label, lands_meaning, lands_tokens}
+use Rattle.hoa_parser.specs.Grammar.{LandsWithin, LnotWithin, LnotsWithin, and_lnot, raw_conjunction, disjunction, label, lands_meaning, lands_tokens}
 use Rattle.hoa_parser.specs.Grammar.{lnot_meaning, lnot_tokens, lnots_meaning, lnots_tokens, no_land, no_lnot, or_land}
 use Rattle.hoa_parser.specs.inner.Parsing.{Cursor}
 use Rattle.hoa_parser.specs.inner.RuleReads.{IsAndLnots, IsLabel, IsLand, IsLnot, IsOrLands, LandWithin, land_meaning, land_tokens}
@@ -41,7 +41,7 @@ lands_chain depth = record {
 -- all of the parts, as one label
 pub lnots_whole : (depth : ℕ) (first : RawTree) (parts : RawLabels) (l : RawLabel) (a b : Cursor)
     → raw_tree l ≡ raw.And (raw_parts parts).first (raw_parts parts).second (raw_trees (raw_parts parts).others) → AddsLnots depth first parts a b → IsAndLnots depth first l a b
-lnots_whole depth first parts l = chain_whole (lnots_chain depth) (λ x y zs. raw.And x y (raw_trees zs)) conjunction (λ t u us. refl) (raw_parts parts).first (raw_parts parts).second first
+lnots_whole depth first parts l = chain_whole (lnots_chain depth) (λ x y zs. raw.And x y (raw_trees zs)) raw_conjunction (λ t u us. refl) (raw_parts parts).first (raw_parts parts).second first
     (raw_tree l) (raw_parts parts).others
 
 pub lands_whole : (depth : ℕ) (first : RawTree) (parts : RawLabels) (l : RawLabel) (a b : Cursor)
@@ -55,7 +55,7 @@ land_of depth first l a b c one chain = record {
   phrase = record { first = one.phrase; others = chain.phrase };
   within = (one.within, chain.within);
   passed = passed_then a b c (lnot_tokens one.phrase) (lnots_tokens chain.phrase) one.passed chain.passed;
-  means = chain.means ∙ ap (λ (t : RawTree). conjunction t (lnots_meaning chain.phrase)) one.means;
+  means = chain.means ∙ ap (λ (t : RawTree). raw_conjunction t (lnots_meaning chain.phrase)) one.means;
 }
 
 pub label_of : (depth : ℕ) (first l : RawLabel) (a b c : Cursor) → IsLand depth first a b → IsOrLands depth (raw_tree first) l b c → IsLabel depth l a c

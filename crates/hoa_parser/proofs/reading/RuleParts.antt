@@ -8,19 +8,19 @@ use Rattle.hoa_lexer.specs.declared.token.Token.{Token}
 use Rattle.hoa_parser.proofs.reading.FrontParts.{passed_then, subst_tokens}
 use Rattle.hoa_parser.proofs.reading.Steps.{Then, next_fails, next_reads, reads_as, reads_nothing, reads_then}
 use Rattle.hoa_parser.specs.inner.Expecting.{Part}
-use Rattle.hoa_parser.specs.inner.Parsing.{Advanced, Cursor, IsWritten, Reads, ReadsTo, Relation, State, Uses}
+use Rattle.hoa_parser.specs.inner.Parsing.{Advanced, Cursor, IsWritten, ReadsParts, ReadsTo, Relation, State, Uses}
 use Rattle.hoa_parser.specs.declared.fault.ReadFault.{ReadFault}
 use Rattle.aut_base.proofs.lists.AllByRecursion.{AllByRecursion-append}
 
 -- whatever is answered of the next parts is the answer to all
 pub next_answer : {T : Type 0} {p : List Part} {A : Relation} {s m : State} (parts more : List Part) (Q R : T → Relation) (result : Result T ReadFault) (s' : State)
     → ((w : T) (a c : Cursor) → Then A (Q w) a c → R w a c)
-    → ReadsTo p (parts ++ more) A s m → Reads parts [] Q result m s' → Reads p more R result s s'
+    → ReadsTo p (parts ++ more) A s m → ReadsParts parts [] Q result m s' → ReadsParts p more R result s s'
 next_answer parts more Q R (Ok w) s' f one two = reads_as (f w) (next_reads one two)
 next_answer parts more Q R (Err e) s' f one two = next_fails more one two
 
 -- a byte was used
-pub uses_then : {T : Type 0} {s m : State} (p q : List Part) (Q : T → Relation) (result : Result T ReadFault) (s' : State) → Advanced s m → Reads p q Q result m s'
+pub uses_then : {T : Type 0} {s m : State} (p q : List Part) (Q : T → Relation) (result : Result T ReadFault) (s' : State) → Advanced s m → ReadsParts p q Q result m s'
     → OnOk result (Uses s.lexer s'.lexer)
 uses_then p q Q (Ok w) s' one two = omega (arith, one.uses, two.moves.used)
 uses_then p q Q (Err f) s' one two = tt

@@ -10,14 +10,14 @@ use Rattle.hoa_parser.proofs.reading.Steps.{Read, takes}
 use Rattle.hoa_parser.specs.Grammar.{Fatom, FatomWithin, bang_tokens, fatom_meaning, fatom_tokens, set_tokens}
 use Rattle.hoa_parser.specs.inner.Expecting.{Atom, Part, Takes, move, open_at, set_parts}
 use Rattle.hoa_parser.specs.inner.Parsing.{Advanced, Cursor, ReadsTo, State}
-use Rattle.hoa_parser.specs.inner.RuleReads.{IsFatom, IsMaybeBang, IsNumber, IsSet}
+use Rattle.hoa_parser.specs.inner.RuleReads.{IsFatom, IsMaybeBang, IsIntToken, IsSet}
 use Rattle.hoa_parser.specs.Standing.{most_depth}
 use Rattle.hoa_parser.specs.declared.parse.condition.SetAt.{SetAt}
 use Rattle.hoa_parser.specs.declared.parse.condition.Sign.{Sign}
 use Rattle.hoa_parser.specs.declared.parse.condition.Sign.TheVariants as sign
 
 -- "(" "!"? INT ")"
-pub set_of : (number : ℕ) (neg : Bool) (a b c d e : Cursor) → Read token.LeftParen a b → IsMaybeBang neg b c → IsNumber number c d → Read token.RightParen d e
+pub set_of : (number : ℕ) (neg : Bool) (a b c d e : Cursor) → Read token.LeftParen a b → IsMaybeBang neg b c → IsIntToken number c d → Read token.RightParen d e
     → IsSet (record { number = number; neg = neg }) a e
 set_of number neg a b c d e opens bang one close =
     passed_then a b e (token.LeftParen ∷ []) (bang_tokens neg ++ (token.Int number ∷ token.RightParen ∷ [])) opens

@@ -8,11 +8,11 @@ use Rattle.hoa_lexer.specs.Spelling.{closes_itself}
 use Rattle.hoa_lexer.specs.declared.token.Token.{Token}
 use Rattle.hoa_lexer.specs.declared.token.Token.TheVariants as token
 use Rattle.hoa_parser.proofs.reading.FailedParts.{fails_more, fails_then, taken_no_abort, unread_behind}
-use Rattle.hoa_parser.proofs.reading.FrontParts.{goes_more, goes_nowhere, goes_on, goes_over, goes_then, passes_behind, refuses_behind, takes_behind}
+use Rattle.hoa_parser.proofs.reading.FrontParts.{goes_more, goes_nowhere, follows_parts, goes_over, goes_then, passes_behind, refuses_behind, takes_behind}
 use Rattle.hoa_lexer.proofs.next_token.Moving.{moves_nowhere, moves_then}
 use Rattle.hoa_parser.specs.inner.Expecting as expecting
-use Rattle.hoa_parser.specs.inner.Expecting.{Move, Part, Takes, behind, move, moved, open_at}
-use Rattle.hoa_parser.specs.inner.Parsing.{Advanced, Advances, Cursor, FailsAt, Leaves, Passed, Reads, ReadsTo, Relation, State, Unadvanced, is_end, place}
+use Rattle.hoa_parser.specs.inner.Expecting.{TokenUse, Part, Takes, parts_behind, move, moved, open_at}
+use Rattle.hoa_parser.specs.inner.Parsing.{Advanced, AdvancesReader, Cursor, FailsAt, LeavesReader, Passed, ReadsParts, ReadsTo, Relation, State, Unadvanced, is_end, cursor_of}
 use Rattle.hoa_parser.specs.Standing.{most_depth}
 use Rattle.hoa_parser.specs.declared.fault.ReadFault.{ReadFault}
 use Rattle.hoa_parser.specs.declared.fault.ReadFault.TheVariants as fault
@@ -35,7 +35,7 @@ reads_then {p} {q} {r} {A} {B} {s} {m} {s'} one two = record {
   moves = moves_then _ s.lexer m.lexer s'.lexer s.seen m.seen s'.seen one.moves two.moves;
   spent = two.spent;
   holds = λ h. two.holds (one.holds h);
-  text = between_then s.seen.left m.seen.left s'.seen.left _ _ _ (λ x y z h k. ((place m y, h.0, k.0), goes_then p q r (place s x) (place m y) (place s' z) h.1 k.1)) one.text two.text;
+  text = between_then s.seen.left m.seen.left s'.seen.left _ _ _ (λ x y z h k. ((cursor_of m y, h.0, k.0), goes_then p q r (cursor_of s x) (cursor_of m y) (cursor_of s' z) h.1 k.1)) one.text two.text;
 }
 
 -- and more that could not be read
@@ -43,7 +43,7 @@ pub fails_after : {p q : List Part} {A : Relation} {f : ReadFault} {s m s' : Sta
 fails_after {p} {q} {A} {f} {s} {m} {s'} one two = record {
   moves = moves_then _ s.lexer m.lexer s'.lexer s.seen m.seen s'.seen one.moves two.moves;
   leaves = λ h. two.leaves (one.holds h);
-  text = between_then s.seen.left m.seen.left s'.seen.left _ _ _ (λ x y z h k. fails_then f p q (place s x) (place m y) (place s' z) h.1 k) one.text two.text;
+  text = between_then s.seen.left m.seen.left s'.seen.left _ _ _ (λ x y z h k. fails_then f p q (cursor_of s x) (cursor_of m y) (cursor_of s' z) h.1 k) one.text two.text;
 }
 
 -- behind the parts more is expected
@@ -52,14 +52,14 @@ reads_before {p} {q} {A} {s} {s'} more one = record {
   moves = one.moves;
   spent = one.spent;
   holds = one.holds;
-  text = between_as s.seen.left s'.seen.left _ _ (λ x y h. (h.0, goes_more p q more (place s x) (place s' y) h.1)) one.text;
+  text = between_as s.seen.left s'.seen.left _ _ (λ x y h. (h.0, goes_more p q more (cursor_of s x) (cursor_of s' y) h.1)) one.text;
 }
 
 pub fails_before : {p : List Part} {f : ReadFault} {s s' : State} (more : List Part) → FailsAt f p s s' → FailsAt f (p ++ more) s s'
 fails_before {p} {f} {s} {s'} more one = record {
   moves = one.moves;
   leaves = one.leaves;
-  text = between_as s.seen.left s'.seen.left _ _ (λ x y h. fails_more f p more (place s x) (place s' y) h) one.text;
+  text = between_as s.seen.left s'.seen.left _ _ (λ x y h. fails_more f p more (cursor_of s x) (cursor_of s' y) h) one.text;
 }
 
 -- the next parts of a rule
@@ -75,7 +75,7 @@ reads_as {p} {q} {A} {B} {s} {s'} f one = record {
   moves = one.moves;
   spent = one.spent;
   holds = one.holds;
-  text = between_as s.seen.left s'.seen.left _ _ (λ x y h. (f (place s x) (place s' y) h.0, h.1)) one.text;
+  text = between_as s.seen.left s'.seen.left _ _ (λ x y h. (f (cursor_of s x) (cursor_of s' y) h.0, h.1)) one.text;
 }
 
 -- and this is so of the token that is at hand then
@@ -88,21 +88,22 @@ reads_at {p} {q} {A} {s} {s'} z is one = record {
 }
 
 -- the token at hand is to these parts what it is to those
-pub turns : {p q : List Part} (s : State) → s.lexer.spent ≡ false → ((most : ℕ) (others : List Part) → behind most (p ++ others) s.ahead ≡ behind most (q ++ others) s.ahead) → ReadsTo p q Same s s
+pub turns : {p q : List Part} (s : State) → s.lexer.spent ≡ false → ((most : ℕ) (others : List Part) → parts_behind most (p ++ others) s.ahead ≡ parts_behind most (q ++ others) s.ahead)
+    → ReadsTo p q Same s s
 turns {p} {q} s unspent over = record {
   moves = moves_nowhere s.lexer s.seen;
   spent = unspent;
   holds = λ h. h;
-  text = between_same s.seen.left _ (λ x. (refl, goes_over p q (place s x) over));
+  text = between_same s.seen.left _ (λ x. (refl, goes_over p q (cursor_of s x) over));
 }
 
 -- so those are read in place of these
 pub reads_for : {p parts : List Part} {B : Relation} {s m : State} (more : List Part) → s.lexer.spent ≡ false
-    → ((most : ℕ) (others : List Part) → behind most (p ++ others) s.ahead ≡ behind most ((parts ++ more) ++ others) s.ahead) → ReadsTo parts [] B s m → ReadsTo p more B s m
+    → ((most : ℕ) (others : List Part) → parts_behind most (p ++ others) s.ahead ≡ parts_behind most ((parts ++ more) ++ others) s.ahead) → ReadsTo parts [] B s m → ReadsTo p more B s m
 reads_for {B = B} {s = s} more unspent over one = reads_as (λ a c h. subst (λ (x : Cursor). B x c) (sym h.1) h.2) (next_reads (turns s unspent over) one)
 
 pub fails_for : {p parts : List Part} {f : ReadFault} {s m : State} (more : List Part) → s.lexer.spent ≡ false
-    → ((most : ℕ) (others : List Part) → behind most (p ++ others) s.ahead ≡ behind most ((parts ++ more) ++ others) s.ahead) → FailsAt f parts s m → FailsAt f p s m
+    → ((most : ℕ) (others : List Part) → parts_behind most (p ++ others) s.ahead ≡ parts_behind most ((parts ++ more) ++ others) s.ahead) → FailsAt f parts s m → FailsAt f p s m
 fails_for {s = s} more unspent over one = next_fails more (turns s unspent over) one
 
 -- nothing was read
@@ -129,10 +130,10 @@ takes {parts} {s} {s'} part others z is goes opens unended one = record {
   spent = one.spent;
   holds = λ h. one.holds;
   text = between_as s.seen.left s'.seen.left _ _
-      (λ x y h. ((place s' y, sym is, h, refl), goes_on part parts others (place s x) (place s' y) (ap (move part) is ∙ goes) opens (ap is_end is ∙ unended) h)) one.text;
+      (λ x y h. ((cursor_of s' y, sym is, h, refl), follows_parts part parts others (cursor_of s x) (cursor_of s' y) (ap (move part) is ∙ goes) opens (ap is_end is ∙ unended) h)) one.text;
 }
 
-leaves_unread : (f : ReadFault) (s : State) → s.lexer.held ≡ None → s.ahead ≢ token.Abort → Leaves f s
+leaves_unread : (f : ReadFault) (s : State) → s.lexer.held ≡ None → s.ahead ≢ token.Abort → LeavesReader f s
 leaves_unread (fault.Syntax k) s none no_abort = λ is. absurd (no_abort is)
 leaves_unread fault.Truncated s none no_abort = none
 leaves_unread fault.Depth s none no_abort = none
@@ -147,7 +148,7 @@ takes_last {parts} {f} {s} {s'} part others z is goes opens unended one = record
   moves = one.moves;
   leaves = λ h. leaves_unread f s' one.held (λ e. taken_no_abort part parts z goes opens (sym is ∙ sym one.stays ∙ e));
   text = between_as s.seen.left s'.seen.left _ _
-      (λ x y h. inr (unread_behind f part parts others (place s x) (place s' y) (ap (move part) is ∙ goes) opens (ap is_end is ∙ unended) one.held one.stays h)) one.text;
+      (λ x y h. inr (unread_behind f part parts others (cursor_of s x) (cursor_of s' y) (ap (move part) is ∙ goes) opens (ap is_end is ∙ unended) one.held one.stays h)) one.text;
 }
 
 unheld : (held : Option ℕ) (z : Token) → is_some held ≡ not (closes_itself z) → closes_itself z ≡ true → held ≡ None
@@ -156,13 +157,13 @@ unheld (Some b) z h c = absurd (let no : true ≡ false = h ∙ ap not c in cc)
 
 -- it cannot stand there
 pub refuses : (p : List Part) (f : ReadFault) (s : State) → s.lexer.spent ≡ false → f ≡ fault.Syntax s.lexer.offset
-    → ((most : ℕ) (others : List Part) → behind most (p ++ others) s.ahead ≡ None) → FailsAt f p s s
+    → ((most : ℕ) (others : List Part) → parts_behind most (p ++ others) s.ahead ≡ None) → FailsAt f p s s
 refuses p f s unspent same refused =
     subst (λ (g : ReadFault). FailsAt g p s s) (sym same)
     (record {
       moves = moves_nowhere s.lexer s.seen;
       leaves = λ h is. (unheld s.lexer.held s.ahead h (ap closes_itself is), unspent);
-      text = between_same s.seen.left _ (λ x. inl (record { target = p; goes = goes_nowhere p (place s x); refused = refused }, refl));
+      text = between_same s.seen.left _ (λ x. inl (record { target = p; goes = goes_nowhere p (cursor_of s x); refused = refused }, refl));
     })
 
 pub token_refused : (part : Part) (others : List Part) (f : ReadFault) (s : State) → s.lexer.spent ≡ false → f ≡ fault.Syntax s.lexer.offset → move part s.ahead ≡ expecting.Refuses
@@ -178,8 +179,8 @@ too_deep {parts} part others z s is closes goes over far same = record {
   leaves = λ h. unheld s.lexer.held s.ahead h (ap closes_itself is ∙ closes);
   text = between_same s.seen.left _ (λ x. inl (record {
     target = part ∷ others;
-    goes = goes_nowhere (part ∷ others) (place s x);
-    refused = λ more. ap (λ (m : Move). moved most_depth m (behind most_depth (others ++ more) s.ahead) (others ++ more)) (ap (move part) is ∙ goes)
+    goes = goes_nowhere (part ∷ others) (cursor_of s x);
+    refused = λ more. ap (λ (m : TokenUse). moved most_depth m (parts_behind most_depth (others ++ more) s.ahead) (others ++ more)) (ap (move part) is ∙ goes)
         ∙ ap (λ (b : Bool). if b then Some (parts ++ (others ++ more)) else None) over;
     most = open_at parts;
     more = far;
@@ -199,12 +200,12 @@ no_memory {p} {q} {A} {s} {s'} one = record {
 
 -- a fault that a `?` hands on
 pub handed_on : {T : Type 0} {p : List Part} {f : ReadFault} {s s' : State} (r : List Part) (Q : T → Relation) (result : Result T ReadFault) → IsErrAnd result (λ y. y ≡ f) → FailsAt f p s s'
-    → Reads p r Q result s s'
+    → ReadsParts p r Q result s s'
 handed_on r Q (Ok x) h one = absurd h
 handed_on {p = p} {s = s} {s' = s'} r Q (Err y) h one = subst (λ (e : ReadFault). FailsAt e p s s') (sym h) one
 
 -- a part of one token, and whatever is answered of the token behind it
 pub token_read : (part : Part) (z : Token) (Q : Unit {0} → Relation) (result : Result (Unit {0}) ReadFault) (s s' : State) → s.ahead ≡ z → move part z ≡ Takes [] → is_end z ≡ false
-    → ((v : Unit {0}) (a b : Cursor) → Read z a b → Q v a b) → Advances result s s' → Reads (part ∷ []) [] Q result s s'
+    → ((v : Unit {0}) (a b : Cursor) → Read z a b → Q v a b) → AdvancesReader result s s' → ReadsParts (part ∷ []) [] Q result s s'
 token_read part z Q (Ok v) s s' is goes unended f one = reads_as (f v) (takes part [] z is goes refl unended one)
 token_read part z Q (Err e) s s' is goes unended f one = takes_last part [] z is goes refl unended one

@@ -3,8 +3,8 @@ use Rattle.std.proofs.Common.{◌≡◌, ℕ, ◌+◌, ◌≤◌, List, [], ◌�
 use Rattle.hoa_lexer.specs.declared.token.Token.{Token}
 use Rattle.hoa_lexer.specs.declared.token.Token.TheVariants as token
 use Rattle.hoa_parser.specs.inner.Expecting as part
-use Rattle.hoa_parser.specs.inner.Expecting.{Part, after, after_some, behind}
-use Rattle.hoa_parser.specs.Grammar.{IsViable, Spells}
+use Rattle.hoa_parser.specs.inner.Expecting.{Part, parts_after, after_some, parts_behind}
+use Rattle.hoa_parser.specs.Grammar.{IsViable, SpellsAutomaton}
 use Rattle.hoa_parser.specs.Standing.{IsDead, SpellsNothing, most_depth}
 use Rattle.hoa_parser.proofs.grammar.Depths.{after_more, viable_more, within_more}
 use Rattle.hoa_parser.proofs.grammar.AfterLabels.{after_append}
@@ -17,22 +17,23 @@ after_nothing most None = refl
 after_nothing most (Some parts) = refl
 
 -- one more token
-pub after_next : (most : ℕ) (ts : List Token) (left : List Part) (z : Token) → after most (part.Whole ∷ []) ts ≡ Some left → after most (part.Whole ∷ []) (ts ++ z ∷ []) ≡ behind most left z
+pub after_next : (most : ℕ) (ts : List Token) (left : List Part) (z : Token) → parts_after most (part.Whole ∷ []) ts ≡ Some left
+    → parts_after most (part.Whole ∷ []) (ts ++ z ∷ []) ≡ parts_behind most left z
 after_next most ts left z e =
     after_append most (Some (part.Whole ∷ [])) ts (z ∷ [])
     ∙ ap (λ (o : Option (List Part)). after_some most o (z ∷ [])) e
-    ∙ after_nothing most (behind most left z)
+    ∙ after_nothing most (parts_behind most left z)
 
 none_nothing : (left : List Part) → None ≡ Some left → ⊥
 none_nothing left e = cc
 
 -- What cannot stand begins no automaton.
-pub refused : (most : ℕ) (ts : List Token) → after most (part.Whole ∷ []) ts ≡ None → IsViable most ts → ⊥
+pub refused : (most : ℕ) (ts : List Token) → parts_after most (part.Whole ∷ []) ts ≡ None → IsViable most ts → ⊥
 refused most ts e v =
     none_nothing [] (sym (after_append most (Some (part.Whole ∷ [])) ts v.more ∙ ap (λ (o : Option (List Part)). after_some most o v.more) e)
     ∙ spelled_follows most (ts ++ v.more) v.whole v.spelled)
 
-pub dead : (ts : List Token) (left : List Part) (z : Token) → after most_depth (part.Whole ∷ []) ts ≡ Some left → ((most : ℕ) → behind most left z ≡ None) → IsDead (ts ++ z ∷ [])
+pub dead : (ts : List Token) (left : List Part) (z : Token) → parts_after most_depth (part.Whole ∷ []) ts ≡ Some left → ((most : ℕ) → parts_behind most left z ≡ None) → IsDead (ts ++ z ∷ [])
 dead ts left z e refuses most v =
     let n : ℕ = most + most_depth in
     let l : most_depth ≤ most + most_depth = omega arith in
@@ -40,22 +41,23 @@ dead ts left z e refuses most v =
     refused n (ts ++ z ∷ []) (here ∙ refuses n) (viable_more most n (ts ++ z ∷ []) (omega arith) v)
 
 -- `--ABORT--` can stand nowhere.
-pub abort_is_dead : (ts : List Token) (left : List Part) → after most_depth (part.Whole ∷ []) ts ≡ Some left → IsDead (ts ++ token.Abort ∷ [])
+pub abort_is_dead : (ts : List Token) (left : List Part) → parts_after most_depth (part.Whole ∷ []) ts ≡ Some left → IsDead (ts ++ token.Abort ∷ [])
 abort_is_dead ts left e = dead ts left token.Abort e (λ most. abort most left)
 
 some_nothing : (p : Part) (left : List Part) → Some (p ∷ left) ≡ Some [] → ⊥
 some_nothing p left e = cc
 
 -- Where a part is expected, no automaton is whole.
-pub unfinished : (ts : List Token) (p : Part) (left : List Part) → after most_depth (part.Whole ∷ []) ts ≡ Some (p ∷ left) → SpellsNothing ts
+pub unfinished : (ts : List Token) (p : Part) (left : List Part) → parts_after most_depth (part.Whole ∷ []) ts ≡ Some (p ∷ left) → SpellsNothing ts
 unfinished ts p left e most w s =
     let n : ℕ = most + most_depth in
     let there = after_more most_depth n ts (part.Whole ∷ []) (p ∷ left) (omega arith) e in
-    let more : Spells n ts w = record { phrase = s.phrase; within = within_more most n s.phrase (omega arith) s.within; spelled = s.spelled; means = s.means } in
+    let more : SpellsAutomaton n ts w = record { phrase = s.phrase; within = within_more most n s.phrase (omega arith) s.within; spelled = s.spelled; means = s.means } in
     some_nothing p left (sym there ∙ spelled_follows n ts w more)
 
 -- A token that could stand if more might be open.
-pub deep : (m : ℕ) (ts : List Token) (left left' : List Part) (z : Token) → after most_depth (part.Whole ∷ []) ts ≡ Some left → behind most_depth left z ≡ None → behind m left z ≡ Some left'
+pub deep : (m : ℕ) (ts : List Token) (left left' : List Part) (z : Token) → parts_after most_depth (part.Whole ∷ []) ts ≡ Some left → parts_behind most_depth left z ≡ None
+    → parts_behind m left z ≡ Some left'
     → most_depth ≤ m → IsViable m (ts ++ z ∷ []) × (IsViable most_depth (ts ++ z ∷ []) → ⊥)
 deep m ts left left' z e here there l = (
   viable m (ts ++ z ∷ []) left' (after_next m ts left z (after_more most_depth m ts (part.Whole ∷ []) left l e) ∙ there),

@@ -5,7 +5,7 @@ use Rattle.hoa_lexer.specs.Blanks.{IsBlanks}
 use Rattle.hoa_lexer.specs.Text.{IsNext, Lexes}
 use Rattle.hoa_lexer.specs.declared.token.Token.{Token}
 use Rattle.hoa_lexer.specs.declared.token.Token.TheVariants as token
-use Rattle.hoa_parser.specs.Grammar.{AutomatonPhrase, IsViable, Spells, automaton_meaning, automaton_tokens}
+use Rattle.hoa_parser.specs.Grammar.{AutomatonPhrase, IsViable, SpellsAutomaton, automaton_meaning, automaton_tokens}
 use Rattle.hoa_parser.specs.Raw.{Written}
 use Rattle.hoa_parser.specs.Standing.{EndsOpen, IsBegun, IsMisplaced, IsNoTokenAt, SpellsNothing, Standing, Stands, most_depth}
 use Rattle.hoa_parser.specs.Standing.Standing.{Blank, Whole, Deep, Bad, Aborted, Cut}
@@ -29,7 +29,7 @@ pub record IsTooDeep (tokens : List Token) (used : ℕ) (rest : List ℕ) : Type
 
 abbrev pub Halts : Standing → List Token → ℕ → List ℕ → Type 0
 Halts Blank tokens used rest = (tokens ≡ []) × IsBlanks rest
-Halts (Whole w r) tokens used rest = Spells most_depth tokens w × (r ≡ rest)
+Halts (Whole w r) tokens used rest = SpellsAutomaton most_depth tokens w × (r ≡ rest)
 Halts Deep tokens used rest = IsPart tokens × IsTooDeep tokens used rest
 Halts (Bad k) tokens used rest = IsPart tokens × (IsMisplaced k tokens used rest ⊎ IsNoTokenAt k used rest)
 Halts (Aborted r) tokens used rest = IsPart tokens × (tokens ≢ []) × (offset : ℕ) × IsNext rest used token.Abort offset r
@@ -86,11 +86,11 @@ viable_nothing m = record {
   spelled = record { phrase = smallest; within = (tt, tt); spelled = refl; means = refl };
 }
 
-pub viable_whole : (m : ℕ) (tokens : List Token) (w : Written) → Spells m tokens w → IsViable m tokens
-viable_whole m tokens w s = record { more = []; whole = w; spelled = subst (λ (ts : List Token). Spells m ts w) (sym (append-nil tokens)) s }
+pub viable_whole : (m : ℕ) (tokens : List Token) (w : Written) → SpellsAutomaton m tokens w → IsViable m tokens
+viable_whole m tokens w s = record { more = []; whole = w; spelled = subst (λ (ts : List Token). SpellsAutomaton m ts w) (sym (append-nil tokens)) s }
 
 pub viable_part : (m : ℕ) (ts us : List Token) → IsViable m (ts ++ us) → IsViable m ts
-viable_part m ts us v = record { more = us ++ v.more; whole = v.whole; spelled = subst (λ (xs : List Token). Spells m xs v.whole) (append_assoc ts us v.more) v.spelled }
+viable_part m ts us v = record { more = us ++ v.more; whole = v.whole; spelled = subst (λ (xs : List Token). SpellsAutomaton m xs v.whole) (append_assoc ts us v.more) v.spelled }
 
 -- what halts is viable
 pub halts_viable : (s : Standing) (tokens : List Token) (used : ℕ) (rest : List ℕ) → Halts s tokens used rest → IsViable most_depth tokens

@@ -11,7 +11,7 @@ use Rattle.hoa_lexer.specs.Blanks.{IsBlanks}
 use Rattle.hoa_lexer.proofs.next_token.Asked.{last_is_asked_for}
 use Rattle.hoa_lexer.specs.Reading as lexing
 use Rattle.hoa_lexer.specs.Reading.{Tells, held_count, unread}
-use Rattle.hoa_lexer.specs.Spelling.{Ends, closes_itself}
+use Rattle.hoa_lexer.specs.Spelling.{IsDelimited, closes_itself}
 use Rattle.hoa_lexer.specs.Text.{AskedForOne, HasFront, IsNext, IsShownBy, Lexes}
 use Rattle.hoa_lexer.specs.declared.lexer.Lexer.{Lexer}
 use Rattle.hoa_lexer.specs.declared.token.LexFault.{LexFault}
@@ -27,7 +27,7 @@ use Rattle.hoa_parser.proofs.standing.StandingAnswers.{Opened, Starts, before, b
 use Rattle.hoa_parser.specs.inner.Expecting as part
 use Rattle.hoa_parser.specs.inner.Expecting.{Part, move}
 use Rattle.hoa_parser.specs.inner.Faults.{read_fault}
-use Rattle.hoa_parser.specs.inner.Parsing.{Abandons, Cursor, Fails, FailsAt, Goes, Passed, Refuses, State, TooDeep, Unread, place}
+use Rattle.hoa_parser.specs.inner.Parsing.{Abandons, Cursor, FailsParts, FailsAt, PassesTokens, Passed, RefusesToken, State, TooDeep, Unread, cursor_of}
 use Rattle.hoa_parser.specs.Reads.{AskedForLast, EndsDeep, IsHopeless, Shows}
 use Rattle.hoa_parser.specs.Standing.{EndsOpen, IsBegun, IsDead, IsMisplaced, IsNoTokenAt}
 use Rattle.hoa_parser.specs.declared.fault.ReadFault.{ReadFault}
@@ -57,7 +57,7 @@ closed_so (Some b) z c e = cc
 
 -- what a token and the byte that closes it show without the bytes behind them
 
-pub ends_off : (t : Token) (rest more : List ℕ) → (rest ≡ [] → closes_itself t ≡ true) → Ends t (rest ++ more) → Ends t rest
+pub ends_off : (t : Token) (rest more : List ℕ) → (rest ≡ [] → closes_itself t ≡ true) → IsDelimited t (rest ++ more) → IsDelimited t rest
 ends_off (token.Identifier name) [] more c e = absurd (false≢true (c refl))
 ends_off (token.Identifier name) (b ∷ rest) more c e = e
 ends_off (token.Alias name) [] more c e = absurd (false≢true (c refl))
@@ -171,7 +171,7 @@ passed_holds a b [] p h = subst (λ (x : Cursor). is_some x.held ≡ not (closes
 passed_holds a b (t ∷ ts) p h = passed_holds p.0 b ts p.3 p.2.holds
 
 -- for the token at hand
-asked_for_token : (start : ℕ) (text left : List ℕ) (a last : Cursor) (target : List Part) → Starts start text a → Goes (part.Whole ∷ []) a target last → last.rest ≡ unread last.held left
+asked_for_token : (start : ℕ) (text left : List ℕ) (a last : Cursor) (target : List Part) → Starts start text a → PassesTokens (part.Whole ∷ []) a target last → last.rest ≡ unread last.held left
     → AskedForLast start text left
 asked_for_token start text left a last target starts g ends =
     let s = before start text a last target g starts in
@@ -179,7 +179,7 @@ asked_for_token start text left a last target starts g ends =
     (last_is_asked_for s.rest s.used last.offset last.token last.held left (subst (λ (w : List ℕ). IsNext s.rest s.used last.token last.offset w) ends s.next)
     (passed_holds a last g.tokens g.passed starts.holds))
 
-misplaced_shown : (k start : ℕ) (text left : List ℕ) (a b : Cursor) → Starts start text a → Refuses (part.Whole ∷ []) a b → k ≡ b.offset → b.token ≢ token.Abort → b.rest ≡ unread b.held left
+misplaced_shown : (k start : ℕ) (text left : List ℕ) (a b : Cursor) → Starts start text a → RefusesToken (part.Whole ∷ []) a b → k ≡ b.offset → b.token ≢ token.Abort → b.rest ≡ unread b.held left
     → IsHopeless k start text left
 misplaced_shown k start text left a b starts r at other ends =
     let g = r.goes in
@@ -220,7 +220,7 @@ deep_shown start text left a b starts d ends =
     record { deep = too_deep start text a b starts d; held = b.held; behind = ends; needed = passed_holds a b d.goes.tokens d.goes.passed starts.holds }
 
 -- why no automaton was read
-pub shows_fault : (f : ReadFault) (start : ℕ) (text left : List ℕ) (a last : Cursor) → (Abandons f last.token → ⊥) → Starts start text a → Fails f (part.Whole ∷ []) a last
+pub shows_fault : (f : ReadFault) (start : ℕ) (text left : List ℕ) (a last : Cursor) → (Abandons f last.token → ⊥) → Starts start text a → FailsParts f (part.Whole ∷ []) a last
     → last.rest ≡ unread last.held left → Shows (Err f) start text left
 shows_fault f start text left a last other starts (inr u) ends = shows_unread f start text left a last starts u (ends ∙ unheld last.held left u.held)
 shows_fault (fault.Syntax k) start text left a last other starts (inl h) ends =
@@ -233,7 +233,7 @@ shows_fault fault.Read start text left a last other starts (inl h) ends = tt
 shows_fault fault.Memory start text left a last other starts (inl h) ends = tt
 
 -- the automaton was abandoned
-pub shows_aborted : (f : ReadFault) (start : ℕ) (text left : List ℕ) (a last : Cursor) → Abandons f last.token → Starts start text a → Fails f (part.Whole ∷ []) a last
+pub shows_aborted : (f : ReadFault) (start : ℕ) (text left : List ℕ) (a last : Cursor) → Abandons f last.token → Starts start text a → FailsParts f (part.Whole ∷ []) a last
     → last.rest ≡ unread last.held left → AskedForLast start text left
 shows_aborted (fault.Syntax k) start text left a last abort starts (inl h) ends = asked_for_token start text left a last h.0.target starts h.0.goes ends
 shows_aborted (fault.Syntax k) start text left a last abort starts (inr u) ends = absurd (u.no_abort abort)
@@ -257,7 +257,7 @@ shows_open start old left ends none = (
 )
 
 -- no token was there
-pub shows_lexing : (f : LexFault) (start offset : ℕ) (old left : List ℕ) → lexing.Answers (Err f) start offset old left → Shows (Err (read_fault f)) start old left
+pub shows_lexing : (f : LexFault) (start offset : ℕ) (old left : List ℕ) → lexing.AnswersToken (Err f) start offset old left → Shows (Err (read_fault f)) start old left
 shows_lexing (lex.BadToken k) start offset old left h = (no_token_at k start old left [] start old (nothing_begun start old) h.2, asked_last start old left [] start old (nothing_begun start old) h.1)
 shows_lexing lex.OpenComment start offset old left h = shows_open start old left (inr (inl h.0)) h.1
 shows_lexing lex.OpenString start offset old left h = shows_open start old left (inr (inr (inl h.0))) h.1
@@ -282,24 +282,24 @@ Left lexer seen seen' R = Tells seen seen' (λ x y. R (lexer.since - held_count 
 pub raw_aborted_shows : (f : ReadFault) (lexer : Lexer) (seen : Seen) (s s' : State) → Opened lexer seen s → Abandons f s'.ahead → FailsAt f (part.Whole ∷ []) s s'
     → Left lexer seen s'.seen (Shows (Ok front.Aborted))
 raw_aborted_shows f lexer seen s s' opened abandons read =
-    said_then lexer seen s s' (Fails f (part.Whole ∷ [])) _ opened read.text
-    (λ x y z starts says. shows_aborted f _ _ z (place s y) (place s' z) abandons starts says refl)
+    said_then lexer seen s s' (FailsParts f (part.Whole ∷ [])) _ opened read.text
+    (λ x y z starts says. shows_aborted f _ _ z (cursor_of s y) (cursor_of s' z) abandons starts says refl)
 
 pub raw_fault_shows : (f : ReadFault) (lexer : Lexer) (seen : Seen) (s s' : State) → Opened lexer seen s → (Abandons f s'.ahead → ⊥) → FailsAt f (part.Whole ∷ []) s s'
     → Left lexer seen s'.seen (Shows (Err f))
 raw_fault_shows f lexer seen s s' opened other read =
-    said_then lexer seen s s' (Fails f (part.Whole ∷ [])) _ opened read.text
-    (λ x y z starts says. shows_fault f _ _ z (place s y) (place s' z) other starts says refl)
+    said_then lexer seen s s' (FailsParts f (part.Whole ∷ [])) _ opened read.text
+    (λ x y z starts says. shows_fault f _ _ z (cursor_of s y) (cursor_of s' z) other starts says refl)
 
 -- the lexer gave no token
 pub raw_unlexed_shows : (f : LexFault) (result : Result Front ReadFault) (lexer lexer' : Lexer) (offset : ℕ) (seen seen' : Seen) → (e : ReadFault) × (result ≡ Err e) × (e ≡ read_fault f)
     → lexer'.held ≡ None
-    → Tells seen seen' (λ x y. lexing.Answers (Err f) (lexer.since - held_count lexer.held) offset (unread lexer.held x) (unread lexer'.held y)) → Left lexer seen seen' (Shows result)
+    → Tells seen seen' (λ x y. lexing.AnswersToken (Err f) (lexer.since - held_count lexer.held) offset (unread lexer.held x) (unread lexer'.held y)) → Left lexer seen seen' (Shows result)
 raw_unlexed_shows f result lexer lexer' offset seen seen' same none said =
     between_as seen.left seen'.left _ _
     (λ x y h. subst (λ (r : Result Front ReadFault). Shows r (lexer.since - held_count lexer.held) (unread lexer.held x) y) (sym (same.1 ∙ ap Err same.2))
     (shows_lexing f _ offset (unread lexer.held x) y
-    (subst (λ (w : List ℕ). lexing.Answers (Err f) (lexer.since - held_count lexer.held) offset (unread lexer.held x) w) (unheld lexer'.held y none) h))) said
+    (subst (λ (w : List ℕ). lexing.AnswersToken (Err f) (lexer.since - held_count lexer.held) offset (unread lexer.held x) w) (unheld lexer'.held y none) h))) said
 
 -- it gave another token than `HOA:`
 pub raw_other_shows : (k : ℕ) (lexer : Lexer) (seen : Seen) (s : State) → Opened lexer seen s → k ≡ s.lexer.offset → move part.Whole s.ahead ≡ part.Refuses

@@ -9,7 +9,7 @@ use Rattle.hoa_lexer.specs.declared.token.Token.{Token}
 use Rattle.hoa_lexer.specs.declared.token.Token.TheVariants as token
 use Rattle.hoa_lexer.specs.Laws.Next.{NoMore, NoToken}
 use Rattle.hoa_lexer.proofs.next_token.Unique.{one_next_token}
-use Rattle.hoa_parser.specs.Grammar.{IsViable, Spells}
+use Rattle.hoa_parser.specs.Grammar.{IsViable, SpellsAutomaton}
 use Rattle.hoa_parser.specs.Raw.{Written}
 use Rattle.hoa_parser.specs.Reads.{EndsDeep}
 use Rattle.hoa_parser.specs.Standing.{EndsOpen, IsDeep, IsMisplaced, IsNoTokenAt, OneStanding, Standing, most_depth}
@@ -20,7 +20,7 @@ use Rattle.hoa_parser.proofs.grammar.OneRaw.{one_raw}
 use Rattle.hoa_parser.proofs.standing.Readings.{IsFurther, compared, place}
 use Rattle.hoa_parser.proofs.standing.NextCases.{HasNext, blanks_no_fault, next_no_blanks, next_no_fault, next_not_open, one_no_token, one_token, open_only}
 
-spells_some : (m : ℕ) (tokens : List Token) (w : Written) → tokens ≡ [] → Spells m tokens w → ⊥
+spells_some : (m : ℕ) (tokens : List Token) (w : Written) → tokens ≡ [] → SpellsAutomaton m tokens w → ⊥
 spells_some m tokens w e s = let all = sym e ∙ s.spelled in cc
 
 -- a token stands next, or the text is cut

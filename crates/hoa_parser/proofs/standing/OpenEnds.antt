@@ -1,7 +1,7 @@
 -- Where a text ends among blanks, or inside a comment, a string or another token, one byte more is asked for.
 use Rattle.std.proofs.Common.{◌≡◌, ℕ, ◌⊎◌, List, ◌++◌, Option, Some, None, inl, inr, refl, sym, subst}
-use Rattle.hoa_lexer.specs.Blanks.{Closes, IsBlanks, IsOpenComment}
-use Rattle.hoa_lexer.specs.Text.{AfterBlanks, AsksForMore, Begins, HasFront, IsOpenString, IsOpenToken}
+use Rattle.hoa_lexer.specs.Blanks.{ClosesComments, IsBlanks, IsOpenComment}
+use Rattle.hoa_lexer.specs.Text.{AfterBlanks, AsksForMore, BeginsToken, HasFront, IsOpenString, IsOpenToken}
 use Rattle.hoa_lexer.specs.inner.Steps.{closing}
 use Rattle.hoa_lexer.proofs.next_token.Exclusive.{IsStuck, open_string_stuck, open_token_stuck, stuck_no_token}
 use Rattle.hoa_lexer.proofs.next_token.Fronts.{asks_after, asks_blanks, asks_comment, asks_slash, at_once}
@@ -10,7 +10,7 @@ use Rattle.hoa_lexer.proofs.spelling.Comments.{closing_sound}
 use Rattle.hoa_parser.specs.Standing.{EndsOpen}
 
 -- no front of the bytes closes the comment
-never_closed : (rest : List ℕ) (found : Option (List ℕ)) → closing 1 rest ≡ found → ((body more : List ℕ) → rest ≡ body ++ more → Closes 1 body → ⊥) → closing 1 rest ≡ None
+never_closed : (rest : List ℕ) (found : Option (List ℕ)) → closing 1 rest ≡ found → ((body more : List ℕ) → rest ≡ body ++ more → ClosesComments 1 body → ⊥) → closing 1 rest ≡ None
 never_closed rest None e h = e
 never_closed rest (Some more) e h =
     let w = closing_sound 1 rest more e in
@@ -20,7 +20,7 @@ comment_asks : (bytes : List ℕ) → IsOpenComment bytes → AsksForMore bytes
 comment_asks bytes o = subst AsksForMore (sym o.opens) (asks_comment o.rest (never_closed o.rest (closing 1 o.rest) refl o.open_still))
 
 -- bytes that no token and no blank begins now, and that can go on so that a token does
-begins_asks : (bytes : List ℕ) → IsStuck bytes → Begins bytes → AsksForMore bytes
+begins_asks : (bytes : List ℕ) → IsStuck bytes → BeginsToken bytes → AsksForMore bytes
 begins_asks bytes s b = record {
   unclosed = stuck_no_token bytes (at_once bytes IsStuck s);
   more = b.more;

@@ -3,7 +3,7 @@ use Rattle.std.proofs.Common.{◌≡◌, ◌≢◌, ℕ, ◌+◌, ◌-◌, true,
 use Rattle.std.proofs.lemmas.List.{append_assoc, length-append}
 use Rattle.hoa_lexer.proofs.next_token.Asked.{ends_on}
 use Rattle.hoa_lexer.specs.Bytes.{is_space}
-use Rattle.hoa_lexer.specs.Text.{Begins, HasFront, IsFront, IsNext, IsNoToken, Lexes}
+use Rattle.hoa_lexer.specs.Text.{BeginsToken, HasFront, IsFront, IsNext, IsNoToken, Lexes}
 use Rattle.hoa_lexer.specs.declared.token.Token.{Token}
 use Rattle.hoa_parser.specs.Raw.{Written}
 use Rattle.hoa_parser.specs.Standing.{IsAborted, IsBad, IsBegun, IsDeep, IsMisplaced, IsNoTokenAt, IsWhole}
@@ -51,7 +51,7 @@ begun_on start text tokens used rest more b = record {
   unfinished = b.unfinished;
 }
 
-begins_back : (bytes more : List ℕ) → Begins (bytes ++ more) → Begins bytes
+begins_back : (bytes more : List ℕ) → BeginsToken (bytes ++ more) → BeginsToken bytes
 begins_back bytes more g = record { more = more ++ g.more; front = subst HasFront (append_assoc bytes more g.more) g.front }
 
 no_space_on : (bytes more : List ℕ) → IsNoToken bytes → (b : ℕ) (rest : List ℕ) → bytes ++ more ≡ b ∷ rest → is_space b ≡ true → ⊥

@@ -6,7 +6,7 @@ use Rattle.aut_io.specs.Seen.{Seen}
 use Rattle.hoa_lexer.proofs.next_token.Fronts.{length_unread}
 use Rattle.hoa_lexer.specs.Blanks.{IsBlanks}
 use Rattle.hoa_lexer.proofs.next_token.Between.{between_as, between_both, between_then}
-use Rattle.hoa_lexer.specs.Moves.{Elsewhere, Moves, stop_of_next}
+use Rattle.hoa_lexer.specs.Moves.{Elsewhere, MovesLexer, stop_of_next}
 use Rattle.hoa_lexer.specs.Reading as lexing
 use Rattle.hoa_lexer.specs.Reading.{Tells, held_count, unread}
 use Rattle.hoa_lexer.specs.Spelling.{closes_itself}
@@ -24,13 +24,13 @@ use Rattle.hoa_parser.proofs.standing.Readings.{next_shorter}
 use Rattle.hoa_parser.proofs.standing.StandingTokens.{stand_before, stand_with}
 use Rattle.hoa_parser.proofs.grammar.Viability.{viable}
 use Rattle.hoa_parser.specs.inner.Expecting as part
-use Rattle.hoa_parser.specs.inner.Expecting.{Part, after, behind, move}
+use Rattle.hoa_parser.specs.inner.Expecting.{Part, parts_after, parts_behind, move}
 use Rattle.hoa_parser.specs.inner.Faults.{read_fault}
 use Rattle.hoa_parser.specs.Grammar.{AutomatonPhrase, automaton_tokens, item_tokens, state_tokens}
-use Rattle.hoa_parser.specs.inner.Parsing.{Abandons, Cursor, Fails, FailsAt, Goes, Passed, Places, ReadsTo, Refuses, Relation, State, TooDeep, Unended, Unread, place}
+use Rattle.hoa_parser.specs.inner.Parsing.{Abandons, Cursor, FailsParts, FailsAt, PassesTokens, Passed, HoldsOfPlaces, ReadsTo, RefusesToken, Relation, State, TooDeep, Unended, Unread, cursor_of}
 use Rattle.hoa_parser.specs.inner.RuleReads.{IsAutomaton, open_tokens}
 use Rattle.hoa_parser.specs.Raw.{written}
-use Rattle.hoa_parser.specs.Reads.{Answers}
+use Rattle.hoa_parser.specs.Reads.{AnswersFront}
 use Rattle.hoa_parser.specs.Standing.{EndsOpen, IsAborted, IsBad, IsBegun, IsDeep, IsWhole, SpellsNothing, most_depth}
 use Rattle.hoa_parser.specs.declared.fault.ReadFault.{ReadFault}
 use Rattle.hoa_parser.specs.declared.fault.ReadFault.TheVariants as fault
@@ -66,7 +66,7 @@ pub record Before (start : ℕ) (text : List ℕ) (tokens : List Token) (b : Cur
   pub begun : IsBegun start text tokens used rest
   pub next : IsNext rest used b.token b.offset b.rest
 
-pub before : (start : ℕ) (text : List ℕ) (a b : Cursor) (target : List Part) (g : Goes (part.Whole ∷ []) a target b) → Starts start text a → Before start text g.tokens b
+pub before : (start : ℕ) (text : List ℕ) (a b : Cursor) (target : List Part) (g : PassesTokens (part.Whole ∷ []) a target b) → Starts start text a → Before start text g.tokens b
 before start text a b target g starts =
     let s = stand_before start text a b g.tokens starts.next starts.used g.passed in
     record {
@@ -96,7 +96,7 @@ some_before a b [] passed is abort e =
     cc
 some_before a b (t ∷ ts) passed is abort e = cc
 
-misplaced : (start : ℕ) (text : List ℕ) (a b : Cursor) (k : ℕ) → Starts start text a → Refuses (part.Whole ∷ []) a b → k ≡ b.offset → b.token ≢ token.Abort → IsBad start text k
+misplaced : (start : ℕ) (text : List ℕ) (a b : Cursor) (k : ℕ) → Starts start text a → RefusesToken (part.Whole ∷ []) a b → k ≡ b.offset → b.token ≢ token.Abort → IsBad start text k
 misplaced start text a b k starts r at other =
     let g = r.goes in
     let s = before start text a b r.target g starts in
@@ -108,7 +108,7 @@ misplaced start text a b k starts r at other =
       no_abort = λ some. other;
     }))
 
-aborted : (start : ℕ) (text : List ℕ) (a b : Cursor) → Starts start text a → a.token ≡ opening → Refuses (part.Whole ∷ []) a b → b.token ≡ token.Abort → IsAborted start text b.rest
+aborted : (start : ℕ) (text : List ℕ) (a b : Cursor) → Starts start text a → a.token ≡ opening → RefusesToken (part.Whole ∷ []) a b → b.token ≡ token.Abort → IsAborted start text b.rest
 aborted start text a b starts is r abort =
     let g = r.goes in
     let s = before start text a b r.target g starts in
@@ -126,7 +126,7 @@ ends_so tokens rest some (inl h) = inl (some, h)
 ends_so tokens rest some (inr h) = inr h
 
 -- why the lexer gave no other token
-answers_unread : (f : ReadFault) (start : ℕ) (text : List ℕ) (a last : Cursor) → Starts start text a → Unread f (part.Whole ∷ []) a last → Answers (Err f) start text last.rest
+answers_unread : (f : ReadFault) (start : ℕ) (text : List ℕ) (a last : Cursor) → Starts start text a → Unread f (part.Whole ∷ []) a last → AnswersFront (Err f) start text last.rest
 answers_unread (fault.Syntax k) start text a last starts u = bad_behind k (begun_with _ start text a last u starts) (inr u.bytes.0)
 answers_unread fault.Truncated start text a last starts u =
     cut_behind (begun_with _ start text a last u starts) (ends_so (u.goes.tokens ++ u.b.token ∷ []) u.b.rest (some_more u.goes.tokens u.b.token) u.bytes.0)
@@ -139,8 +139,8 @@ answers_unread fault.Memory start text a last starts u =
     record { tokens = u.goes.tokens ++ u.b.token ∷ []; used = u.b.used; rest = u.b.rest; begun = begun_with _ start text a last u starts; behind = inl u.bytes }
 
 -- why no automaton was read
-pub answers_fault : (f : ReadFault) (start : ℕ) (text : List ℕ) (a last : Cursor) → (Abandons f last.token → ⊥) → Starts start text a → Fails f (part.Whole ∷ []) a last
-    → Answers (Err f) start text last.rest
+pub answers_fault : (f : ReadFault) (start : ℕ) (text : List ℕ) (a last : Cursor) → (Abandons f last.token → ⊥) → Starts start text a → FailsParts f (part.Whole ∷ []) a last
+    → AnswersFront (Err f) start text last.rest
 answers_fault f start text a last other starts (inr u) = answers_unread f start text a last starts u
 answers_fault (fault.Syntax k) start text a last other starts (inl h) = misplaced start text a last k starts h.0 h.1 other
 answers_fault fault.Depth start text a last other starts (inl h) = too_deep start text a last starts h
@@ -152,7 +152,7 @@ answers_fault fault.Bytes start text a last other starts (inl h) = absurd h
 answers_fault fault.Read start text a last other starts (inl h) = absurd h
 
 -- the automaton was abandoned
-pub answers_aborted : (f : ReadFault) (start : ℕ) (text : List ℕ) (a last : Cursor) → Abandons f last.token → Starts start text a → a.token ≡ opening → Fails f (part.Whole ∷ []) a last
+pub answers_aborted : (f : ReadFault) (start : ℕ) (text : List ℕ) (a last : Cursor) → Abandons f last.token → Starts start text a → a.token ≡ opening → FailsParts f (part.Whole ∷ []) a last
     → IsAborted start text last.rest
 answers_aborted (fault.Syntax k) start text a last abort starts is (inl h) = aborted start text a last starts is h.0 abort
 answers_aborted (fault.Syntax k) start text a last abort starts is (inr u) = absurd (u.no_abort abort)
@@ -190,7 +190,7 @@ answers_other start text z k new next other =
     }))
 
 -- no token was there
-pub answers_lexing : (f : LexFault) (start offset : ℕ) (old new : List ℕ) → lexing.Answers (Err f) start offset old new → Answers (Err (read_fault f)) start old new
+pub answers_lexing : (f : LexFault) (start offset : ℕ) (old new : List ℕ) → lexing.AnswersToken (Err f) start offset old new → AnswersFront (Err (read_fault f)) start old new
 answers_lexing (lex.BadToken k) start offset old new h = bad_behind k (nothing_begun start old) (inr h.0)
 answers_lexing lex.OpenComment start offset old new h = cut_behind (nothing_begun start old) (inr (inl h.0))
 answers_lexing lex.OpenString start offset old new h = cut_behind (nothing_begun start old) (inr (inr (inl h.0)))
@@ -207,7 +207,7 @@ used_so since since' taken taken' hold hold' x y old new within same took later 
 starts_so : (lexer : Lexer) (s : State) (x y : List ℕ) → IsNext (unread lexer.held x) (lexer.since - held_count lexer.held) s.ahead s.lexer.offset (unread s.lexer.held y)
     → is_some s.lexer.held ≡ not (closes_itself s.ahead)
     → s.lexer.since + lexer.taken ≡ lexer.since + s.lexer.taken → s.lexer.taken + length y ≡ lexer.taken + length x → lexer.taken ≤ s.lexer.taken
-    → Starts (lexer.since - held_count lexer.held) (unread lexer.held x) (place s y)
+    → Starts (lexer.since - held_count lexer.held) (unread lexer.held x) (cursor_of s y)
 starts_so lexer s x y next holds since took later = record {
   next = next;
   used = used_so lexer.since s.lexer.since lexer.taken s.lexer.taken (held_count lexer.held) (held_count s.lexer.held) (length x) (length y) _ _
@@ -217,29 +217,29 @@ starts_so lexer s x y next holds since took later = record {
 
 -- what the lexer said of the first token
 pub record Opened (lexer : Lexer) (seen : Seen) (s : State) : Type 0 where
-  pub moves : Moves Elsewhere lexer s.lexer seen s.seen
+  pub moves : MovesLexer Elsewhere lexer s.lexer seen s.seen
   pub holds : is_some s.lexer.held ≡ not (closes_itself s.ahead)
   pub next : Tells seen s.seen (λ x y. IsNext (unread lexer.held x) (lexer.since - held_count lexer.held) s.ahead s.lexer.offset (unread s.lexer.held y))
 
 -- and what was read then
-pub said_then : (lexer : Lexer) (seen : Seen) (s s' : State) (A : Relation) (R : List ℕ → List ℕ → Type 0) → Opened lexer seen s → Places s s' A
-    → ((x y z : List ℕ) → Starts (lexer.since - held_count lexer.held) (unread lexer.held x) (place s y) → A (place s y) (place s' z) → R x z) → Tells seen s'.seen R
+pub said_then : (lexer : Lexer) (seen : Seen) (s s' : State) (A : Relation) (R : List ℕ → List ℕ → Type 0) → Opened lexer seen s → HoldsOfPlaces s s' A
+    → ((x y z : List ℕ) → Starts (lexer.since - held_count lexer.held) (unread lexer.held x) (cursor_of s y) → A (cursor_of s y) (cursor_of s' z) → R x z) → Tells seen s'.seen R
 said_then lexer seen s s' A R opened read f =
     between_then seen.left s.seen.left s'.seen.left
-    (λ x y. Starts (lexer.since - held_count lexer.held) (unread lexer.held x) (place s y))
-    (λ y z. A (place s y) (place s' z)) R f
+    (λ x y. Starts (lexer.since - held_count lexer.held) (unread lexer.held x) (cursor_of s y))
+    (λ y z. A (cursor_of s y) (cursor_of s' z)) R f
     (between_both seen.left s.seen.left _ _ _ (λ x y h k. starts_so lexer s x y h opened.holds opened.moves.since k opened.moves.later) opened.next opened.moves.taken)
     read
 
-first_so : (t : Option Token) (z : Token) (start offset : ℕ) (old new : List ℕ) → t ≡ Some z → lexing.Answers (Ok t) start offset old new → IsNext old start z offset new
-first_so t z start offset old new some h = subst (λ (o : Option Token). lexing.Answers (Ok o) start offset old new) some h
+first_so : (t : Option Token) (z : Token) (start offset : ℕ) (old new : List ℕ) → t ≡ Some z → lexing.AnswersToken (Ok t) start offset old new → IsNext old start z offset new
+first_so t z start offset old new some h = subst (λ (o : Option Token). lexing.AnswersToken (Ok o) start offset old new) some h
 
 -- the lexer gave a token
 pub opened_so : (t : Option Token) (lexer : Lexer) (seen : Seen) (s : State) → t ≡ Some s.ahead
-    → Tells seen s.seen (λ x y. lexing.Answers (Ok t) (lexer.since - held_count lexer.held) s.lexer.offset (unread lexer.held x) (unread s.lexer.held y))
-    → lexing.HoldsPast (Ok t) s.lexer.held → Moves (stop_of_next {A = Token} (Ok t)) lexer s.lexer seen s.seen → Opened lexer seen s
+    → Tells seen s.seen (λ x y. lexing.AnswersToken (Ok t) (lexer.since - held_count lexer.held) s.lexer.offset (unread lexer.held x) (unread s.lexer.held y))
+    → lexing.HoldsPast (Ok t) s.lexer.held → MovesLexer (stop_of_next {A = Token} (Ok t)) lexer s.lexer seen s.seen → Opened lexer seen s
 opened_so t lexer seen s some answers holds moves = record {
-  moves = subst (λ (o : Option Token). Moves (stop_of_next {A = Token} (Ok o)) lexer s.lexer seen s.seen) some moves;
+  moves = subst (λ (o : Option Token). MovesLexer (stop_of_next {A = Token} (Ok o)) lexer s.lexer seen s.seen) some moves;
   holds = subst (λ (o : Option Token). lexing.HoldsPast (Ok o) s.lexer.held) some holds;
   next = between_as seen.left s.seen.left _ _ (λ x y h. first_so t s.ahead _ s.lexer.offset _ _ some h) answers;
 }
@@ -249,35 +249,35 @@ abbrev pub Between : Lexer → Seen → State → (ℕ → List ℕ → List ℕ
 Between lexer seen s R = Tells seen s.seen (λ x y. R (lexer.since - held_count lexer.held) (unread lexer.held x) (unread s.lexer.held y))
 
 pub raw_whole : (raw : Raw) (lexer : Lexer) (seen : Seen) (s s' : State) → Opened lexer seen s → ReadsTo (part.Whole ∷ []) (part.States ∷ []) (IsAutomaton raw) s s'
-    → Between lexer seen s' (Answers (Ok (front.Whole raw)))
+    → Between lexer seen s' (AnswersFront (Ok (front.Whole raw)))
 raw_whole raw lexer seen s s' opened read =
-    said_then lexer seen s s' (λ a b. IsAutomaton raw a b × Goes (part.Whole ∷ []) a (part.States ∷ []) b) _ opened read.text
-    (λ x y z starts says. answers_whole raw _ _ (place s y) (place s' z) starts says.0)
+    said_then lexer seen s s' (λ a b. IsAutomaton raw a b × PassesTokens (part.Whole ∷ []) a (part.States ∷ []) b) _ opened read.text
+    (λ x y z starts says. answers_whole raw _ _ (cursor_of s y) (cursor_of s' z) starts says.0)
 
 pub raw_aborted : (f : ReadFault) (lexer : Lexer) (seen : Seen) (s s' : State) → Opened lexer seen s → s.ahead ≡ opening → Abandons f s'.ahead → FailsAt f (part.Whole ∷ []) s s'
-    → Between lexer seen s' (Answers (Ok front.Aborted))
+    → Between lexer seen s' (AnswersFront (Ok front.Aborted))
 raw_aborted f lexer seen s s' opened is abandons read =
-    said_then lexer seen s s' (Fails f (part.Whole ∷ [])) _ opened read.text
-    (λ x y z starts says. answers_aborted f _ _ (place s y) (place s' z) abandons starts is says)
+    said_then lexer seen s s' (FailsParts f (part.Whole ∷ [])) _ opened read.text
+    (λ x y z starts says. answers_aborted f _ _ (cursor_of s y) (cursor_of s' z) abandons starts is says)
 
 pub raw_fault : (f : ReadFault) (lexer : Lexer) (seen : Seen) (s s' : State) → Opened lexer seen s → (Abandons f s'.ahead → ⊥) → FailsAt f (part.Whole ∷ []) s s'
-    → Between lexer seen s' (Answers (Err f))
+    → Between lexer seen s' (AnswersFront (Err f))
 raw_fault f lexer seen s s' opened other read =
-    said_then lexer seen s s' (Fails f (part.Whole ∷ [])) _ opened read.text
-    (λ x y z starts says. answers_fault f _ _ (place s y) (place s' z) other starts says)
+    said_then lexer seen s s' (FailsParts f (part.Whole ∷ [])) _ opened read.text
+    (λ x y z starts says. answers_fault f _ _ (cursor_of s y) (cursor_of s' z) other starts says)
 
 -- the lexer gave no token
 pub raw_unlexed : (f : LexFault) (result : Result Front ReadFault) (lexer lexer' : Lexer) (offset : ℕ) (seen seen' : Seen) → (e : ReadFault) × (result ≡ Err e) × (e ≡ read_fault f)
-    → Tells seen seen' (λ x y. lexing.Answers (Err f) (lexer.since - held_count lexer.held) offset (unread lexer.held x) (unread lexer'.held y))
-    → Tells seen seen' (λ x y. Answers result (lexer.since - held_count lexer.held) (unread lexer.held x) (unread lexer'.held y))
+    → Tells seen seen' (λ x y. lexing.AnswersToken (Err f) (lexer.since - held_count lexer.held) offset (unread lexer.held x) (unread lexer'.held y))
+    → Tells seen seen' (λ x y. AnswersFront result (lexer.since - held_count lexer.held) (unread lexer.held x) (unread lexer'.held y))
 raw_unlexed f result lexer lexer' offset seen seen' same said =
     between_as seen.left seen'.left _ _
-    (λ x y h. subst (λ (r : Result Front ReadFault). Answers r (lexer.since - held_count lexer.held) (unread lexer.held x) (unread lexer'.held y)) (sym (same.1 ∙ ap Err same.2))
+    (λ x y h. subst (λ (r : Result Front ReadFault). AnswersFront r (lexer.since - held_count lexer.held) (unread lexer.held x) (unread lexer'.held y)) (sym (same.1 ∙ ap Err same.2))
     (answers_lexing f _ offset _ _ h)) said
 
 -- it gave another token than `HOA:`
 pub raw_other : (k : ℕ) (lexer : Lexer) (seen : Seen) (s : State) → Opened lexer seen s → k ≡ s.lexer.offset → move part.Whole s.ahead ≡ part.Refuses
-    → Between lexer seen s (Answers (Err (fault.Syntax k)))
+    → Between lexer seen s (AnswersFront (Err (fault.Syntax k)))
 raw_other k lexer seen s opened same other =
     between_as seen.left s.seen.left _ _ (λ x y h. answers_other _ (unread lexer.held x) s.ahead k (unread s.lexer.held y)
     (subst (λ (n : ℕ). IsNext (unread lexer.held x) (lexer.since - held_count lexer.held) s.ahead n (unread s.lexer.held y)) (sym same) h) other) opened.next

@@ -1,10 +1,10 @@
 -- What stands in front of bytes, token by token, with blanks before each and behind the last.
 use Rattle.std.specs.Prelude.{◌≡◌, ℕ, suc, ◌≤◌, List, [], ◌∷◌, ◌++◌, codes, map, Option, Some, None}
 use Rattle.hoa_lexer.specs.Text.{IsFront}
-use Rattle.hoa_lexer.specs.inner.Steps.{Skips}
+use Rattle.hoa_lexer.specs.inner.Steps.{PassesBlanks}
 use Rattle.hoa_lexer.specs.declared.token.Token.{Token}
 use Rattle.hoa_lexer.specs.declared.token.Token.TheVariants as token
-use Rattle.hoa_parser.specs.Grammar.{Label, Lnot, LabelWithin, LnotWithin, conjunction, disjunction, edge_meaning, label, label_meaning, label_tokens}
+use Rattle.hoa_parser.specs.Grammar.{Label, Lnot, LabelWithin, LnotWithin, raw_conjunction, disjunction, edge_meaning, label, label_meaning, label_tokens}
 use Rattle.hoa_parser.specs.Grammar.{lands_meaning, lnot_meaning, lnot_tokens, lnots_meaning, marks_meaning, optional_marks}
 use Rattle.hoa_parser.specs.declared.parse.body.StateHead.{StateHead}
 use Rattle.hoa_parser.specs.declared.parse.plain.Next.{Next}
@@ -17,8 +17,8 @@ use Rattle.hoa_parser.specs.declared.raw.RawLabel.{RawLabel}
 
 -- these tokens stand in front, and `y` behind them and blanks
 abbrev pub Spelled : List ℕ → List Token → List ℕ → Type 0
-Spelled x [] y = Skips x y
-Spelled x (t ∷ ts) y = (at : List ℕ) × (behind : List ℕ) × Skips x at × IsFront at t behind × Spelled behind ts y
+Spelled x [] y = PassesBlanks x y
+Spelled x (t ∷ ts) y = (at : List ℕ) × (behind : List ℕ) × PassesBlanks x at × IsFront at t behind × Spelled behind ts y
 
 -- It is written so in front of `x`.
 pub record IsSpelled {X Y : Type 0} (Within : X → Type 0) (tokens : X → List Token) (meaning : X → Y) (value : Y) (x y : List ℕ) : Type 0 where
@@ -27,12 +27,12 @@ pub record IsSpelled {X Y : Type 0} (Within : X → Type 0) (tokens : X → List
   pub spelled : Spelled x (tokens phrase) y
   pub means : value ≡ meaning phrase
 
-abbrev pub IsNumber : ℕ → List ℕ → List ℕ → Type 0
-IsNumber n x y = Spelled x (token.Int n ∷ []) y
+abbrev pub IsIntText : ℕ → List ℕ → List ℕ → Type 0
+IsIntText n x y = Spelled x (token.Int n ∷ []) y
 
 -- this sign, and blanks
 abbrev pub IsSigned : ℕ → List ℕ → List ℕ → Type 0
-IsSigned sign x y = (left : List ℕ) × (x ≡ sign ∷ left) × Skips left y
+IsSigned sign x y = (left : List ℕ) × (x ≡ sign ∷ left) × PassesBlanks left y
 
 -- so wherever one more `(` or `!` may be open
 abbrev pub Anywhere : (ℕ → Type 0) → Type 0
@@ -56,10 +56,10 @@ abbrev pub AreLiterals : List RawTree → List ℕ → List ℕ → Type 0
 AreLiterals = IsSpelled ShallowLand land_tokens literals_meaning
 
 abbrev pub AreMoreLiterals : RawTree → RawLabel → List ℕ → List ℕ → Type 0
-AreMoreLiterals first l = IsSpelled ShallowLand land_tokens (λ p. conjunction first (literals_meaning p)) (raw_tree l)
+AreMoreLiterals first l = IsSpelled ShallowLand land_tokens (λ p. raw_conjunction first (literals_meaning p)) (raw_tree l)
 
-abbrev pub IsConjunction : RawLabel → List ℕ → List ℕ → Type 0
-IsConjunction l = IsSpelled ShallowLand land_tokens land_meaning (raw_tree l)
+abbrev pub IsConjunctionText : RawLabel → List ℕ → List ℕ → Type 0
+IsConjunctionText l = IsSpelled ShallowLand land_tokens land_meaning (raw_tree l)
 
 abbrev pub IsGrouped : RawLabel → List ℕ → List ℕ → Type 0
 IsGrouped l = IsSpelled ShallowLand (λ p. land_tokens p ++ token.RightParen ∷ []) land_meaning (raw_tree l)
@@ -70,7 +70,7 @@ IsFactor l = IsSpelled (LandWithin 0) land_tokens land_meaning (raw_tree l)
 
 -- factor ("|" factor)*, as parts, behind a first part, and as a label
 abbrev pub factors_meaning : Label → List RawTree
-factors_meaning (label f fs ls) = conjunction (lnot_meaning f) (lnots_meaning fs) ∷ lands_meaning ls
+factors_meaning (label f fs ls) = raw_conjunction (lnot_meaning f) (lnots_meaning fs) ∷ lands_meaning ls
 
 abbrev pub AreFactors : List RawTree → List ℕ → List ℕ → Type 0
 AreFactors = IsSpelled (LabelWithin most_depth 0) label_tokens factors_meaning

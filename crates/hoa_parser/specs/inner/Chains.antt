@@ -13,17 +13,17 @@ use Rattle.hoa_parser.specs.Standing.{most_depth}
 use Rattle.hoa_parser.specs.declared.raw.RawLabels.{RawLabels}
 
 -- parts behind a first one
-abbrev pub Adds : {P T : Type 0} → (P → Type 0) → (P → List Token) → (P → T) → T → List T → Cursor → Cursor → Type 0
-Adds Within tokens meaning first = IsWritten (AllByRecursion Within) (flat_map tokens) (λ ps. first ∷ map meaning ps)
+abbrev pub AddsParts : {P T : Type 0} → (P → Type 0) → (P → List Token) → (P → T) → T → List T → Cursor → Cursor → Type 0
+AddsParts Within tokens meaning first = IsWritten (AllByRecursion Within) (flat_map tokens) (λ ps. first ∷ map meaning ps)
 
 abbrev pub AddsLnots : ℕ → RawTree → RawLabels → Cursor → Cursor → Type 0
-AddsLnots depth first parts = Adds (LnotWithin most_depth depth) (λ f. token.Amp ∷ lnot_tokens f) lnot_meaning first (raw_list parts)
+AddsLnots depth first parts = AddsParts (LnotWithin most_depth depth) (λ f. token.Amp ∷ lnot_tokens f) lnot_meaning first (raw_list parts)
 
 abbrev pub AddsLands : ℕ → RawTree → RawLabels → Cursor → Cursor → Type 0
-AddsLands depth first parts = Adds (LandWithin depth) (λ p. token.Bar ∷ land_tokens p) land_meaning first (raw_list parts)
+AddsLands depth first parts = AddsParts (LandWithin depth) (λ p. token.Bar ∷ land_tokens p) land_meaning first (raw_list parts)
 
 abbrev pub AddsFatoms : ℕ → FormulaTree → Formulas → Cursor → Cursor → Type 0
-AddsFatoms depth first parts = Adds (FatomWithin most_depth depth) (λ f. token.Amp ∷ fatom_tokens f) fatom_meaning first (formula_list parts)
+AddsFatoms depth first parts = AddsParts (FatomWithin most_depth depth) (λ f. token.Amp ∷ fatom_tokens f) fatom_meaning first (formula_list parts)
 
 abbrev pub AddsFands : ℕ → FormulaTree → Formulas → Cursor → Cursor → Type 0
-AddsFands depth first parts = Adds (FandWithin depth) (λ p. token.Bar ∷ fand_tokens p) fand_meaning first (formula_list parts)
+AddsFands depth first parts = AddsParts (FandWithin depth) (λ p. token.Bar ∷ fand_tokens p) fand_meaning first (formula_list parts)

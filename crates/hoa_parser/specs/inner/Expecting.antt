@@ -51,14 +51,14 @@ pub data Part : Type 0 where
   Edges : Part
 
 -- what a token is to a part: it begins it and leaves these parts of it, it stands behind it, or it can't stand here
-pub data Move : Type 0 where
-  Takes : List Part → Move
-  Passes : Move
-  Refuses : Move
+pub data TokenUse : Type 0 where
+  Takes : List Part → TokenUse
+  Passes : TokenUse
+  Refuses : TokenUse
 
 -- label, formula and conj
-abbrev pub label_parts : ℕ → List Part
-label_parts depth = Factor depth ∷ Factors depth ∷ Products depth ∷ []
+abbrev pub expected_label : ℕ → List Part
+expected_label depth = Factor depth ∷ Factors depth ∷ Products depth ∷ []
 
 abbrev pub condition_parts : ℕ → List Part
 condition_parts depth = Atom depth ∷ Atoms depth ∷ Conjunctions depth ∷ []
@@ -71,7 +71,7 @@ abbrev pub header_parts : Header → List Part
 header_parts header.States = Number ∷ []
 header_parts header.Start = conj_parts
 header_parts header.Ap = Number ∷ Strings ∷ []
-header_parts header.Alias = AliasName ∷ label_parts 0
+header_parts header.Alias = AliasName ∷ expected_label 0
 header_parts header.Acceptance = Number ∷ condition_parts 0
 header_parts header.AccName = Word ∷ AccValues ∷ []
 header_parts header.Tool = Quoted ∷ MaybeQuoted ∷ []
@@ -82,29 +82,29 @@ header_parts header.Opening = Values ∷ []
 header_parts header.State = Values ∷ []
 
 -- what follows the name of a header, where one may stand
-abbrev pub header_move : Header → Move
+abbrev pub header_move : Header → TokenUse
 header_move header.Opening = Refuses
 header_move header.State = Refuses
 header_move h = Takes (header_parts h ++ Items ∷ [])
 
-abbrev pub if_header : Header → Header → List Part → Move
+abbrev pub if_header : Header → Header → List Part → TokenUse
 if_header header.Opening header.Opening parts = Takes parts
 if_header header.State header.State parts = Takes parts
 if_header _ _ parts = Refuses
 
 -- the truth values, and the signs of acceptance conditions
-abbrev pub label_word : List ℕ → Move
+abbrev pub label_word : List ℕ → TokenUse
 label_word word = if same_text word (codes "t") then Takes [] else if same_text word (codes "f") then Takes [] else Refuses
 
 abbrev pub set_parts : List Part
 set_parts = OpeningParen ∷ MaybeBang ∷ Number ∷ ClosingParen ∷ []
 
-abbrev pub condition_word : List ℕ → Move
+abbrev pub condition_word : List ℕ → TokenUse
 condition_word word =
     if same_text word (codes "t") then Takes [] else if same_text word (codes "f") then Takes [] else
     if same_text word (codes "Inf") then Takes set_parts else if same_text word (codes "Fin") then Takes set_parts else Refuses
 
-abbrev pub move : Part → Token → Move
+abbrev pub move : Part → Token → TokenUse
 move Whole (HeaderName name) = if_header header.Opening (header_of name) (Word ∷ Items ∷ [])
 move Whole _ = Refuses
 move Number (Int n) = Takes []
@@ -134,11 +134,11 @@ move (Factor depth) Bang = Takes (Factor (suc depth) ∷ [])
 move (Factor depth) (Identifier word) = label_word word
 move (Factor depth) (Int n) = Takes []
 move (Factor depth) (Alias name) = Takes []
-move (Factor depth) LeftParen = Takes (label_parts (suc depth) ++ ClosingParen ∷ [])
+move (Factor depth) LeftParen = Takes (expected_label (suc depth) ++ ClosingParen ∷ [])
 move (Factor depth) _ = Refuses
 move (Factors depth) Amp = Takes (Factor depth ∷ Factors depth ∷ [])
 move (Factors depth) _ = Passes
-move (Products depth) Bar = Takes (label_parts depth)
+move (Products depth) Bar = Takes (expected_label depth)
 move (Products depth) _ = Passes
 move (Atom depth) (Identifier word) = condition_word word
 move (Atom depth) LeftParen = Takes (condition_parts (suc depth) ++ ClosingParen ∷ [])
@@ -161,14 +161,14 @@ move Items _ = Refuses
 move States (HeaderName name) = if_header header.State (header_of name) (MaybeLabel ∷ Number ∷ MaybeQuoted ∷ MaybeMarks ∷ Edges ∷ States ∷ [])
 move States End = Takes []
 move States _ = Refuses
-move MaybeLabel LeftBracket = Takes (label_parts 0 ++ ClosingBracket ∷ [])
+move MaybeLabel LeftBracket = Takes (expected_label 0 ++ ClosingBracket ∷ [])
 move MaybeLabel _ = Passes
 move MaybeMarks LeftBrace = Takes (Marks ∷ [])
 move MaybeMarks _ = Passes
 move Marks (Int n) = Takes (Marks ∷ [])
 move Marks RightBrace = Takes []
 move Marks _ = Refuses
-move Edges LeftBracket = Takes (label_parts 0 ++ ClosingBracket ∷ Number ∷ MoreNumbers ∷ MaybeMarks ∷ Edges ∷ [])
+move Edges LeftBracket = Takes (expected_label 0 ++ ClosingBracket ∷ Number ∷ MoreNumbers ∷ MaybeMarks ∷ Edges ∷ [])
 move Edges (Int n) = Takes (MoreNumbers ∷ MaybeMarks ∷ Edges ∷ [])
 move Edges _ = Passes
 
@@ -180,20 +180,20 @@ open_at _ = 0
 
 -- What is expected behind a token, if it can stand here and opens no more than `most`. `passed` is what is expected if
 -- it stands behind the first part.
-abbrev pub moved : ℕ → Move → Option (List Part) → List Part → Option (List Part)
+abbrev pub moved : ℕ → TokenUse → Option (List Part) → List Part → Option (List Part)
 moved most (Takes parts) passed others = if nat_le (open_at parts) most then Some (parts ++ others) else None
 moved most Passes passed others = passed
 moved most Refuses passed others = None
 
-abbrev pub behind : ℕ → List Part → Token → Option (List Part)
-behind most [] token = None
-behind most (part ∷ parts) token = moved most (move part token) (behind most parts token) parts
+abbrev pub parts_behind : ℕ → List Part → Token → Option (List Part)
+parts_behind most [] token = None
+parts_behind most (part ∷ parts) token = moved most (move part token) (parts_behind most parts token) parts
 
 -- What is expected behind the tokens, if they can stand here and never open more than `most`.
 abbrev pub after_some : ℕ → Option (List Part) → List Token → Option (List Part)
 after_some most None tokens = None
 after_some most (Some parts) [] = Some parts
-after_some most (Some parts) (t ∷ ts) = after_some most (behind most parts t) ts
+after_some most (Some parts) (t ∷ ts) = after_some most (parts_behind most parts t) ts
 
-abbrev pub after : ℕ → List Part → List Token → Option (List Part)
-after most parts = after_some most (Some parts)
+abbrev pub parts_after : ℕ → List Part → List Token → Option (List Part)
+parts_after most parts = after_some most (Some parts)

@@ -3,15 +3,15 @@ use Rattle.std.specs.Prelude.{◌≡◌, ◌≢◌, ℕ, ◌+◌, ◌-◌, ◌�
 use Rattle.std.specs.List.{AllByRecursion}
 use Rattle.aut_io.specs.Seen.{Seen}
 use Rattle.hoa_lexer.specs.Blanks.{IsBlanks}
-use Rattle.hoa_lexer.specs.Moves.{Moves, Elsewhere}
+use Rattle.hoa_lexer.specs.Moves.{MovesLexer, Elsewhere}
 use Rattle.hoa_lexer.specs.Reading.{Tells, held_count, unread}
 use Rattle.hoa_lexer.specs.Spelling.{closes_itself}
 use Rattle.hoa_lexer.specs.Text.{AskedForOne, AsksPast, IsNext, IsShownBy}
 use Rattle.hoa_lexer.specs.declared.lexer.Lexer.{Lexer}
 use Rattle.hoa_lexer.specs.declared.token.Token.{Token}
 use Rattle.hoa_lexer.specs.declared.token.Token.TheVariants as token
-use Rattle.hoa_parser.specs.inner.Expecting.{Part, after, behind}
-use Rattle.hoa_parser.specs.Reads.{stop_of_fault}
+use Rattle.hoa_parser.specs.inner.Expecting.{Part, parts_after, parts_behind}
+use Rattle.hoa_parser.specs.Reads.{stop_of_read_fault}
 use Rattle.hoa_parser.specs.Standing.{EndsOpen, IsNoTokenAt, most_depth}
 use Rattle.hoa_parser.specs.declared.fault.ReadFault.{ReadFault}
 use Rattle.hoa_parser.specs.declared.fault.ReadFault.TheVariants as fault
@@ -37,8 +37,8 @@ Passed a [] b = a ≡ b
 Passed a (t ∷ ts) b = (m : Cursor) × (t ≡ a.token) × Follows a m × Passed m ts b
 
 -- The tokens lead to what is left of these parts, whatever is expected behind the parts.
-pub record Leads (parts : List Part) (tokens : List Token) (left : List Part) : Type 0 where
-  pub runs : (others : List Part) → after most_depth (parts ++ others) tokens ≡ Some (left ++ others)
+pub record LeadsToParts (parts : List Part) (tokens : List Token) (left : List Part) : Type 0 where
+  pub runs : (others : List Part) → parts_after most_depth (parts ++ others) tokens ≡ Some (left ++ others)
 
 -- an automaton ends with `--END--`, and only then
 abbrev pub is_end : Token → Bool
@@ -50,35 +50,35 @@ abbrev pub Unended : List Token → Type 0
 Unended = AllByRecursion (λ t. is_end t ≡ false)
 
 -- From `a` on tokens were passed that lead from some expected parts to others, as the token of `b` shows.
-pub record Goes (parts : List Part) (a : Cursor) (target : List Part) (b : Cursor) : Type 0 where
+pub record PassesTokens (parts : List Part) (a : Cursor) (target : List Part) (b : Cursor) : Type 0 where
   pub tokens : List Token
   pub passed : Passed a tokens b
   pub left : List Part
-  pub leads : Leads parts tokens left
+  pub leads : LeadsToParts parts tokens left
   pub unended : Unended tokens
-  pub over : (most : ℕ) (others : List Part) → behind most (left ++ others) b.token ≡ behind most (target ++ others) b.token
+  pub over : (most : ℕ) (others : List Part) → parts_behind most (left ++ others) b.token ≡ parts_behind most (target ++ others) b.token
 
 -- The token of `b`, which the reader has at hand, cannot stand where it does.
-pub record Refuses (parts : List Part) (a b : Cursor) : Type 0 where
+pub record RefusesToken (parts : List Part) (a b : Cursor) : Type 0 where
   pub target : List Part
-  pub goes : Goes parts a target b
-  pub refused : (most : ℕ) (others : List Part) → behind most (target ++ others) b.token ≡ None
+  pub goes : PassesTokens parts a target b
+  pub refused : (most : ℕ) (others : List Part) → parts_behind most (target ++ others) b.token ≡ None
 
 -- It opens one more than may be open.
 pub record TooDeep (parts : List Part) (a b : Cursor) : Type 0 where
   pub target : List Part
-  pub goes : Goes parts a target b
-  pub refused : (others : List Part) → behind most_depth (target ++ others) b.token ≡ None
+  pub goes : PassesTokens parts a target b
+  pub refused : (others : List Part) → parts_behind most_depth (target ++ others) b.token ≡ None
   pub most : ℕ
   pub more : most_depth ≤ most
   pub left : List Part
-  pub taken : (others : List Part) → behind most (target ++ others) b.token ≡ Some (left ++ others)
+  pub taken : (others : List Part) → parts_behind most (target ++ others) b.token ≡ Some (left ++ others)
 
 -- why a reader stops at the token that it has at hand
 abbrev pub HaltsHere : ReadFault → List Part → Cursor → Cursor → Type 0
-HaltsHere (fault.Syntax k) parts a b = Refuses parts a b × (k ≡ b.offset)
+HaltsHere (fault.Syntax k) parts a b = RefusesToken parts a b × (k ≡ b.offset)
 HaltsHere fault.Depth parts a b = TooDeep parts a b
-HaltsHere fault.Memory parts a b = (target : List Part) × Goes parts a target b
+HaltsHere fault.Memory parts a b = (target : List Part) × PassesTokens parts a target b
 HaltsHere _ parts a b = ⊥
 
 -- why the lexer gave no token behind `used` bytes of the text, where `new` is unread afterwards
@@ -94,17 +94,17 @@ Unlexed fault.Memory used rest new = AsksPast rest new
 pub record Unread (fault : ReadFault) (parts : List Part) (a last : Cursor) : Type 0 where
   pub target : List Part
   pub b : Cursor
-  pub goes : Goes parts a target b
+  pub goes : PassesTokens parts a target b
   pub left : List Part
-  pub taken : (others : List Part) → behind most_depth (target ++ others) b.token ≡ Some (left ++ others)
+  pub taken : (others : List Part) → parts_behind most_depth (target ++ others) b.token ≡ Some (left ++ others)
   pub unended : is_end b.token ≡ false
   pub bytes : Unlexed fault b.used b.rest last.rest
   pub held : last.held ≡ None
   pub no_abort : last.token ≢ token.Abort
 
 -- why these parts could not be read from `a` on, where the reader stopped at `last`
-abbrev pub Fails : ReadFault → List Part → Cursor → Cursor → Type 0
-Fails fault parts a last = HaltsHere fault parts a last ⊎ Unread fault parts a last
+abbrev pub FailsParts : ReadFault → List Part → Cursor → Cursor → Type 0
+FailsParts fault parts a last = HaltsHere fault parts a last ⊎ Unread fault parts a last
 
 -- All that a reader sees and changes: the lexer, the token at hand, and the inputs as far as they tell.
 pub record State : Type 0 where
@@ -112,20 +112,20 @@ pub record State : Type 0 where
   pub ahead : Token
   pub seen : Seen
 
-abbrev pub state : Lexer → Token → Seen → State
-state lexer ahead seen = record { lexer = lexer; ahead = ahead; seen = seen }
+abbrev pub reader_state : Lexer → Token → Seen → State
+reader_state lexer ahead seen = record { lexer = lexer; ahead = ahead; seen = seen }
 
 -- the place where a reader stands, where this is left of the inputs
-abbrev pub place : State → List ℕ → Cursor
-place s left = record { token = s.ahead; offset = s.lexer.offset; used = s.lexer.since - held_count s.lexer.held; held = s.lexer.held; rest = unread s.lexer.held left }
+abbrev pub cursor_of : State → List ℕ → Cursor
+cursor_of s left = record { token = s.ahead; offset = s.lexer.offset; used = s.lexer.since - held_count s.lexer.held; held = s.lexer.held; rest = unread s.lexer.held left }
 
 -- what is true of two places
 abbrev pub Relation : Type 1
 Relation = Cursor → Cursor → Type 0
 
 -- it is true of the places before and after, where the inputs tell what is left
-abbrev pub Places : State → State → Relation → Type 0
-Places s s' A = Tells s.seen s'.seen (λ x y. A (place s x) (place s' y))
+abbrev pub HoldsOfPlaces : State → State → Relation → Type 0
+HoldsOfPlaces s s' A = Tells s.seen s'.seen (λ x y. A (cursor_of s x) (cursor_of s' y))
 
 -- a byte past the token at hand is held exactly where it was needed to close it
 abbrev pub HoldsNeeded : State → Type 0
@@ -138,10 +138,10 @@ Abandons _ z = ⊥
 
 -- After a fault no byte is held, but for one past a token that was refused, or read before memory was wanting. Where
 -- that token is `--ABORT--`, none is, and the lexer may be used on.
-abbrev pub Leaves : ReadFault → State → Type 0
-Leaves (fault.Syntax k) s = Abandons (fault.Syntax k) s.ahead → (s.lexer.held ≡ None) × (s.lexer.spent ≡ false)
-Leaves fault.Memory s = Unit {0}
-Leaves _ s = s.lexer.held ≡ None
+abbrev pub LeavesReader : ReadFault → State → Type 0
+LeavesReader (fault.Syntax k) s = Abandons (fault.Syntax k) s.ahead → (s.lexer.held ≡ None) × (s.lexer.spent ≡ false)
+LeavesReader fault.Memory s = Unit {0}
+LeavesReader _ s = s.lexer.held ≡ None
 
 -- something was read: a byte was used
 abbrev pub Uses : Lexer → Lexer → Type 0
@@ -149,40 +149,40 @@ Uses old new = old.taken + held_count new.held < new.taken + held_count old.held
 
 -- The next token came.
 pub record Advanced (s s' : State) : Type 0 where
-  pub moves : Moves Elsewhere s.lexer s'.lexer s.seen s'.seen
+  pub moves : MovesLexer Elsewhere s.lexer s'.lexer s.seen s'.seen
   pub uses : Uses s.lexer s'.lexer
   pub spent : s'.lexer.spent ≡ false
   pub holds : HoldsNeeded s'
-  pub text : Places s s' Follows
+  pub text : HoldsOfPlaces s s' Follows
 
 -- No token came, and the one at hand stays.
 pub record Unadvanced (fault : ReadFault) (s s' : State) : Type 0 where
-  pub moves : Moves (stop_of_fault fault) s.lexer s'.lexer s.seen s'.seen
+  pub moves : MovesLexer (stop_of_read_fault fault) s.lexer s'.lexer s.seen s'.seen
   pub held : s'.lexer.held ≡ None
   pub stays : s'.ahead ≡ s.ahead
-  pub text : Places s s' (λ a b. Unlexed fault a.used a.rest b.rest)
+  pub text : HoldsOfPlaces s s' (λ a b. Unlexed fault a.used a.rest b.rest)
 
-abbrev pub Advances : {T : Type 0} → Result T ReadFault → State → State → Type 0
-Advances (Ok value) s s' = Advanced s s'
-Advances (Err fault) s s' = Unadvanced fault s s'
+abbrev pub AdvancesReader : {T : Type 0} → Result T ReadFault → State → State → Type 0
+AdvancesReader (Ok value) s s' = Advanced s s'
+AdvancesReader (Err fault) s s' = Unadvanced fault s s'
 
 -- The parts were read as far as `target`, and `A` is true of the places before and after.
 pub record ReadsTo (parts target : List Part) (A : Relation) (s s' : State) : Type 0 where
-  pub moves : Moves Elsewhere s.lexer s'.lexer s.seen s'.seen
+  pub moves : MovesLexer Elsewhere s.lexer s'.lexer s.seen s'.seen
   pub spent : s'.lexer.spent ≡ false
   pub holds : HoldsNeeded s → HoldsNeeded s'
-  pub text : Places s s' (λ a b. A a b × Goes parts a target b)
+  pub text : HoldsOfPlaces s s' (λ a b. A a b × PassesTokens parts a target b)
 
 -- They could not be read.
 pub record FailsAt (fault : ReadFault) (parts : List Part) (s s' : State) : Type 0 where
-  pub moves : Moves (stop_of_fault fault) s.lexer s'.lexer s.seen s'.seen
-  pub leaves : HoldsNeeded s → Leaves fault s'
-  pub text : Places s s' (Fails fault parts)
+  pub moves : MovesLexer (stop_of_read_fault fault) s.lexer s'.lexer s.seen s'.seen
+  pub leaves : HoldsNeeded s → LeavesReader fault s'
+  pub text : HoldsOfPlaces s s' (FailsParts fault parts)
 
 -- What an answer says: the parts were read as far as `target`, and `Q` is true of the value, or they could not be.
-abbrev pub Reads : {T : Type 0} → List Part → List Part → (T → Relation) → Result T ReadFault → State → State → Type 0
-Reads parts target Q (Ok value) s s' = ReadsTo parts target (Q value) s s'
-Reads parts target Q (Err fault) s s' = FailsAt fault parts s s'
+abbrev pub ReadsParts : {T : Type 0} → List Part → List Part → (T → Relation) → Result T ReadFault → State → State → Type 0
+ReadsParts parts target Q (Ok value) s s' = ReadsTo parts target (Q value) s s'
+ReadsParts parts target Q (Err fault) s s' = FailsAt fault parts s s'
 
 -- It is written so from `a` to `b`.
 pub record IsWritten {X Y : Type 0} (Within : X → Type 0) (tokens : X → List Token) (meaning : X → Y) (value : Y) (a b : Cursor) : Type 0 where

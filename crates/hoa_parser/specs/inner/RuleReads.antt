@@ -8,11 +8,11 @@ use Rattle.hoa_lexer.specs.declared.token.Token.{Token}
 use Rattle.hoa_lexer.specs.declared.token.Token.TheVariants as token
 use Rattle.hoa_parser.specs.Grammar.{AccValue, AutomatonPhrase, AutomatonWithin, ConditionWithin, Conj, FandsWithin, Fatom, FatomWithin, Fatoms}
 use Rattle.hoa_parser.specs.Grammar.{FatomsWithin, ItemPhrase, ItemWithin, Label, LabelWithin, LandsWithin, Lnot, LnotWithin, Lnots, LnotsWithin}
-use Rattle.hoa_parser.specs.Grammar.{OptionalWithin, StateWithin, Value, acc_value_token, all_of, and_number, automaton_meaning, bang_tokens}
-use Rattle.hoa_parser.specs.Grammar.{header_of, condition_meaning, condition_tokens, conj_meaning, conj_tokens, conjunction, disjunction}
+use Rattle.hoa_parser.specs.Grammar.{OptionalWithin, StateWithin, Value, acc_value_token, formula_conjunction, and_number, automaton_meaning, bang_tokens}
+use Rattle.hoa_parser.specs.Grammar.{header_of, condition_meaning, condition_tokens, conj_meaning, conj_tokens, raw_conjunction, disjunction}
 use Rattle.hoa_parser.specs.Grammar.{edge_meaning, edge_tokens, fands_meaning, fands_tokens, fatom_meaning, fatom_tokens, fatoms_meaning}
 use Rattle.hoa_parser.specs.Grammar.{fatoms_tokens, item_meaning, item_tokens, label_meaning, label_tokens, lands_meaning, lands_tokens, lnot_meaning}
-use Rattle.hoa_parser.specs.Grammar.{lnot_tokens, lnots_meaning, lnots_tokens, marks_meaning, one_of, optional_label, optional_marks, optional_text}
+use Rattle.hoa_parser.specs.Grammar.{lnot_tokens, lnots_meaning, lnots_tokens, marks_meaning, formula_disjunction, optional_label, optional_marks, optional_text}
 use Rattle.hoa_parser.specs.Grammar.{set_tokens, state_meaning, state_tokens, value_token}
 use Rattle.hoa_parser.specs.inner.Expecting as part
 use Rattle.hoa_parser.specs.inner.Expecting.{Part}
@@ -36,17 +36,17 @@ use Rattle.hoa_parser.specs.declared.raw.RawState.{RawState}
 abbrev pub IsToken : Token → Unit {0} → Cursor → Cursor → Type 0
 IsToken z done a b = Passed a (z ∷ []) b
 
-abbrev pub IsNumber : ℕ → Cursor → Cursor → Type 0
-IsNumber n a b = Passed a (token.Int n ∷ []) b
+abbrev pub IsIntToken : ℕ → Cursor → Cursor → Type 0
+IsIntToken n a b = Passed a (token.Int n ∷ []) b
 
 abbrev pub IsQuoted : List ℕ → Cursor → Cursor → Type 0
 IsQuoted text a b = Passed a (token.Str text ∷ []) b
 
-abbrev pub IsWord : List ℕ → Cursor → Cursor → Type 0
-IsWord word a b = Passed a (token.Identifier word ∷ []) b
+abbrev pub IsIdentifierToken : List ℕ → Cursor → Cursor → Type 0
+IsIdentifierToken word a b = Passed a (token.Identifier word ∷ []) b
 
-abbrev pub IsAliasName : List ℕ → Cursor → Cursor → Type 0
-IsAliasName name a b = Passed a (token.Alias name ∷ []) b
+abbrev pub IsAliasToken : List ℕ → Cursor → Cursor → Type 0
+IsAliasToken name a b = Passed a (token.Alias name ∷ []) b
 
 abbrev pub IsConj : List ℕ → Cursor → Cursor → Type 0
 IsConj = IsWritten (λ (c : Conj). Unit {0}) conj_tokens conj_meaning
@@ -112,7 +112,7 @@ abbrev pub land_tokens : LandPhrase → List Token
 land_tokens p = lnot_tokens p.first ++ lnots_tokens p.others
 
 abbrev pub land_meaning : LandPhrase → RawTree
-land_meaning p = conjunction (lnot_meaning p.first) (lnots_meaning p.others)
+land_meaning p = raw_conjunction (lnot_meaning p.first) (lnots_meaning p.others)
 
 abbrev pub IsLand : ℕ → RawLabel → Cursor → Cursor → Type 0
 IsLand depth l = IsWritten (LandWithin depth) land_tokens land_meaning (raw_tree l)
@@ -126,7 +126,7 @@ IsLabel depth l = IsWritten (LabelWithin most_depth depth) label_tokens label_me
 
 -- ("&" lnot)* and ("|" land)* behind a first part
 abbrev pub IsAndLnots : ℕ → RawTree → RawLabel → Cursor → Cursor → Type 0
-IsAndLnots depth first l = IsWritten (LnotsWithin most_depth depth) lnots_tokens (λ fs. conjunction first (lnots_meaning fs)) (raw_tree l)
+IsAndLnots depth first l = IsWritten (LnotsWithin most_depth depth) lnots_tokens (λ fs. raw_conjunction first (lnots_meaning fs)) (raw_tree l)
 
 abbrev pub IsOrLands : ℕ → RawTree → RawLabel → Cursor → Cursor → Type 0
 IsOrLands depth first l = IsWritten (LandsWithin most_depth depth) lands_tokens (λ ls. disjunction first (lands_meaning ls)) (raw_tree l)
@@ -149,7 +149,7 @@ abbrev pub fand_tokens : FandPhrase → List Token
 fand_tokens p = fatom_tokens p.first ++ fatoms_tokens p.others
 
 abbrev pub fand_meaning : FandPhrase → FormulaTree
-fand_meaning p = all_of (fatom_meaning p.first) (fatoms_meaning p.others)
+fand_meaning p = formula_conjunction (fatom_meaning p.first) (fatoms_meaning p.others)
 
 abbrev pub IsFand : ℕ → Formula → Cursor → Cursor → Type 0
 IsFand depth l = IsWritten (FandWithin depth) fand_tokens fand_meaning (formula_tree l)
@@ -162,10 +162,10 @@ IsCondition depth l = IsWritten (ConditionWithin most_depth depth) condition_tok
 
 -- ("&" fatom)* and ("|" fand)* behind a first part
 abbrev pub IsAndFatoms : ℕ → FormulaTree → Formula → Cursor → Cursor → Type 0
-IsAndFatoms depth first l = IsWritten (FatomsWithin most_depth depth) fatoms_tokens (λ fs. all_of first (fatoms_meaning fs)) (formula_tree l)
+IsAndFatoms depth first l = IsWritten (FatomsWithin most_depth depth) fatoms_tokens (λ fs. formula_conjunction first (fatoms_meaning fs)) (formula_tree l)
 
 abbrev pub IsOrFands : ℕ → FormulaTree → Formula → Cursor → Cursor → Type 0
-IsOrFands depth first l = IsWritten (FandsWithin most_depth depth) fands_tokens (λ ls. one_of first (fands_meaning ls)) (formula_tree l)
+IsOrFands depth first l = IsWritten (FandsWithin most_depth depth) fands_tokens (λ ls. formula_disjunction first (fands_meaning ls)) (formula_tree l)
 
 -- the constant that a word is, if it is one
 abbrev pub truth_value : List ℕ → Option RawTree
@@ -236,8 +236,8 @@ IsMaybeLabel label = IsWritten (OptionalWithin most_depth) optional_label (optio
 abbrev pub IsEdge : RawEdge → Cursor → Cursor → Type 0
 IsEdge edge = IsWritten (λ e. OptionalWithin most_depth e.label) edge_tokens edge_meaning (written_edge edge)
 
-abbrev pub AreEdges : List RawEdge → Cursor → Cursor → Type 0
-AreEdges edges = IsWritten (AllByRecursion (λ e. OptionalWithin most_depth e.label)) (flat_map edge_tokens) (map edge_meaning) (map written_edge edges)
+abbrev pub AreEdgesWritten : List RawEdge → Cursor → Cursor → Type 0
+AreEdgesWritten edges = IsWritten (AllByRecursion (λ e. OptionalWithin most_depth e.label)) (flat_map edge_tokens) (map edge_meaning) (map written_edge edges)
 
 -- a state without its edges
 pub record HeadPhrase : Type 0 where
@@ -267,7 +267,7 @@ abbrev pub IsState : RawState → Cursor → Cursor → Type 0
 IsState state = IsWritten (StateWithin most_depth) state_tokens state_meaning (written_state state)
 
 -- the states of a body, behind which `--END--` is at hand
-pub record AreStates (states : List RawState) (a b : Cursor) : Type 0 where
+pub record AreStatesWritten (states : List RawState) (a b : Cursor) : Type 0 where
   pub written : IsWritten (AllByRecursion (StateWithin most_depth)) (flat_map state_tokens) (map state_meaning) (map written_state states) a b
   pub ends : b.token ≡ token.End
 

@@ -5,8 +5,8 @@ ghost use Rattle.hoa_lexer.specs.declared.token.Token.{Token};
 ghost use Rattle.hoa_parser.specs.inner.AtHand.{next_token};
 ghost use Rattle.hoa_parser.specs.inner.Expecting as part;
 ghost use Rattle.hoa_parser.specs.inner.Expecting.{move};
-ghost use Rattle.hoa_parser.specs.inner.Parsing.{Reads, ReadsTo, Uses, state};
-ghost use Rattle.hoa_parser.specs.inner.RuleReads.{AreEdges, AreStates, IsEdge, IsHead, IsMaybeLabel, IsOpened, IsState};
+ghost use Rattle.hoa_parser.specs.inner.Parsing.{ReadsParts, ReadsTo, Uses, reader_state};
+ghost use Rattle.hoa_parser.specs.inner.RuleReads.{AreEdgesWritten, AreStatesWritten, IsEdge, IsHead, IsMaybeLabel, IsOpened, IsState};
 
 use super::label::label;
 use super::lists::{conj, maybe_marks};
@@ -35,8 +35,8 @@ pub(super) fn states<I: Inputs>(
     ahead: &mut Token,
 ) -> Result<RawStates, ReadFault>
     requires unspent { lexer.old.spent ≡ false }
-    ensures reads { Reads (part.States ∷ []) (part.States ∷ []) AreStates result
-        (state lexer.old ahead.old (I.seen inputs.old)) (state lexer.new ahead.new (I.seen inputs.new)) }
+    ensures reads { ReadsParts (part.States ∷ []) (part.States ∷ []) AreStatesWritten result
+        (reader_state lexer.old ahead.old (I.seen inputs.old)) (reader_state lexer.new ahead.new (I.seen inputs.new)) }
     ensures ends { OnOk result (ahead.new ≡ Token.End) }
 {
     let mut states = RawStates::new(alloc);
@@ -60,8 +60,8 @@ fn state_at<I: Inputs>(
 ) -> Result<RawState, ReadFault>
     requires unspent { lexer.old.spent ≡ false }
     requires begins { ahead.old ≢ Token.End }
-    ensures reads { Reads (part.States ∷ []) (part.States ∷ []) IsState result
-        (state lexer.old ahead.old (I.seen inputs.old)) (state lexer.new ahead.new (I.seen inputs.new)) }
+    ensures reads { ReadsParts (part.States ∷ []) (part.States ∷ []) IsState result
+        (reader_state lexer.old ahead.old (I.seen inputs.old)) (reader_state lexer.new ahead.new (I.seen inputs.new)) }
     ensures uses { OnOk result (Uses lexer.old lexer.new) }
 {
     let header = match ahead {
@@ -92,8 +92,8 @@ fn head<I: Inputs>(
 ) -> Result<StateHead, ReadFault>
     requires unspent { lexer.old.spent ≡ false }
     requires begins { ahead.old ≡ Token.HeaderName (codes "State") }
-    ensures reads { Reads (part.States ∷ []) (part.Edges ∷ part.States ∷ []) IsHead result
-        (state lexer.old ahead.old (I.seen inputs.old)) (state lexer.new ahead.new (I.seen inputs.new)) }
+    ensures reads { ReadsParts (part.States ∷ []) (part.Edges ∷ part.States ∷ []) IsHead result
+        (reader_state lexer.old ahead.old (I.seen inputs.old)) (reader_state lexer.new ahead.new (I.seen inputs.new)) }
     ensures uses { OnOk result (Uses lexer.old lexer.new) }
 {
     match head_at_hand(alloc, lexer, inputs, ahead) {
@@ -113,7 +113,7 @@ fn head_at_hand<I: Inputs>(
     requires unspent { lexer.old.spent ≡ false }
     requires begins { ahead.old ≡ Token.HeaderName (codes "State") }
     ensures reads { MatchOption result (Unit {0}) (λ head. ReadsTo (part.States ∷ []) (part.Edges ∷ part.States ∷ []) (IsHead head)
-        (state lexer.old ahead.old (I.seen inputs.old)) (state lexer.new ahead.new (I.seen inputs.new))) }
+        (reader_state lexer.old ahead.old (I.seen inputs.old)) (reader_state lexer.new ahead.new (I.seen inputs.new))) }
     ensures uses { MatchOption result (Unit {0}) (λ head. Uses lexer.old lexer.new) }
     ensures none { MatchOption result ((lexer.new ≡ lexer.old) × (inputs.new ≡ inputs.old) × (ahead.new ≡ ahead.old)) (λ head. Unit {0}) }
 {
@@ -147,8 +147,8 @@ fn head_of_tokens<I: Inputs>(
 ) -> Result<StateHead, ReadFault>
     requires unspent { lexer.old.spent ≡ false }
     requires begins { ahead.old ≡ Token.HeaderName (codes "State") }
-    ensures reads { Reads (part.States ∷ []) (part.Edges ∷ part.States ∷ []) IsHead result
-        (state lexer.old ahead.old (I.seen inputs.old)) (state lexer.new ahead.new (I.seen inputs.new)) }
+    ensures reads { ReadsParts (part.States ∷ []) (part.Edges ∷ part.States ∷ []) IsHead result
+        (reader_state lexer.old ahead.old (I.seen inputs.old)) (reader_state lexer.new ahead.new (I.seen inputs.new)) }
     ensures uses { OnOk result (Uses lexer.old lexer.new) }
 {
     advance(alloc, lexer, inputs, ahead)?;
@@ -173,7 +173,7 @@ fn label_at_hand<I: Inputs>(
     requires unspent { lexer.old.spent ≡ false }
     requires opens { ahead.old ≡ Token.LeftBracket }
     ensures reads { MatchOption result (Unit {0}) (λ label. ReadsTo (part.MaybeLabel ∷ []) (part.ClosingBracket ∷ []) (IsOpened label)
-        (state lexer.old ahead.old (I.seen inputs.old)) (state lexer.new ahead.new (I.seen inputs.new))) }
+        (reader_state lexer.old ahead.old (I.seen inputs.old)) (reader_state lexer.new ahead.new (I.seen inputs.new))) }
     ensures none { MatchOption result ((lexer.new ≡ lexer.old) × (inputs.new ≡ inputs.old) × (ahead.new ≡ ahead.old)) (λ label. Unit {0}) }
 {
     let bytes = lexer.ahead(inputs);
@@ -194,8 +194,8 @@ fn opened_label<I: Inputs>(
 ) -> Result<RawLabel, ReadFault>
     requires unspent { lexer.old.spent ≡ false }
     requires opens { ahead.old ≡ Token.LeftBracket }
-    ensures reads { Reads (part.MaybeLabel ∷ []) (part.ClosingBracket ∷ []) IsOpened result
-        (state lexer.old ahead.old (I.seen inputs.old)) (state lexer.new ahead.new (I.seen inputs.new)) }
+    ensures reads { ReadsParts (part.MaybeLabel ∷ []) (part.ClosingBracket ∷ []) IsOpened result
+        (reader_state lexer.old ahead.old (I.seen inputs.old)) (reader_state lexer.new ahead.new (I.seen inputs.new)) }
 {
     match label_at_hand(alloc, lexer, inputs, ahead) {
         Some(label) => Ok(label),
@@ -212,8 +212,8 @@ fn label_of_tokens<I: Inputs>(
 ) -> Result<RawLabel, ReadFault>
     requires unspent { lexer.old.spent ≡ false }
     requires opens { ahead.old ≡ Token.LeftBracket }
-    ensures reads { Reads (part.MaybeLabel ∷ []) (part.ClosingBracket ∷ []) IsOpened result
-        (state lexer.old ahead.old (I.seen inputs.old)) (state lexer.new ahead.new (I.seen inputs.new)) }
+    ensures reads { ReadsParts (part.MaybeLabel ∷ []) (part.ClosingBracket ∷ []) IsOpened result
+        (reader_state lexer.old ahead.old (I.seen inputs.old)) (reader_state lexer.new ahead.new (I.seen inputs.new)) }
 {
     advance(alloc, lexer, inputs, ahead)?;
     label(alloc, lexer, inputs, ahead, 0)
@@ -228,8 +228,8 @@ fn maybe_label<I: Inputs>(
     ahead: &mut Token,
 ) -> Result<Option<RawLabel>, ReadFault>
     requires unspent { lexer.old.spent ≡ false }
-    ensures reads { Reads (part.MaybeLabel ∷ []) [] IsMaybeLabel result
-        (state lexer.old ahead.old (I.seen inputs.old)) (state lexer.new ahead.new (I.seen inputs.new)) }
+    ensures reads { ReadsParts (part.MaybeLabel ∷ []) [] IsMaybeLabel result
+        (reader_state lexer.old ahead.old (I.seen inputs.old)) (reader_state lexer.new ahead.new (I.seen inputs.new)) }
 {
     match ahead {
         Token::LeftBracket => {}
@@ -248,8 +248,8 @@ fn edges<I: Inputs>(
     ahead: &mut Token,
 ) -> Result<RawEdges, ReadFault>
     requires unspent { lexer.old.spent ≡ false }
-    ensures reads { Reads (part.Edges ∷ []) [] AreEdges result
-        (state lexer.old ahead.old (I.seen inputs.old)) (state lexer.new ahead.new (I.seen inputs.new)) }
+    ensures reads { ReadsParts (part.Edges ∷ []) [] AreEdgesWritten result
+        (reader_state lexer.old ahead.old (I.seen inputs.old)) (reader_state lexer.new ahead.new (I.seen inputs.new)) }
 {
     let mut edges = RawEdges::new(alloc);
     'edges: loop {
@@ -283,7 +283,7 @@ fn edge_at_hand<I: Inputs>(
 ) -> Option<RawEdge>
     requires unspent { lexer.old.spent ≡ false }
     ensures reads { MatchOption result (Unit {0}) (λ edge. ReadsTo (part.Edges ∷ []) (part.Edges ∷ []) (IsEdge edge)
-        (state lexer.old ahead.old (I.seen inputs.old)) (state lexer.new ahead.new (I.seen inputs.new))) }
+        (reader_state lexer.old ahead.old (I.seen inputs.old)) (reader_state lexer.new ahead.new (I.seen inputs.new))) }
     ensures uses { MatchOption result (Unit {0}) (λ edge. Uses lexer.old lexer.new) }
     ensures none { MatchOption result ((lexer.new ≡ lexer.old) × (inputs.new ≡ inputs.old) × (ahead.new ≡ ahead.old)) (λ edge. Unit {0}) }
 {
@@ -308,8 +308,8 @@ fn edge<I: Inputs>(
 ) -> Result<RawEdge, ReadFault>
     requires unspent { lexer.old.spent ≡ false }
     requires begins { move part.Edges ahead.old ≢ part.Passes }
-    ensures reads { Reads (part.Edges ∷ []) (part.Edges ∷ []) IsEdge result
-        (state lexer.old ahead.old (I.seen inputs.old)) (state lexer.new ahead.new (I.seen inputs.new)) }
+    ensures reads { ReadsParts (part.Edges ∷ []) (part.Edges ∷ []) IsEdge result
+        (reader_state lexer.old ahead.old (I.seen inputs.old)) (reader_state lexer.new ahead.new (I.seen inputs.new)) }
     ensures uses { OnOk result (Uses lexer.old lexer.new) }
 {
     match edge_at_hand(alloc, lexer, inputs, ahead) {
@@ -327,8 +327,8 @@ fn edge_of_tokens<I: Inputs>(
 ) -> Result<RawEdge, ReadFault>
     requires unspent { lexer.old.spent ≡ false }
     requires begins { move part.Edges ahead.old ≢ part.Passes }
-    ensures reads { Reads (part.Edges ∷ []) (part.Edges ∷ []) IsEdge result
-        (state lexer.old ahead.old (I.seen inputs.old)) (state lexer.new ahead.new (I.seen inputs.new)) }
+    ensures reads { ReadsParts (part.Edges ∷ []) (part.Edges ∷ []) IsEdge result
+        (reader_state lexer.old ahead.old (I.seen inputs.old)) (reader_state lexer.new ahead.new (I.seen inputs.new)) }
     ensures uses { OnOk result (Uses lexer.old lexer.new) }
 {
     let label = maybe_label(alloc, lexer, inputs, ahead)?;

@@ -4,7 +4,7 @@ ghost use Rattle.std.specs.Prelude.{◌≡◌, ◌≢◌, ◌≤◌, ◌∷◌, 
 ghost use Rattle.hoa_lexer.specs.declared.token.Token.{Token};
 ghost use Rattle.hoa_parser.specs.inner.Expecting as part;
 ghost use Rattle.hoa_parser.specs.inner.Expecting.{condition_parts, set_parts};
-ghost use Rattle.hoa_parser.specs.inner.Parsing.{Reads, Uses, state};
+ghost use Rattle.hoa_parser.specs.inner.Parsing.{ReadsParts, Uses, reader_state};
 ghost use Rattle.hoa_parser.specs.inner.RuleReads.{IsAndFatom, IsAndFatoms, IsCondition, IsFand, IsFatom, IsMaybeBang, IsSet, sign_at, sign_of, IsOrFand, IsOrFands};
 ghost use Rattle.aut_base.specs.Formula.{formula_tree};
 
@@ -26,8 +26,8 @@ pub(super) fn condition<I: Inputs>(
 ) -> Result<Formula, ReadFault>
     requires unspent { lexer.old.spent ≡ false }
     requires depth { depth ≤ MOST_DEPTH }
-    ensures reads { Reads (condition_parts depth) [] (IsCondition depth) result
-        (state lexer.old ahead.old (I.seen inputs.old)) (state lexer.new ahead.new (I.seen inputs.new)) }
+    ensures reads { ReadsParts (condition_parts depth) [] (IsCondition depth) result
+        (reader_state lexer.old ahead.old (I.seen inputs.old)) (reader_state lexer.new ahead.new (I.seen inputs.new)) }
 {
     let first = fand(alloc, lexer, inputs, ahead, depth)?;
     or_fands(alloc, lexer, inputs, ahead, depth, first)
@@ -45,8 +45,8 @@ fn or_fands<I: Inputs>(
 ) -> Result<Formula, ReadFault>
     requires unspent { lexer.old.spent ≡ false }
     requires depth { depth ≤ MOST_DEPTH }
-    ensures reads { Reads (part.Conjunctions depth ∷ []) [] (IsOrFands depth (formula_tree first)) result
-        (state lexer.old ahead.old (I.seen inputs.old)) (state lexer.new ahead.new (I.seen inputs.new)) }
+    ensures reads { ReadsParts (part.Conjunctions depth ∷ []) [] (IsOrFands depth (formula_tree first)) result
+        (reader_state lexer.old ahead.old (I.seen inputs.old)) (reader_state lexer.new ahead.new (I.seen inputs.new)) }
 {
     match ahead {
         Token::Bar => {}
@@ -76,8 +76,8 @@ fn or_fand<I: Inputs>(
     requires unspent { lexer.old.spent ≡ false }
     requires bar { ahead.old ≡ Token.Bar }
     requires depth { depth ≤ MOST_DEPTH }
-    ensures reads { Reads (part.Conjunctions depth ∷ []) (part.Conjunctions depth ∷ []) (IsOrFand depth) result
-        (state lexer.old ahead.old (I.seen inputs.old)) (state lexer.new ahead.new (I.seen inputs.new)) }
+    ensures reads { ReadsParts (part.Conjunctions depth ∷ []) (part.Conjunctions depth ∷ []) (IsOrFand depth) result
+        (reader_state lexer.old ahead.old (I.seen inputs.old)) (reader_state lexer.new ahead.new (I.seen inputs.new)) }
     ensures uses { OnOk result (Uses lexer.old lexer.new) }
 {
     advance(alloc, lexer, inputs, ahead)?;
@@ -95,8 +95,8 @@ fn fand<I: Inputs>(
 ) -> Result<Formula, ReadFault>
     requires unspent { lexer.old.spent ≡ false }
     requires depth { depth ≤ MOST_DEPTH }
-    ensures reads { Reads (part.Atom depth ∷ part.Atoms depth ∷ []) [] (IsFand depth) result
-        (state lexer.old ahead.old (I.seen inputs.old)) (state lexer.new ahead.new (I.seen inputs.new)) }
+    ensures reads { ReadsParts (part.Atom depth ∷ part.Atoms depth ∷ []) [] (IsFand depth) result
+        (reader_state lexer.old ahead.old (I.seen inputs.old)) (reader_state lexer.new ahead.new (I.seen inputs.new)) }
 {
     let first = fatom(alloc, lexer, inputs, ahead, depth)?;
     and_fatoms(alloc, lexer, inputs, ahead, depth, first)
@@ -114,8 +114,8 @@ fn and_fatoms<I: Inputs>(
 ) -> Result<Formula, ReadFault>
     requires unspent { lexer.old.spent ≡ false }
     requires depth { depth ≤ MOST_DEPTH }
-    ensures reads { Reads (part.Atoms depth ∷ []) [] (IsAndFatoms depth (formula_tree first)) result
-        (state lexer.old ahead.old (I.seen inputs.old)) (state lexer.new ahead.new (I.seen inputs.new)) }
+    ensures reads { ReadsParts (part.Atoms depth ∷ []) [] (IsAndFatoms depth (formula_tree first)) result
+        (reader_state lexer.old ahead.old (I.seen inputs.old)) (reader_state lexer.new ahead.new (I.seen inputs.new)) }
 {
     match ahead {
         Token::Amp => {}
@@ -145,8 +145,8 @@ fn and_fatom<I: Inputs>(
     requires unspent { lexer.old.spent ≡ false }
     requires amp { ahead.old ≡ Token.Amp }
     requires depth { depth ≤ MOST_DEPTH }
-    ensures reads { Reads (part.Atoms depth ∷ []) (part.Atoms depth ∷ []) (IsAndFatom depth) result
-        (state lexer.old ahead.old (I.seen inputs.old)) (state lexer.new ahead.new (I.seen inputs.new)) }
+    ensures reads { ReadsParts (part.Atoms depth ∷ []) (part.Atoms depth ∷ []) (IsAndFatom depth) result
+        (reader_state lexer.old ahead.old (I.seen inputs.old)) (reader_state lexer.new ahead.new (I.seen inputs.new)) }
     ensures uses { OnOk result (Uses lexer.old lexer.new) }
 {
     advance(alloc, lexer, inputs, ahead)?;
@@ -164,8 +164,8 @@ fn fatom<I: Inputs>(
 ) -> Result<Formula, ReadFault>
     requires unspent { lexer.old.spent ≡ false }
     requires depth { depth ≤ MOST_DEPTH }
-    ensures reads { Reads (part.Atom depth ∷ []) [] (IsFatom depth) result
-        (state lexer.old ahead.old (I.seen inputs.old)) (state lexer.new ahead.new (I.seen inputs.new)) }
+    ensures reads { ReadsParts (part.Atom depth ∷ []) [] (IsFatom depth) result
+        (reader_state lexer.old ahead.old (I.seen inputs.old)) (reader_state lexer.new ahead.new (I.seen inputs.new)) }
 {
     match ahead {
         Token::LeftParen => group(alloc, lexer, inputs, ahead, depth),
@@ -185,8 +185,8 @@ fn group<I: Inputs>(
     requires unspent { lexer.old.spent ≡ false }
     requires paren { ahead.old ≡ Token.LeftParen }
     requires depth { depth ≤ MOST_DEPTH }
-    ensures reads { Reads (part.Atom depth ∷ []) [] (IsFatom depth) result
-        (state lexer.old ahead.old (I.seen inputs.old)) (state lexer.new ahead.new (I.seen inputs.new)) }
+    ensures reads { ReadsParts (part.Atom depth ∷ []) [] (IsFatom depth) result
+        (reader_state lexer.old ahead.old (I.seen inputs.old)) (reader_state lexer.new ahead.new (I.seen inputs.new)) }
 {
     if depth >= MOST_DEPTH {
         return Err(ReadFault::Depth);
@@ -243,8 +243,8 @@ fn atom<I: Inputs>(
 ) -> Result<Formula, ReadFault>
     requires unspent { lexer.old.spent ≡ false }
     requires no_paren { ahead.old ≢ Token.LeftParen }
-    ensures reads { Reads (part.Atom depth ∷ []) [] (IsFatom depth) result
-        (state lexer.old ahead.old (I.seen inputs.old)) (state lexer.new ahead.new (I.seen inputs.new)) }
+    ensures reads { ReadsParts (part.Atom depth ∷ []) [] (IsFatom depth) result
+        (reader_state lexer.old ahead.old (I.seen inputs.old)) (reader_state lexer.new ahead.new (I.seen inputs.new)) }
 {
     let Some(sign) = sign_at(ahead) else {
         return Err(refused(lexer));
@@ -279,8 +279,8 @@ fn set<I: Inputs>(
     ahead: &mut Token,
 ) -> Result<SetAt, ReadFault>
     requires unspent { lexer.old.spent ≡ false }
-    ensures reads { Reads set_parts [] IsSet result
-        (state lexer.old ahead.old (I.seen inputs.old)) (state lexer.new ahead.new (I.seen inputs.new)) }
+    ensures reads { ReadsParts set_parts [] IsSet result
+        (reader_state lexer.old ahead.old (I.seen inputs.old)) (reader_state lexer.new ahead.new (I.seen inputs.new)) }
 {
     opening_paren(alloc, lexer, inputs, ahead)?;
     let neg = maybe_bang(alloc, lexer, inputs, ahead)?;
@@ -297,8 +297,8 @@ fn maybe_bang<I: Inputs>(
     ahead: &mut Token,
 ) -> Result<bool, ReadFault>
     requires unspent { lexer.old.spent ≡ false }
-    ensures reads { Reads (part.MaybeBang ∷ []) [] IsMaybeBang result
-        (state lexer.old ahead.old (I.seen inputs.old)) (state lexer.new ahead.new (I.seen inputs.new)) }
+    ensures reads { ReadsParts (part.MaybeBang ∷ []) [] IsMaybeBang result
+        (reader_state lexer.old ahead.old (I.seen inputs.old)) (reader_state lexer.new ahead.new (I.seen inputs.new)) }
 {
     match ahead {
         Token::Bang => {}

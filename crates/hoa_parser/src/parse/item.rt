@@ -4,7 +4,7 @@ ghost use Rattle.std.specs.Prelude.{◌≡◌, ◌≢◌, ◌++◌, ◌∷◌, [
 ghost use Rattle.hoa_lexer.specs.declared.token.Token.{Token};
 ghost use Rattle.hoa_parser.specs.declared.header.Header.{Header};
 ghost use Rattle.hoa_parser.specs.inner.Expecting as part;
-ghost use Rattle.hoa_parser.specs.inner.Parsing.{Reads, Uses, state};
+ghost use Rattle.hoa_parser.specs.inner.Parsing.{ReadsParts, Uses, reader_state};
 ghost use Rattle.hoa_parser.specs.inner.Expecting.{header_parts};
 ghost use Rattle.hoa_parser.specs.inner.RuleReads.{AreItems, IsItem, IsItemOf, IsItemWritten};
 
@@ -26,8 +26,8 @@ pub(super) fn items<I: Inputs>(
     ahead: &mut Token,
 ) -> Result<Items, ReadFault>
     requires unspent { lexer.old.spent ≡ false }
-    ensures reads { Reads (part.Items ∷ []) (part.Items ∷ []) AreItems result
-        (state lexer.old ahead.old (I.seen inputs.old)) (state lexer.new ahead.new (I.seen inputs.new)) }
+    ensures reads { ReadsParts (part.Items ∷ []) (part.Items ∷ []) AreItems result
+        (reader_state lexer.old ahead.old (I.seen inputs.old)) (reader_state lexer.new ahead.new (I.seen inputs.new)) }
     ensures ends { OnOk result (ahead.new ≡ Token.Body) }
 {
     let mut items = Items::new(alloc);
@@ -51,8 +51,8 @@ fn item<I: Inputs>(
 ) -> Result<Item, ReadFault>
     requires unspent { lexer.old.spent ≡ false }
     requires no_body { ahead.old ≢ Token.Body }
-    ensures reads { Reads (part.Items ∷ []) (part.Items ∷ []) IsItem result
-        (state lexer.old ahead.old (I.seen inputs.old)) (state lexer.new ahead.new (I.seen inputs.new)) }
+    ensures reads { ReadsParts (part.Items ∷ []) (part.Items ∷ []) IsItem result
+        (reader_state lexer.old ahead.old (I.seen inputs.old)) (reader_state lexer.new ahead.new (I.seen inputs.new)) }
     ensures uses { OnOk result (Uses lexer.old lexer.new) }
 {
     let header = match ahead {
@@ -81,8 +81,8 @@ fn item_of<I: Inputs>(
     requires unspent { lexer.old.spent ≡ false }
     requires no_opening { header ≢ Header.Opening }
     requires no_state { header ≢ Header.State }
-    ensures reads { Reads (header_parts header) [] (IsItemOf header name) result
-        (state lexer.old ahead.old (I.seen inputs.old)) (state lexer.new ahead.new (I.seen inputs.new)) }
+    ensures reads { ReadsParts (header_parts header) [] (IsItemOf header name) result
+        (reader_state lexer.old ahead.old (I.seen inputs.old)) (reader_state lexer.new ahead.new (I.seen inputs.new)) }
 {
     match header {
         Header::Other | Header::Opening | Header::State => {
@@ -105,8 +105,8 @@ fn known_item<I: Inputs>(
     requires no_opening { header ≢ Header.Opening }
     requires no_state { header ≢ Header.State }
     requires no_other { header ≢ Header.Other }
-    ensures reads { Reads (header_parts header) [] (IsItemWritten header) result
-        (state lexer.old ahead.old (I.seen inputs.old)) (state lexer.new ahead.new (I.seen inputs.new)) }
+    ensures reads { ReadsParts (header_parts header) [] (IsItemWritten header) result
+        (reader_state lexer.old ahead.old (I.seen inputs.old)) (reader_state lexer.new ahead.new (I.seen inputs.new)) }
 {
     match header {
         Header::States => Ok(Item::States(number(alloc, lexer, inputs, ahead)?)),

@@ -4,8 +4,8 @@ ghost use Rattle.std.specs.Prelude.{◌≡◌, ◌≢◌, ◌≤◌, ℕ, List, 
 ghost use Rattle.std.specs.Option.{option_map};
 ghost use Rattle.hoa_lexer.specs.declared.token.Token.{Token};
 ghost use Rattle.hoa_parser.specs.inner.Expecting as part;
-ghost use Rattle.hoa_parser.specs.inner.Expecting.{label_parts};
-ghost use Rattle.hoa_parser.specs.inner.Parsing.{Reads, Uses, state};
+ghost use Rattle.hoa_parser.specs.inner.Expecting.{expected_label};
+ghost use Rattle.hoa_parser.specs.inner.Parsing.{ReadsParts, Uses, reader_state};
 ghost use Rattle.hoa_parser.specs.inner.RuleReads.{plain_atom_of, truth_value, IsAndLnot, IsAndLnots, IsLabel, IsLand, IsLnot, IsOrLand, IsOrLands};
 ghost use Rattle.hoa_parser.specs.Raw.{RawTree, raw_tree};
 
@@ -28,8 +28,8 @@ pub(super) fn label<I: Inputs>(
 ) -> Result<RawLabel, ReadFault>
     requires unspent { lexer.old.spent ≡ false }
     requires depth { depth ≤ MOST_DEPTH }
-    ensures reads { Reads (label_parts depth) [] (IsLabel depth) result
-        (state lexer.old ahead.old (I.seen inputs.old)) (state lexer.new ahead.new (I.seen inputs.new)) }
+    ensures reads { ReadsParts (expected_label depth) [] (IsLabel depth) result
+        (reader_state lexer.old ahead.old (I.seen inputs.old)) (reader_state lexer.new ahead.new (I.seen inputs.new)) }
 {
     let first = land(alloc, lexer, inputs, ahead, depth)?;
     or_lands(alloc, lexer, inputs, ahead, depth, first)
@@ -48,8 +48,8 @@ fn or_lands<I: Inputs>(
 ) -> Result<RawLabel, ReadFault>
     requires unspent { lexer.old.spent ≡ false }
     requires depth { depth ≤ MOST_DEPTH }
-    ensures reads { Reads (part.Products depth ∷ []) [] (IsOrLands depth (raw_tree first)) result
-        (state lexer.old ahead.old (I.seen inputs.old)) (state lexer.new ahead.new (I.seen inputs.new)) }
+    ensures reads { ReadsParts (part.Products depth ∷ []) [] (IsOrLands depth (raw_tree first)) result
+        (reader_state lexer.old ahead.old (I.seen inputs.old)) (reader_state lexer.new ahead.new (I.seen inputs.new)) }
 {
     match ahead {
         Token::Bar => more_lands(alloc, lexer, inputs, ahead, depth, first),
@@ -70,8 +70,8 @@ fn more_lands<I: Inputs>(
     requires unspent { lexer.old.spent ≡ false }
     requires bar { ahead.old ≡ Token.Bar }
     requires depth { depth ≤ MOST_DEPTH }
-    ensures reads { Reads (part.Products depth ∷ []) [] (IsOrLands depth (raw_tree first)) result
-        (state lexer.old ahead.old (I.seen inputs.old)) (state lexer.new ahead.new (I.seen inputs.new)) }
+    ensures reads { ReadsParts (part.Products depth ∷ []) [] (IsOrLands depth (raw_tree first)) result
+        (reader_state lexer.old ahead.old (I.seen inputs.old)) (reader_state lexer.new ahead.new (I.seen inputs.new)) }
 {
     let second = or_land(alloc, lexer, inputs, ahead, depth)?;
     let mut parts = RawLabels::pair(alloc, first, second);
@@ -97,8 +97,8 @@ fn or_land<I: Inputs>(
     requires unspent { lexer.old.spent ≡ false }
     requires bar { ahead.old ≡ Token.Bar }
     requires depth { depth ≤ MOST_DEPTH }
-    ensures reads { Reads (part.Products depth ∷ []) (part.Products depth ∷ []) (IsOrLand depth) result
-        (state lexer.old ahead.old (I.seen inputs.old)) (state lexer.new ahead.new (I.seen inputs.new)) }
+    ensures reads { ReadsParts (part.Products depth ∷ []) (part.Products depth ∷ []) (IsOrLand depth) result
+        (reader_state lexer.old ahead.old (I.seen inputs.old)) (reader_state lexer.new ahead.new (I.seen inputs.new)) }
     ensures uses { OnOk result (Uses lexer.old lexer.new) }
 {
     advance(alloc, lexer, inputs, ahead)?;
@@ -117,8 +117,8 @@ fn land<I: Inputs>(
 ) -> Result<RawLabel, ReadFault>
     requires unspent { lexer.old.spent ≡ false }
     requires depth { depth ≤ MOST_DEPTH }
-    ensures reads { Reads (part.Factor depth ∷ part.Factors depth ∷ []) [] (IsLand depth) result
-        (state lexer.old ahead.old (I.seen inputs.old)) (state lexer.new ahead.new (I.seen inputs.new)) }
+    ensures reads { ReadsParts (part.Factor depth ∷ part.Factors depth ∷ []) [] (IsLand depth) result
+        (reader_state lexer.old ahead.old (I.seen inputs.old)) (reader_state lexer.new ahead.new (I.seen inputs.new)) }
 {
     let first = lnot(alloc, lexer, inputs, ahead, depth)?;
     and_lnots(alloc, lexer, inputs, ahead, depth, first)
@@ -137,8 +137,8 @@ fn and_lnots<I: Inputs>(
 ) -> Result<RawLabel, ReadFault>
     requires unspent { lexer.old.spent ≡ false }
     requires depth { depth ≤ MOST_DEPTH }
-    ensures reads { Reads (part.Factors depth ∷ []) [] (IsAndLnots depth (raw_tree first)) result
-        (state lexer.old ahead.old (I.seen inputs.old)) (state lexer.new ahead.new (I.seen inputs.new)) }
+    ensures reads { ReadsParts (part.Factors depth ∷ []) [] (IsAndLnots depth (raw_tree first)) result
+        (reader_state lexer.old ahead.old (I.seen inputs.old)) (reader_state lexer.new ahead.new (I.seen inputs.new)) }
 {
     match ahead {
         Token::Amp => more_lnots(alloc, lexer, inputs, ahead, depth, first),
@@ -159,8 +159,8 @@ fn more_lnots<I: Inputs>(
     requires unspent { lexer.old.spent ≡ false }
     requires amp { ahead.old ≡ Token.Amp }
     requires depth { depth ≤ MOST_DEPTH }
-    ensures reads { Reads (part.Factors depth ∷ []) [] (IsAndLnots depth (raw_tree first)) result
-        (state lexer.old ahead.old (I.seen inputs.old)) (state lexer.new ahead.new (I.seen inputs.new)) }
+    ensures reads { ReadsParts (part.Factors depth ∷ []) [] (IsAndLnots depth (raw_tree first)) result
+        (reader_state lexer.old ahead.old (I.seen inputs.old)) (reader_state lexer.new ahead.new (I.seen inputs.new)) }
 {
     let second = and_lnot(alloc, lexer, inputs, ahead, depth)?;
     let mut parts = RawLabels::pair(alloc, first, second);
@@ -186,8 +186,8 @@ fn and_lnot<I: Inputs>(
     requires unspent { lexer.old.spent ≡ false }
     requires amp { ahead.old ≡ Token.Amp }
     requires depth { depth ≤ MOST_DEPTH }
-    ensures reads { Reads (part.Factors depth ∷ []) (part.Factors depth ∷ []) (IsAndLnot depth) result
-        (state lexer.old ahead.old (I.seen inputs.old)) (state lexer.new ahead.new (I.seen inputs.new)) }
+    ensures reads { ReadsParts (part.Factors depth ∷ []) (part.Factors depth ∷ []) (IsAndLnot depth) result
+        (reader_state lexer.old ahead.old (I.seen inputs.old)) (reader_state lexer.new ahead.new (I.seen inputs.new)) }
     ensures uses { OnOk result (Uses lexer.old lexer.new) }
 {
     advance(alloc, lexer, inputs, ahead)?;
@@ -206,8 +206,8 @@ fn lnot<I: Inputs>(
 ) -> Result<RawLabel, ReadFault>
     requires unspent { lexer.old.spent ≡ false }
     requires depth { depth ≤ MOST_DEPTH }
-    ensures reads { Reads (part.Factor depth ∷ []) [] (IsLnot depth) result
-        (state lexer.old ahead.old (I.seen inputs.old)) (state lexer.new ahead.new (I.seen inputs.new)) }
+    ensures reads { ReadsParts (part.Factor depth ∷ []) [] (IsLnot depth) result
+        (reader_state lexer.old ahead.old (I.seen inputs.old)) (reader_state lexer.new ahead.new (I.seen inputs.new)) }
 {
     match ahead {
         Token::Bang => negation(alloc, lexer, inputs, ahead, depth),
@@ -228,8 +228,8 @@ fn negation<I: Inputs>(
     requires unspent { lexer.old.spent ≡ false }
     requires bang { ahead.old ≡ Token.Bang }
     requires depth { depth ≤ MOST_DEPTH }
-    ensures reads { Reads (part.Factor depth ∷ []) [] (IsLnot depth) result
-        (state lexer.old ahead.old (I.seen inputs.old)) (state lexer.new ahead.new (I.seen inputs.new)) }
+    ensures reads { ReadsParts (part.Factor depth ∷ []) [] (IsLnot depth) result
+        (reader_state lexer.old ahead.old (I.seen inputs.old)) (reader_state lexer.new ahead.new (I.seen inputs.new)) }
 {
     if depth >= MOST_DEPTH {
         return Err(ReadFault::Depth);
@@ -262,8 +262,8 @@ fn group<I: Inputs>(
     requires unspent { lexer.old.spent ≡ false }
     requires paren { ahead.old ≡ Token.LeftParen }
     requires depth { depth ≤ MOST_DEPTH }
-    ensures reads { Reads (part.Factor depth ∷ []) [] (IsLnot depth) result
-        (state lexer.old ahead.old (I.seen inputs.old)) (state lexer.new ahead.new (I.seen inputs.new)) }
+    ensures reads { ReadsParts (part.Factor depth ∷ []) [] (IsLnot depth) result
+        (reader_state lexer.old ahead.old (I.seen inputs.old)) (reader_state lexer.new ahead.new (I.seen inputs.new)) }
 {
     if depth >= MOST_DEPTH {
         return Err(ReadFault::Depth);
@@ -312,8 +312,8 @@ fn atom<I: Inputs>(
     requires unspent { lexer.old.spent ≡ false }
     requires no_bang { ahead.old ≢ Token.Bang }
     requires no_paren { ahead.old ≢ Token.LeftParen }
-    ensures reads { Reads (part.Factor depth ∷ []) [] (IsLnot depth) result
-        (state lexer.old ahead.old (I.seen inputs.old)) (state lexer.new ahead.new (I.seen inputs.new)) }
+    ensures reads { ReadsParts (part.Factor depth ∷ []) [] (IsLnot depth) result
+        (reader_state lexer.old ahead.old (I.seen inputs.old)) (reader_state lexer.new ahead.new (I.seen inputs.new)) }
 {
     match ahead {
         Token::Alias(_) => return alias(alloc, lexer, inputs, ahead, depth),
@@ -336,8 +336,8 @@ fn alias<I: Inputs>(
 ) -> Result<RawLabel, ReadFault>
     requires unspent { lexer.old.spent ≡ false }
     requires names { (name : List ℕ) × (ahead.old ≡ Token.Alias name) }
-    ensures reads { Reads (part.Factor depth ∷ []) [] (IsLnot depth) result
-        (state lexer.old ahead.old (I.seen inputs.old)) (state lexer.new ahead.new (I.seen inputs.new)) }
+    ensures reads { ReadsParts (part.Factor depth ∷ []) [] (IsLnot depth) result
+        (reader_state lexer.old ahead.old (I.seen inputs.old)) (reader_state lexer.new ahead.new (I.seen inputs.new)) }
 {
     match take(alloc, lexer, inputs, ahead)? {
         Token::Alias(name) => Ok(RawLabel::Alias(Box::new(alloc, name)?)),

@@ -4,7 +4,7 @@ ghost use Rattle.std.specs.Prelude.{◌≡◌, ◌∷◌, [], false, IsTrue, ◌
 ghost use Rattle.hoa_lexer.specs.declared.token.Token.{Token};
 ghost use Rattle.hoa_parser.specs.inner.Expecting as part;
 ghost use Rattle.hoa_parser.specs.inner.Expecting.{conj_parts};
-ghost use Rattle.hoa_parser.specs.inner.Parsing.{Reads, Uses, state};
+ghost use Rattle.hoa_parser.specs.inner.Parsing.{ReadsParts, Uses, reader_state};
 ghost use Rattle.hoa_parser.specs.inner.RuleReads as written;
 ghost use Rattle.hoa_parser.specs.inner.RuleReads.{AddsMarks, AddsNumbers, AreMarks, AreTexts, AreValues, AreWords, IsConj};
 
@@ -24,8 +24,8 @@ pub(super) fn conj<I: Inputs>(
     ahead: &mut Token,
 ) -> Result<FewNumbers, ReadFault>
     requires unspent { lexer.old.spent ≡ false }
-    ensures reads { Reads conj_parts [] IsConj result
-        (state lexer.old ahead.old (I.seen inputs.old)) (state lexer.new ahead.new (I.seen inputs.new)) }
+    ensures reads { ReadsParts conj_parts [] IsConj result
+        (reader_state lexer.old ahead.old (I.seen inputs.old)) (reader_state lexer.new ahead.new (I.seen inputs.new)) }
     ensures uses { OnOk result (Uses lexer.old lexer.new) }
 {
     let mut numbers = FewNumbers::new(alloc);
@@ -43,8 +43,8 @@ pub(super) fn more_numbers<I: Inputs>(
     mut numbers: FewNumbers,
 ) -> Result<FewNumbers, ReadFault>
     requires unspent { lexer.old.spent ≡ false }
-    ensures reads { Reads (part.MoreNumbers ∷ []) [] (AddsNumbers numbers) result
-        (state lexer.old ahead.old (I.seen inputs.old)) (state lexer.new ahead.new (I.seen inputs.new)) }
+    ensures reads { ReadsParts (part.MoreNumbers ∷ []) [] (AddsNumbers numbers) result
+        (reader_state lexer.old ahead.old (I.seen inputs.old)) (reader_state lexer.new ahead.new (I.seen inputs.new)) }
 {
     'numbers: loop {
         match ahead {
@@ -65,8 +65,8 @@ pub(super) fn strings<I: Inputs>(
     ahead: &mut Token,
 ) -> Result<Words, ReadFault>
     requires unspent { lexer.old.spent ≡ false }
-    ensures reads { Reads (part.Strings ∷ []) [] AreTexts result
-        (state lexer.old ahead.old (I.seen inputs.old)) (state lexer.new ahead.new (I.seen inputs.new)) }
+    ensures reads { ReadsParts (part.Strings ∷ []) [] AreTexts result
+        (reader_state lexer.old ahead.old (I.seen inputs.old)) (reader_state lexer.new ahead.new (I.seen inputs.new)) }
 {
     let mut texts = Words::new(alloc);
     'texts: loop {
@@ -87,8 +87,8 @@ pub(super) fn words<I: Inputs>(
     ahead: &mut Token,
 ) -> Result<Seq<Name>, ReadFault>
     requires unspent { lexer.old.spent ≡ false }
-    ensures reads { Reads (part.Words ∷ []) [] AreWords result
-        (state lexer.old ahead.old (I.seen inputs.old)) (state lexer.new ahead.new (I.seen inputs.new)) }
+    ensures reads { ReadsParts (part.Words ∷ []) [] AreWords result
+        (reader_state lexer.old ahead.old (I.seen inputs.old)) (reader_state lexer.new ahead.new (I.seen inputs.new)) }
 {
     let mut words = Seq::new(alloc);
     'words: loop {
@@ -121,8 +121,8 @@ pub(super) fn values<I: Inputs>(
     texts: bool,
 ) -> Result<(), ReadFault>
     requires unspent { lexer.old.spent ≡ false }
-    ensures reads { Reads (written.values_part texts ∷ []) [] (AreValues texts) result
-        (state lexer.old ahead.old (I.seen inputs.old)) (state lexer.new ahead.new (I.seen inputs.new)) }
+    ensures reads { ReadsParts (written.values_part texts ∷ []) [] (AreValues texts) result
+        (reader_state lexer.old ahead.old (I.seen inputs.old)) (reader_state lexer.new ahead.new (I.seen inputs.new)) }
 {
     'values: loop {
         if !is_value(ahead, texts) {
@@ -141,8 +141,8 @@ pub(super) fn maybe_marks<I: Inputs>(
     ahead: &mut Token,
 ) -> Result<FewNumbers, ReadFault>
     requires unspent { lexer.old.spent ≡ false }
-    ensures reads { Reads (part.MaybeMarks ∷ []) [] AreMarks result
-        (state lexer.old ahead.old (I.seen inputs.old)) (state lexer.new ahead.new (I.seen inputs.new)) }
+    ensures reads { ReadsParts (part.MaybeMarks ∷ []) [] AreMarks result
+        (reader_state lexer.old ahead.old (I.seen inputs.old)) (reader_state lexer.new ahead.new (I.seen inputs.new)) }
 {
     let marks = FewNumbers::new(alloc);
     match ahead {
@@ -162,8 +162,8 @@ fn marks_behind<I: Inputs>(
     mut marks: FewNumbers,
 ) -> Result<FewNumbers, ReadFault>
     requires unspent { lexer.old.spent ≡ false }
-    ensures reads { Reads (part.Marks ∷ []) [] (AddsMarks marks) result
-        (state lexer.old ahead.old (I.seen inputs.old)) (state lexer.new ahead.new (I.seen inputs.new)) }
+    ensures reads { ReadsParts (part.Marks ∷ []) [] (AddsMarks marks) result
+        (reader_state lexer.old ahead.old (I.seen inputs.old)) (reader_state lexer.new ahead.new (I.seen inputs.new)) }
 {
     'marks: loop {
         match ahead {

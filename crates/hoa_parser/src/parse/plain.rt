@@ -2,13 +2,13 @@
 
 ghost use Rattle.std.specs.Prelude.{◌≡◌, ◌-◌, ◌<◌, ◌∷◌, ◌++◌, ℕ, List, [], true, codes, length, MatchOption};
 ghost use Rattle.hoa_lexer.specs.Bytes as kinds;
-ghost use Rattle.hoa_lexer.specs.Spelling.{Ends};
+ghost use Rattle.hoa_lexer.specs.Spelling.{IsDelimited};
 ghost use Rattle.hoa_lexer.specs.Text.{IsFront};
-ghost use Rattle.hoa_lexer.specs.inner.Steps.{Skips};
+ghost use Rattle.hoa_lexer.specs.inner.Steps.{PassesBlanks};
 ghost use Rattle.hoa_lexer.specs.declared.token.Token.TheVariants as token;
 ghost use Rattle.hoa_parser.specs.Raw.{raw_tree};
-ghost use Rattle.hoa_parser.specs.inner.AtHand.{AreMarks, AreMaybeMarks, AreMoreFactors, AreMoreLiterals, IsConjunction, IsFactor, IsGrouped, IsLabel};
-ghost use Rattle.hoa_parser.specs.inner.AtHand.{IsLiteral, IsNumber, IsPlain, IsPlainHead, IsSigned, next_word};
+ghost use Rattle.hoa_parser.specs.inner.AtHand.{AreMarks, AreMaybeMarks, AreMoreFactors, AreMoreLiterals, IsConjunctionText, IsFactor, IsGrouped, IsLabel};
+ghost use Rattle.hoa_parser.specs.inner.AtHand.{IsLiteral, IsIntText, IsPlain, IsPlainHead, IsSigned, next_word};
 
 use super::body::StateHead;
 use crate::{RawEdge, RawLabel, RawLabels};
@@ -65,7 +65,7 @@ fn front(bytes: &[u8]) -> Option<(u8, &[u8])>
 /// What stands behind the blanks of one byte in front.
 #[inline(always)]
 fn solid(bytes: &[u8]) -> &[u8]
-    ensures { Skips bytes.now result.now }
+    ensures { PassesBlanks bytes.now result.now }
 {
     let mut left = bytes;
     'blanks: loop {
@@ -121,7 +121,7 @@ fn more_digits(first: u8, bytes: &[u8]) -> Option<(u32, &[u8])>
 /// A number behind blanks, and what stands behind it and blanks.
 #[inline(always)]
 fn next_number(bytes: &[u8]) -> Option<(u32, &[u8])>
-    ensures { MatchOption result (Unit {0}) (λ found. IsNumber found.0 bytes.now found.1.now) }
+    ensures { MatchOption result (Unit {0}) (λ found. IsIntText found.0 bytes.now found.1.now) }
 {
     match number(solid(bytes)) {
         Some((value, rest)) => Some((value, solid(rest))),
@@ -144,8 +144,8 @@ fn behind_sign(sign: u8, bytes: &[u8]) -> Option<&[u8]>
 /// Whether a word of one letter ends before these bytes.
 #[inline(always)]
 fn ends_word(bytes: &[u8]) -> bool
-    ensures truth { result ≡ true → Ends (token.Identifier (codes "t")) bytes.now }
-    ensures falsity { result ≡ true → Ends (token.Identifier (codes "f")) bytes.now }
+    ensures truth { result ≡ true → IsDelimited (token.Identifier (codes "t")) bytes.now }
+    ensures falsity { result ≡ true → IsDelimited (token.Identifier (codes "f")) bytes.now }
 {
     match bytes {
         [b']' | b' ' | b'&' | b'|' | b')', ..] => true,
@@ -187,7 +187,7 @@ fn literal(bytes: &[u8]) -> Option<(RawLabel, &[u8])>
 /// literal ("&" literal)*, and what stands behind it and blanks.
 #[inline(always)]
 fn conjunction(alloc: Global, bytes: &[u8]) -> Option<(RawLabel, &[u8])>
-    ensures { MatchOption result (Unit {0}) (λ found. IsConjunction found.0 bytes.now found.1.now) }
+    ensures { MatchOption result (Unit {0}) (λ found. IsConjunctionText found.0 bytes.now found.1.now) }
 {
     let (first, rest) = literal(bytes)?;
     match behind_sign(b'&', rest) {

@@ -4,8 +4,8 @@ ghost use Rattle.std.specs.Prelude.{◌≡◌, [], ◌∷◌, false, IfOk, OnOk}
 ghost use Rattle.hoa_lexer.specs.declared.token.Token.{Token};
 ghost use Rattle.hoa_parser.specs.inner.Expecting as part;
 ghost use Rattle.hoa_parser.specs.declared.fault.ReadFault.{ReadFault};
-ghost use Rattle.hoa_parser.specs.inner.Parsing.{Advances, Reads, Uses, state};
-ghost use Rattle.hoa_parser.specs.inner.RuleReads.{IsAliasName, IsToken, IsNumber, IsOptionalText, IsQuoted, IsWord};
+ghost use Rattle.hoa_parser.specs.inner.Parsing.{AdvancesReader, ReadsParts, Uses, reader_state};
+ghost use Rattle.hoa_parser.specs.inner.RuleReads.{IsAliasToken, IsToken, IsIntToken, IsOptionalText, IsQuoted, IsIdentifierToken};
 
 use crate::ReadFault;
 use aut_base::Text;
@@ -24,8 +24,8 @@ pub(super) fn take<I: Inputs>(
 ) -> Result<Token, ReadFault>
     requires unspent { lexer.old.spent ≡ false }
     ensures takes { IfOk result (λ token. token ≡ ahead.old) }
-    ensures advances { Advances result
-        (state lexer.old ahead.old (I.seen inputs.old)) (state lexer.new ahead.new (I.seen inputs.new)) }
+    ensures advances { AdvancesReader result
+        (reader_state lexer.old ahead.old (I.seen inputs.old)) (reader_state lexer.new ahead.new (I.seen inputs.new)) }
 {
     match lexer.next(alloc, inputs)? {
         Some(token) => Ok(mem::replace(ahead, token)),
@@ -41,8 +41,8 @@ pub(super) fn advance<I: Inputs>(
     ahead: &mut Token,
 ) -> Result<(), ReadFault>
     requires unspent { lexer.old.spent ≡ false }
-    ensures { Advances result
-        (state lexer.old ahead.old (I.seen inputs.old)) (state lexer.new ahead.new (I.seen inputs.new)) }
+    ensures { AdvancesReader result
+        (reader_state lexer.old ahead.old (I.seen inputs.old)) (reader_state lexer.new ahead.new (I.seen inputs.new)) }
 {
     if lexer.renew(alloc, inputs, ahead)? {
         return Ok(());
@@ -67,8 +67,8 @@ pub(super) fn number<I: Inputs>(
     ahead: &mut Token,
 ) -> Result<u32, ReadFault>
     requires unspent { lexer.old.spent ≡ false }
-    ensures reads { Reads (part.Number ∷ []) [] IsNumber result
-        (state lexer.old ahead.old (I.seen inputs.old)) (state lexer.new ahead.new (I.seen inputs.new)) }
+    ensures reads { ReadsParts (part.Number ∷ []) [] IsIntToken result
+        (reader_state lexer.old ahead.old (I.seen inputs.old)) (reader_state lexer.new ahead.new (I.seen inputs.new)) }
     ensures uses { OnOk result (Uses lexer.old lexer.new) }
 {
     let number = match ahead {
@@ -87,8 +87,8 @@ pub(super) fn quoted<I: Inputs>(
     ahead: &mut Token,
 ) -> Result<Text, ReadFault>
     requires unspent { lexer.old.spent ≡ false }
-    ensures reads { Reads (part.Quoted ∷ []) [] IsQuoted result
-        (state lexer.old ahead.old (I.seen inputs.old)) (state lexer.new ahead.new (I.seen inputs.new)) }
+    ensures reads { ReadsParts (part.Quoted ∷ []) [] IsQuoted result
+        (reader_state lexer.old ahead.old (I.seen inputs.old)) (reader_state lexer.new ahead.new (I.seen inputs.new)) }
     ensures uses { OnOk result (Uses lexer.old lexer.new) }
 {
     match ahead {
@@ -109,8 +109,8 @@ pub(super) fn maybe_quoted<I: Inputs>(
     ahead: &mut Token,
 ) -> Result<(), ReadFault>
     requires unspent { lexer.old.spent ≡ false }
-    ensures reads { Reads (part.MaybeQuoted ∷ []) [] IsOptionalText result
-        (state lexer.old ahead.old (I.seen inputs.old)) (state lexer.new ahead.new (I.seen inputs.new)) }
+    ensures reads { ReadsParts (part.MaybeQuoted ∷ []) [] IsOptionalText result
+        (reader_state lexer.old ahead.old (I.seen inputs.old)) (reader_state lexer.new ahead.new (I.seen inputs.new)) }
 {
     match ahead {
         Token::Str(_) => advance(alloc, lexer, inputs, ahead),
@@ -126,8 +126,8 @@ pub(super) fn word<I: Inputs>(
     ahead: &mut Token,
 ) -> Result<Name, ReadFault>
     requires unspent { lexer.old.spent ≡ false }
-    ensures reads { Reads (part.Word ∷ []) [] IsWord result
-        (state lexer.old ahead.old (I.seen inputs.old)) (state lexer.new ahead.new (I.seen inputs.new)) }
+    ensures reads { ReadsParts (part.Word ∷ []) [] IsIdentifierToken result
+        (reader_state lexer.old ahead.old (I.seen inputs.old)) (reader_state lexer.new ahead.new (I.seen inputs.new)) }
     ensures uses { OnOk result (Uses lexer.old lexer.new) }
 {
     match ahead {
@@ -148,8 +148,8 @@ pub(super) fn alias_name<I: Inputs>(
     ahead: &mut Token,
 ) -> Result<Name, ReadFault>
     requires unspent { lexer.old.spent ≡ false }
-    ensures reads { Reads (part.AliasName ∷ []) [] IsAliasName result
-        (state lexer.old ahead.old (I.seen inputs.old)) (state lexer.new ahead.new (I.seen inputs.new)) }
+    ensures reads { ReadsParts (part.AliasName ∷ []) [] IsAliasToken result
+        (reader_state lexer.old ahead.old (I.seen inputs.old)) (reader_state lexer.new ahead.new (I.seen inputs.new)) }
 {
     match ahead {
         Token::Alias(_) => {}
@@ -169,8 +169,8 @@ pub(super) fn opening_paren<I: Inputs>(
     ahead: &mut Token,
 ) -> Result<(), ReadFault>
     requires unspent { lexer.old.spent ≡ false }
-    ensures reads { Reads (part.OpeningParen ∷ []) [] (IsToken Token.LeftParen) result
-        (state lexer.old ahead.old (I.seen inputs.old)) (state lexer.new ahead.new (I.seen inputs.new)) }
+    ensures reads { ReadsParts (part.OpeningParen ∷ []) [] (IsToken Token.LeftParen) result
+        (reader_state lexer.old ahead.old (I.seen inputs.old)) (reader_state lexer.new ahead.new (I.seen inputs.new)) }
 {
     match ahead {
         Token::LeftParen => advance(alloc, lexer, inputs, ahead),
@@ -186,8 +186,8 @@ pub(super) fn closing_paren<I: Inputs>(
     ahead: &mut Token,
 ) -> Result<(), ReadFault>
     requires unspent { lexer.old.spent ≡ false }
-    ensures reads { Reads (part.ClosingParen ∷ []) [] (IsToken Token.RightParen) result
-        (state lexer.old ahead.old (I.seen inputs.old)) (state lexer.new ahead.new (I.seen inputs.new)) }
+    ensures reads { ReadsParts (part.ClosingParen ∷ []) [] (IsToken Token.RightParen) result
+        (reader_state lexer.old ahead.old (I.seen inputs.old)) (reader_state lexer.new ahead.new (I.seen inputs.new)) }
 {
     match ahead {
         Token::RightParen => advance(alloc, lexer, inputs, ahead),
@@ -203,8 +203,8 @@ pub(super) fn closing_bracket<I: Inputs>(
     ahead: &mut Token,
 ) -> Result<(), ReadFault>
     requires unspent { lexer.old.spent ≡ false }
-    ensures reads { Reads (part.ClosingBracket ∷ []) [] (IsToken Token.RightBracket) result
-        (state lexer.old ahead.old (I.seen inputs.old)) (state lexer.new ahead.new (I.seen inputs.new)) }
+    ensures reads { ReadsParts (part.ClosingBracket ∷ []) [] (IsToken Token.RightBracket) result
+        (reader_state lexer.old ahead.old (I.seen inputs.old)) (reader_state lexer.new ahead.new (I.seen inputs.new)) }
 {
     match ahead {
         Token::RightBracket => advance(alloc, lexer, inputs, ahead),

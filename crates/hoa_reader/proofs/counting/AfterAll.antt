@@ -4,7 +4,7 @@ use Rattle.std.proofs.lemmas.Bool.Decides.{nat_tests}
 use Rattle.std.proofs.lemmas.Grind.{flat_map-append}
 use Rattle.std.specs.Prelude.{flat_map}
 use Rattle.hoa_reader.specs.Described.{after_all}
-use Rattle.hoa_reader.specs.inner.PickedOut.{goals}
+use Rattle.hoa_reader.specs.inner.PickedOut.{edge_targets}
 use Rattle.hoa_parser.specs.Raw.{WrittenEdge, WrittenState}
 use Rattle.hoa_reader.specs.Validity.{numbers_below}
 
@@ -28,9 +28,10 @@ numbers_below-after n [] = grind (arith, nat_tests)
 numbers_below-after n (x ∷ xs) = split_test x n (after_all xs) (numbers_below n xs) (numbers_below-after n xs)
 
 -- the goals of the edges of one more state
-pub goals-cons : (s : WrittenState) (states : List WrittenState) → after_all (goals (s ∷ states)) ≡ max (after_all (flat_map (λ (e : WrittenEdge). e.to) s.edges)) (after_all (goals states))
+pub goals-cons : (s : WrittenState) (states : List WrittenState)
+    → after_all (edge_targets (s ∷ states)) ≡ max (after_all (flat_map (λ (e : WrittenEdge). e.to) s.edges)) (after_all (edge_targets states))
 goals-cons s states =
     ap after_all (flat_map-append (λ (e : WrittenEdge). e.to) s.edges (flat_map (λ (s : WrittenState). s.edges) states))
-    ∙ after_all-append (flat_map (λ (e : WrittenEdge). e.to) s.edges) (goals states)
+    ∙ after_all-append (flat_map (λ (e : WrittenEdge). e.to) s.edges) (edge_targets states)
 
 pub ruleset after_alls = (after_all-append, goals-cons)

@@ -13,7 +13,7 @@ use Rattle.hoa_reader.specs.Described.{after_all}
 use Rattle.hoa_reader.specs.Validity.{aliases_among, all_leaves_pass, has_edge_per_letter, is_one_state, labels_one_way, marks_below, numbers_below, props_below, state_labels}
 use Rattle.hoa_reader.specs.declared.elaborate.sums.Sums.{Sums}
 use Rattle.hoa_reader.specs.inner.Growing.{cap}
-use Rattle.hoa_reader.specs.inner.PickedOut.{goals, numbers}
+use Rattle.hoa_reader.specs.inner.PickedOut.{edge_targets, numbers}
 use Rattle.hoa_reader.specs.inner.Sums.{all_props_after, beside, body_sums, edge_sums, edges_sums, nothing, option_plain, option_props, props_after, state_sums}
 use Rattle.hoa_reader.specs.inner.Weighing.{all_edges}
 
@@ -193,7 +193,7 @@ pub body_single : (names : ℕ) (ss : List WrittenState) → list_all (λ s. lis
 body_single names [] = refl
 body_single names (s ∷ ss) = λ i. edges_single s.edges i && body_single names ss i
 
-pub body_after : (names : ℕ) (ss : List WrittenState) → max (after_all (numbers ss)) (after_all (goals ss)) ≡ (body_sums names ss).after
+pub body_after : (names : ℕ) (ss : List WrittenState) → max (after_all (numbers ss)) (after_all (edge_targets ss)) ≡ (body_sums names ss).after
 body_after names [] = refl
 body_after names (s ∷ ss) =
     let here = edges_after s.edges in

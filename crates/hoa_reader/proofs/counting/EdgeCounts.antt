@@ -6,11 +6,11 @@ use Rattle.std.proofs.lemmas.List.{append-nil, length-append, length-map}
 use Rattle.std.proofs.lemmas.List.FromFn.{length-enumerate_from}
 use Rattle.std.specs.Prelude.{filter_map, flat_map}
 use Rattle.std.specs.List.{AllByRecursion, enumerate_from}
-use Rattle.aut_base.specs.Automaton.{TreeEdge}
+use Rattle.aut_base.specs.Automaton.{LabelledEdge}
 use Rattle.hoa_reader.proofs.description.WellFormed.{AreBelow, used_are_below}
 use Rattle.hoa_reader.specs.Described.{tree_edge_of, tree_edges_from, tree_edges_of, below, edges_of, state_count}
 use Rattle.hoa_parser.specs.Raw.{Written, WrittenEdge, WrittenState}
-use Rattle.hoa_reader.specs.Validity.{IsKept, edges_written, starts_written, states_item, used_states}
+use Rattle.hoa_reader.specs.Validity.{IsRuleKept, edges_written, starts_written, states_item, used_states}
 use Rattle.hoa_reader.specs.inner.Weighing.{all_edges}
 use Rattle.hoa_reader.specs.declared.elaborate.Rule.TheVariants.{V6}
 use Rattle.aut_base.proofs.lists.AllByRecursion.{AllByRecursion-left, AllByRecursion-right, AllByRecursion-from_map}
@@ -53,7 +53,7 @@ none_below (s ∷ ss) = let here = none_if s.number (length s.edges) in let rest
 counted_below : (w : Written) (n : ℕ) → length (flat_map (tree_edges_from w) (below n)) ≡ below_count n w.states
 counted_below w zero = sym (none_below w.states)
 counted_below w (suc n) =
-    let split = ap length (flat_map-append (tree_edges_from w) (below n) (n ∷ []) ∙ ap (λ (es : List TreeEdge). flat_map (tree_edges_from w) (below n) ++ es) (append-nil (tree_edges_from w n))) in
+    let split = ap length (flat_map-append (tree_edges_from w) (below n) (n ∷ []) ∙ ap (λ (es : List LabelledEdge). flat_map (tree_edges_from w) (below n) ++ es) (append-nil (tree_edges_from w n))) in
     let sum = length-append (flat_map (tree_edges_from w) (below n)) (tree_edges_from w n) in
     let before = counted_below w n in
     let here = at_number w w.states n in
@@ -72,7 +72,7 @@ all_below n (s ∷ ss) all =
     omega (arith, here, rest, sum)
 
 -- the states that are defined are below their number
-pub states_below : (w : Written) → IsKept V6 w → AllByRecursion (λ (s : WrittenState). s.number < state_count w) w.states
+pub states_below : (w : Written) → IsRuleKept V6 w → AllByRecursion (λ (s : WrittenState). s.number < state_count w) w.states
 states_below w kept =
     let n = state_count w in
     let P : ℕ → Type 0 = λ q. q < n in
@@ -82,5 +82,5 @@ states_below w kept =
     let others = AllByRecursion-right P (flat_map (λ (q : List ℕ). q) (starts_written w)) (numbers ++ goals) used in
     AllByRecursion-from_map P (λ (s : WrittenState). s.number) w.states (AllByRecursion-left P numbers goals others)
 
-pub edge_count : (w : Written) → IsKept V6 w → length (edges_of w) ≡ length (all_edges w.states)
+pub edge_count : (w : Written) → IsRuleKept V6 w → length (edges_of w) ≡ length (all_edges w.states)
 edge_count w kept = counted_below w (state_count w) ∙ all_below (state_count w) w.states (states_below w kept)

@@ -14,15 +14,15 @@ use Rattle.hoa_parser.specs.Raw.{RawTree, RawTrees, WrittenEdge, WrittenState}
 use Rattle.hoa_reader.specs.Validity.{aliases_among, all_leaves_pass, is_listed, state_labels}
 use Rattle.hoa_reader.specs.declared.elaborate.aliases.Known.{Known}
 use Rattle.hoa_reader.specs.declared.elaborate.places.Places.{Places}
-use Rattle.hoa_reader.specs.inner.Growing.{all_capped, cap, capped, capped_height, capped_size, capped_sum, heights_in, sizes_in}
+use Rattle.hoa_reader.specs.inner.Growing.{all_capped, cap, capped_weight, capped_height, capped_size, capped_sum, heights_in, sizes_in}
 use Rattle.hoa_reader.specs.inner.Sums.{body_sums, edges_sums, one_sign, option_height, option_plain, option_size}
-use Rattle.hoa_reader.specs.inner.Weighing.{are_tall, counted, edge_counted, own_counted, state_counted}
+use Rattle.hoa_reader.specs.inner.Weighing.{are_tall, states_counted, edge_counted, own_counted, state_counted}
 
 false_true : {A : Type 0} → false ≡ true → A
 false_true e = absurd (false≢true e)
 
 mutual
-  pub plain_counts : (both : ℕ → ℕ → ℕ) (f g : List ℕ → ℕ) (t : RawTree) → aliases_among [] t ≡ true → capped both f t ≡ capped both g t
+  pub plain_counts : (both : ℕ → ℕ → ℕ) (f g : List ℕ → ℕ) (t : RawTree) → aliases_among [] t ≡ true → capped_weight both f t ≡ capped_weight both g t
   plain_counts both f g raw.True e = refl
   plain_counts both f g raw.False e = refl
   plain_counts both f g (raw.Prop i) e = refl
@@ -111,7 +111,7 @@ state_counts known s (Some t) is own e =
     each_counts (edge_counted known s) (capped_size one_sign t)
     (λ d. ap (λ o. option_map_or (capped_size (sizes_in known)) o (option_map_or (own_counted known) d.label 0)) is ∙ plain_counts capped_sum (sizes_in known) one_sign t own) s.edges
 
-pub body_counts : (known : Places Known) (names : ℕ) (ss : List WrittenState) → (body_sums names ss).plain ≡ true → cap (counted known ss) ≡ (body_sums names ss).weight
+pub body_counts : (known : Places Known) (names : ℕ) (ss : List WrittenState) → (body_sums names ss).plain ≡ true → cap (states_counted known ss) ≡ (body_sums names ss).weight
 body_counts known names [] e = refl
 body_counts known names (s ∷ ss) e =
     let parts = and_parts (option_plain s.label && (edges_sums s.edges).plain) (body_sums names ss).plain e in

@@ -10,9 +10,9 @@ use Rattle.aut_base.specs.Label.{label_size}
 use Rattle.hoa_reader.proofs.labels.Meanings.{known_heights, known_sizes}
 use Rattle.hoa_reader.specs.Counts.{greatest, height, holds_alias}
 use Rattle.hoa_reader.specs.Described.{Meaning, expanded}
-use Rattle.hoa_reader.specs.inner.Growing.{AreKnown, cap, capped_height, capped_size, heights_in, sizes_in}
+use Rattle.hoa_reader.specs.inner.Growing.{AreAliasesKnown, cap, capped_height, capped_size, heights_in, sizes_in}
 use Rattle.hoa_parser.specs.Raw.{RawTree, WrittenEdge, WrittenState}
-use Rattle.hoa_reader.specs.inner.Weighing.{all_edges, are_tall, counted, edge_counted, own_counted, state_counted}
+use Rattle.hoa_reader.specs.inner.Weighing.{all_edges, are_tall, states_counted, edge_counted, own_counted, state_counted}
 use Rattle.hoa_reader.specs.declared.elaborate.aliases.Known.{Known}
 use Rattle.hoa_reader.specs.declared.elaborate.parts.AliasDef.{AliasDef}
 use Rattle.hoa_reader.specs.declared.elaborate.places.Places.{Places}
@@ -24,7 +24,7 @@ tall_cons : (n h c m : ℕ) (b : Bool) → c ≡ cap h → n < 2 ^ 64 - 1 → b 
 tall_cons n h c m b e l f = grind (arith, nat_tests)
 
 -- labels are taller than a number where the tallest is
-pub tall_law : (ms : List Meaning) (defs : List AliasDef) (known : Places Known) → AreKnown ms defs known → (ts : List RawTree)
+pub tall_law : (ms : List Meaning) (defs : List AliasDef) (known : Places Known) → AreAliasesKnown ms defs known → (ts : List RawTree)
     → are_tall known ts ≡ nat_lt MOST_ALIASES (greatest (map (λ t. height (expanded ms t)) ts))
 tall_law ms defs known all [] = refl
 tall_law ms defs known all (t ∷ ts) =
@@ -42,7 +42,7 @@ own_law : (b : Bool) (c n : ℕ) → c ≡ cap n → cond b c 0 ≡ cap (cond b 
 own_law true c n e = e
 own_law false c n e = omega arith
 
-edge_law : (ms : List Meaning) (defs : List AliasDef) (known : Places Known) → AreKnown ms defs known → (o p : Option RawTree)
+edge_law : (ms : List Meaning) (defs : List AliasDef) (known : Places Known) → AreAliasesKnown ms defs known → (o p : Option RawTree)
     → option_map_or (capped_size (sizes_in known)) o (option_map_or (own_counted known) p 0) ≡ cap (option_map_or (λ t. label_size (expanded ms t)) o (option_map_or (own_weighed ms) p 0))
 edge_law ms defs known all None None = omega arith
 edge_law ms defs known all None (Some t) = own_law (holds_alias t) (capped_size (sizes_in known) t) (label_size (expanded ms t)) (known_sizes ms defs known all t)
@@ -52,8 +52,8 @@ sum_law : {X : Type 0} (f g : X → ℕ) → ((x : X) → cap (f x) ≡ cap (g x
 sum_law f g h [] = refl
 sum_law f g h (x ∷ xs) = let here = h x in let rest = sum_law f g h xs in let first = sum_by-cons f x xs in let second = sum_by-cons g x xs in omega (arith, here, rest, first, second)
 
-pub weight_law : (ms : List Meaning) (defs : List AliasDef) (known : Places Known) → AreKnown ms defs known → (states : List WrittenState)
-    → cap (counted known states) ≡ cap (sum_by (λ (s : WrittenState). sum_by (edge_weighed ms s) s.edges) states)
+pub weight_law : (ms : List Meaning) (defs : List AliasDef) (known : Places Known) → AreAliasesKnown ms defs known → (states : List WrittenState)
+    → cap (states_counted known states) ≡ cap (sum_by (λ (s : WrittenState). sum_by (edge_weighed ms s) s.edges) states)
 weight_law ms defs known all states =
     sum_law (state_counted known) (λ (s : WrittenState). sum_by (edge_weighed ms s) s.edges)
     (λ s. sum_law (edge_counted known s) (edge_weighed ms s) (λ e. let law = edge_law ms defs known all s.label e.label in omega (arith, law)) s.edges) states

@@ -4,18 +4,18 @@ use Rattle.std.proofs.lemmas.Bool.{and_parts}
 use Rattle.std.specs.Prelude.{flat_map}
 use Rattle.std.specs.List.{AllByRecursion, enumerate_from, list_all}
 use Rattle.std.specs.Option.{option_map_or}
-use Rattle.aut_base.specs.Automaton.{TreeEdge}
+use Rattle.aut_base.specs.Automaton.{LabelledEdge}
 use Rattle.aut_base.specs.Label.{AllBelow}
 use Rattle.hoa_parser.specs.Raw.{Written, WrittenEdge, WrittenState}
 use Rattle.hoa_reader.proofs.description.WellFormed.{valid_labels}
 use Rattle.hoa_reader.specs.Described.{Meaning, below, edges_of, expanded, letter_label, marks_in_order, meanings_of, only_state}
-use Rattle.hoa_reader.specs.Validity.{IsValid, marks_below, names_of}
+use Rattle.hoa_reader.specs.Validity.{IsValid, marks_below, written_names}
 use Rattle.hoa_reader.specs.declared.elaborate.frame.Frame.{Frame}
 use Rattle.hoa_reader.specs.inner.Examined.{IsFrameOf}
 use Rattle.hoa_reader.specs.inner.TreeEdges.{HasLabelsBelow, edges_for}
 
 -- the edges of a state, by all that they depend on
-abbrev edges_by : List Meaning → ℕ → ℕ → WrittenState → List TreeEdge
+abbrev edges_by : List Meaning → ℕ → ℕ → WrittenState → List LabelledEdge
 edges_by ms names sets s = map (λ (p : ℕ × WrittenEdge). record {
   from = s.number;
   label = option_map_or (expanded ms) s.label (option_map_or (expanded ms) p.1.label (letter_label names p.0));
@@ -23,7 +23,7 @@ edges_by ms names sets s = map (λ (p : ℕ × WrittenEdge). record {
   marks = marks_in_order sets (s.marks ++ p.1.marks);
 }) (enumerate_from 0 s.edges)
 
-abbrev all_by : (WrittenState → List TreeEdge) → List WrittenState → ℕ → List TreeEdge
+abbrev all_by : (WrittenState → List LabelledEdge) → List WrittenState → ℕ → List LabelledEdge
 all_by of_state states count = flat_map (λ q. flat_map of_state (filter (λ (s : WrittenState). s.number == q) states)) (below count)
 
 pub framed_edges : (w : Written) (f : Frame) → IsFrameOf w f → edges_for f.shared w.states f.states ≡ edges_of w
@@ -34,10 +34,10 @@ pub framed_marks : (w : Written) (f : Frame) → IsFrameOf w f → IsValid w →
 framed_marks w f of valid = ap (λ n. list_all (marks_below n) w.states) of.sets ∙ (and_parts _ _ valid.1.1.1.1.1.1.1.1.0).1
 
 -- and the labels of their edges speak of the names
-pub framed_labels : (w : Written) (f : Frame) → IsFrameOf w f → IsValid w → All (HasLabelsBelow f.shared (length (names_of w))) w.states
+pub framed_labels : (w : Written) (f : Frame) → IsFrameOf w f → IsValid w → All (HasLabelsBelow f.shared (length (written_names w))) w.states
 framed_labels w f of valid =
-    let n = length (names_of w) in
+    let n = length (written_names w) in
     let T : List Meaning → ℕ → ℕ → Type 0 = λ ms names sets.
-    All (λ (s : WrittenState). AllByRecursion (λ (e : TreeEdge). AllBelow n e.label) (edges_by ms names sets s)) w.states in
+    All (λ (s : WrittenState). AllByRecursion (λ (e : LabelledEdge). AllBelow n e.label) (edges_by ms names sets s)) w.states in
     subst (λ ms. T ms f.shared.names f.shared.sets) (sym of.meanings)
     (subst (λ names. T (meanings_of w) names f.shared.sets) (sym of.count) (subst (T (meanings_of w) n) (sym of.sets) (valid_labels w valid)))

@@ -10,17 +10,17 @@ use Rattle.aut_base.specs.declared.formula.Formula.TheVariants as of_formula
 use Rattle.hoa_parser.specs.Raw as raw
 use Rattle.hoa_parser.specs.Raw.{WrittenItem}
 use Rattle.hoa_reader.specs.Validity.{acceptance_item, no_acceptance}
-use Rattle.hoa_reader.specs.inner.Headers.{first_of, formula_item}
+use Rattle.hoa_reader.specs.inner.Headers.{first_given, formula_item}
 use Rattle.hoa_reader.specs.inner.PickedOut.{list_of}
 
-first_none : {X : Type 0} (o : Option X) → first_of o None ≡ o
+first_none : {X : Type 0} (o : Option X) → first_given o None ≡ o
 first_none (Some x) = refl
 first_none None = refl
 
 -- what was found where no item is left
 pub found_out : {X : Type 0} (f : WrittenItem → Option X) (o : Option X) (left all : List WrittenItem) → left ≡ []
-    → first_of o (list_of (filter_map f left)) ≡ list_of (filter_map f all) → o ≡ list_of (filter_map f all)
-found_out f o left all none found = sym (first_none o) ∙ (ap (λ is. first_of o (list_of (filter_map f is))) (sym none) ∙ found)
+    → first_given o (list_of (filter_map f left)) ≡ list_of (filter_map f all) → o ≡ list_of (filter_map f all)
+found_out f o left all none found = sym (first_none o) ∙ (ap (λ is. first_given o (list_of (filter_map f is))) (sym none) ∙ found)
 
 pub none_left : {X : Type 0} (xs : List X) → length xs ≡ 0 → xs ≡ []
 none_left [] none = refl

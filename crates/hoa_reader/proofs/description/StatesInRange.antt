@@ -6,7 +6,7 @@ use Rattle.std.proofs.lemmas.Grind.{flat_map-append}
 use Rattle.std.specs.Prelude.{flat_map}
 use Rattle.std.specs.List.{AllByRecursion, enumerate_from}
 use Rattle.std.specs.List.Sorted.{IsNonDecreasing}
-use Rattle.aut_base.specs.Automaton.{TreeEdge}
+use Rattle.aut_base.specs.Automaton.{LabelledEdge}
 use Rattle.hoa_reader.proofs.description.LabelsInRange.{numbers_are_below}
 use Rattle.hoa_reader.specs.Described.{after_all, tree_edge_of, tree_edges_from, tree_edges_of, below, edges_of, state_count, without_repeats}
 use Rattle.hoa_parser.specs.Raw.{Written, WrittenEdge, WrittenState}
@@ -35,54 +35,54 @@ all_used_below (x ∷ xs) =
     (omega arith, AllByRecursion-weaker (λ y. y < after_all xs) (λ y. y < max (x + 1) (after_all xs)) xs (λ y l. omega (arith, l)) (all_used_below xs))
 
 -- no edge leaves a state below that of an earlier edge
-abbrev Ascends : List TreeEdge → Type 0
+abbrev Ascends : List LabelledEdge → Type 0
 Ascends [] = Unit {0}
-Ascends (e ∷ es) = AllByRecursion (λ (f : TreeEdge). e.from ≤ f.from) es × Ascends es
+Ascends (e ∷ es) = AllByRecursion (λ (f : LabelledEdge). e.from ≤ f.from) es × Ascends es
 
 -- edges of one state, behind edges of earlier ones
-ascends_append : (n : ℕ) (ds es : List TreeEdge) → Ascends ds → AllByRecursion (λ (d : TreeEdge). d.from < n) ds → AllByRecursion (λ (e : TreeEdge). e.from ≡ n) es → Ascends (ds ++ es)
+ascends_append : (n : ℕ) (ds es : List LabelledEdge) → Ascends ds → AllByRecursion (λ (d : LabelledEdge). d.from < n) ds → AllByRecursion (λ (e : LabelledEdge). e.from ≡ n) es → Ascends (ds ++ es)
 ascends_append n [] [] a less same = tt
 ascends_append n [] (e ∷ es) a less same =
-    (AllByRecursion-weaker (λ (f : TreeEdge). f.from ≡ n) (λ (f : TreeEdge). e.from ≤ f.from) es (λ f h. omega (arith, h, same.0)) same.1, ascends_append n [] es tt tt same.1)
+    (AllByRecursion-weaker (λ (f : LabelledEdge). f.from ≡ n) (λ (f : LabelledEdge). e.from ≤ f.from) es (λ f h. omega (arith, h, same.0)) same.1, ascends_append n [] es tt tt same.1)
 ascends_append n (d ∷ ds) es a less same =
-    let later : AllByRecursion (λ (f : TreeEdge). d.from ≤ f.from) es = AllByRecursion-weaker (λ (f : TreeEdge). f.from ≡ n) (λ (f : TreeEdge). d.from ≤ f.from) es
+    let later : AllByRecursion (λ (f : LabelledEdge). d.from ≤ f.from) es = AllByRecursion-weaker (λ (f : LabelledEdge). f.from ≡ n) (λ (f : LabelledEdge). d.from ≤ f.from) es
     (λ f h. omega (arith, h, less.0)) same in
-    (AllByRecursion-append (λ (f : TreeEdge). d.from ≤ f.from) ds es a.0 later, ascends_append n ds es a.1 less.1 same)
+    (AllByRecursion-append (λ (f : LabelledEdge). d.from ≤ f.from) ds es a.0 later, ascends_append n ds es a.1 less.1 same)
 
-ascending : (es : List TreeEdge) → Ascends es → AllPairs (λ p q. p ≤ q) (map (λ (e : TreeEdge). e.from) es)
+ascending : (es : List LabelledEdge) → Ascends es → AllPairs (λ p q. p ≤ q) (map (λ (e : LabelledEdge). e.from) es)
 ascending [] a = λ i j d l m. absurd (omega (arith, m))
 ascending (e ∷ es) a =
-    AllPairs-cons (λ p q. p ≤ q) e.from (map (λ (f : TreeEdge). f.from) es)
-    (All-from_recursion (λ q. e.from ≤ q) (map (λ (f : TreeEdge). f.from) es) (AllByRecursion-map (λ q. e.from ≤ q) (λ (f : TreeEdge). f.from) es a.0)) (ascending es a.1)
+    AllPairs-cons (λ p q. p ≤ q) e.from (map (λ (f : LabelledEdge). f.from) es)
+    (All-from_recursion (λ q. e.from ≤ q) (map (λ (f : LabelledEdge). f.from) es) (AllByRecursion-map (λ q. e.from ≤ q) (λ (f : LabelledEdge). f.from) es a.0)) (ascending es a.1)
 
-leave : (w : Written) (s : WrittenState) → AllByRecursion (λ (e : TreeEdge). e.from ≡ s.number) (tree_edges_of w s)
-leave w s = AllByRecursion-map (λ (e : TreeEdge). e.from ≡ s.number) (λ (p : ℕ × WrittenEdge). tree_edge_of w s p.0 p.1) (enumerate_from 0 s.edges)
+leave : (w : Written) (s : WrittenState) → AllByRecursion (λ (e : LabelledEdge). e.from ≡ s.number) (tree_edges_of w s)
+leave w s = AllByRecursion-map (λ (e : LabelledEdge). e.from ≡ s.number) (λ (p : ℕ × WrittenEdge). tree_edge_of w s p.0 p.1) (enumerate_from 0 s.edges)
     (AllByRecursion-of_each _ (enumerate_from 0 s.edges) (λ p. refl))
 
-leave_one : (w : Written) (q : ℕ) → AllByRecursion (λ (e : TreeEdge). e.from ≡ q) (tree_edges_from w q)
+leave_one : (w : Written) (q : ℕ) → AllByRecursion (λ (e : LabelledEdge). e.from ≡ q) (tree_edges_from w q)
 leave_one w q =
     let ours : WrittenState → Bool = λ s. s.number == q in
-    AllByRecursion-flat_map (λ (e : TreeEdge). e.from ≡ q) (tree_edges_of w) (filter ours w.states)
-    (AllByRecursion-weaker (λ s. ours s ≡ true) (λ s. AllByRecursion (λ (e : TreeEdge). e.from ≡ q) (tree_edges_of w s)) (filter ours w.states)
-    (λ s h. AllByRecursion-weaker (λ (e : TreeEdge). e.from ≡ s.number) (λ (e : TreeEdge). e.from ≡ q) (tree_edges_of w s) (λ e i. i ∙ eqb-true s.number q h) (leave w s))
+    AllByRecursion-flat_map (λ (e : LabelledEdge). e.from ≡ q) (tree_edges_of w) (filter ours w.states)
+    (AllByRecursion-weaker (λ s. ours s ≡ true) (λ s. AllByRecursion (λ (e : LabelledEdge). e.from ≡ q) (tree_edges_of w s)) (filter ours w.states)
+    (λ s h. AllByRecursion-weaker (λ (e : LabelledEdge). e.from ≡ s.number) (λ (e : LabelledEdge). e.from ≡ q) (tree_edges_of w s) (λ e i. i ∙ eqb-true s.number q h) (leave w s))
     (AllByRecursion-filter_passes ours w.states))
 
-pub edges_leave_below : (w : Written) (n : ℕ) → AllByRecursion (λ (e : TreeEdge). e.from < n) (flat_map (tree_edges_from w) (below n))
+pub edges_leave_below : (w : Written) (n : ℕ) → AllByRecursion (λ (e : LabelledEdge). e.from < n) (flat_map (tree_edges_from w) (below n))
 edges_leave_below w n =
-    AllByRecursion-flat_map (λ (e : TreeEdge). e.from < n) (tree_edges_from w) (below n)
-    (AllByRecursion-weaker (λ q. q < n) (λ q. AllByRecursion (λ (e : TreeEdge). e.from < n) (tree_edges_from w q)) (below n)
-    (λ q l. AllByRecursion-weaker (λ (e : TreeEdge). e.from ≡ q) (λ (e : TreeEdge). e.from < n) (tree_edges_from w q) (λ e h. omega (arith, h, l)) (leave_one w q)) (numbers_are_below n))
+    AllByRecursion-flat_map (λ (e : LabelledEdge). e.from < n) (tree_edges_from w) (below n)
+    (AllByRecursion-weaker (λ q. q < n) (λ q. AllByRecursion (λ (e : LabelledEdge). e.from < n) (tree_edges_from w q)) (below n)
+    (λ q l. AllByRecursion-weaker (λ (e : LabelledEdge). e.from ≡ q) (λ (e : LabelledEdge). e.from < n) (tree_edges_from w q) (λ e h. omega (arith, h, l)) (leave_one w q)) (numbers_are_below n))
 
 edges_ascend : (w : Written) (n : ℕ) → Ascends (flat_map (tree_edges_from w) (below n))
 edges_ascend w zero = tt
 edges_ascend w (suc n) =
     let last = leave_one w n in
-    let one : AllByRecursion (λ (e : TreeEdge). e.from ≡ n) (tree_edges_from w n ++ []) = AllByRecursion-append (λ (e : TreeEdge). e.from ≡ n) (tree_edges_from w n) [] last tt in
-    subst (λ (es : List TreeEdge). Ascends es) (sym (flat_map-append (tree_edges_from w) (below n) (n ∷ [])))
+    let one : AllByRecursion (λ (e : LabelledEdge). e.from ≡ n) (tree_edges_from w n ++ []) = AllByRecursion-append (λ (e : LabelledEdge). e.from ≡ n) (tree_edges_from w n) [] last tt in
+    subst (λ (es : List LabelledEdge). Ascends es) (sym (flat_map-append (tree_edges_from w) (below n) (n ∷ [])))
     (ascends_append n (flat_map (tree_edges_from w) (below n)) (tree_edges_from w n ++ []) (edges_ascend w n) (edges_leave_below w n) one)
 
-pub edges_in_order : (w : Written) → IsNonDecreasing (map (λ (e : TreeEdge). e.from) (edges_of w))
+pub edges_in_order : (w : Written) → IsNonDecreasing (map (λ (e : LabelledEdge). e.from) (edges_of w))
 edges_in_order w i j d l m =
-    let xs = map (λ (e : TreeEdge). e.from) (edges_of w) in
+    let xs = map (λ (e : LabelledEdge). e.from) (edges_of w) in
     let apart : i < j → get_or xs i d ≤ get_or xs j d = λ h. ascending (edges_of w) (edges_ascend w (state_count w)) i j d h m in
     grind (arith, apart)

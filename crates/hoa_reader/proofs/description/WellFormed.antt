@@ -9,7 +9,7 @@ use Rattle.std.proofs.lemmas.Bool.{false≢true, ltb-true, and_parts}
 use Rattle.std.specs.Prelude.{filter_map, flat_map, option_to_list}
 use Rattle.std.specs.List.{AllByRecursion, enumerate_from, list_all}
 use Rattle.std.specs.Option.{option_map_or}
-use Rattle.aut_base.specs.Automaton.{TreeEdge, IsEdgeOf, IsWellFormed}
+use Rattle.aut_base.specs.Automaton.{LabelledEdge, IsEdgeOf, IsWellFormed}
 use Rattle.aut_base.specs.Label.{AllBelow, LabelTree}
 use Rattle.aut_base.specs.Marks.{is_in}
 use Rattle.hoa_reader.proofs.description.LabelsInRange.{MeansBelow, expanded_below, letter_below, meanings_below, numbers_are_below, sets_in_range}
@@ -17,7 +17,7 @@ use Rattle.hoa_reader.proofs.description.StatesInRange.{all_used_below, all_with
 use Rattle.hoa_reader.specs.Described.{Meaning, after_all, tree_edge_of, tree_edges_from, tree_edges_of, below, described, edges_of, expanded}
 use Rattle.hoa_reader.specs.Described.{meanings_of, only_state, state_count}
 use Rattle.hoa_parser.specs.Raw.{RawTree, Written, WrittenEdge, WrittenState}
-use Rattle.hoa_reader.specs.Validity.{IsKept, IsValid, acceptance_of, alias_lines, body_labels, edges_written, is_one_state, names_of, numbers_below}
+use Rattle.hoa_reader.specs.Validity.{IsRuleKept, IsValid, acceptance_of, alias_lines, body_labels, edges_written, is_one_state, written_names, numbers_below}
 use Rattle.hoa_reader.specs.Validity.{props_below, starts_written, state_labels, states_item, used_states}
 use Rattle.hoa_reader.specs.declared.elaborate.Rule.TheVariants.{V4, V5, V6, V8, V9}
 use Rattle.aut_base.proofs.lists.AllByRecursion.{AllByRecursion-left, AllByRecursion-right, AllByRecursion-both, AllByRecursion-enumerate_from}
@@ -71,11 +71,11 @@ below_rises zero = λ i j d l m. absurd (omega (arith, m))
 below_rises (suc n) =
     all_pairs_push (λ x y. x < y) (below n) n (below_rises n) (λ k d l. All-from_recursion (λ q. q < n) (below n) (numbers_are_below n) k d l)
 
-tree_edge_good : (w : Written) (s : WrittenState) (i : ℕ) (e : WrittenEdge) → AllByRecursion (MeansBelow (length (names_of w))) (meanings_of w)
+tree_edge_good : (w : Written) (s : WrittenState) (i : ℕ) (e : WrittenEdge) → AllByRecursion (MeansBelow (length (written_names w))) (meanings_of w)
     → (s.number < state_count w)
-    → Labels (length (names_of w)) (option_to_list s.label) → IsGoodEdge (state_count w) (length (names_of w)) e → IsEdgeOf (described w) (tree_edge_of w s i e)
+    → Labels (length (written_names w)) (option_to_list s.label) → IsGoodEdge (state_count w) (length (written_names w)) e → IsEdgeOf (described w) (tree_edge_of w s i e)
 tree_edge_good w s i e means number labels good =
-    let k = length (names_of w) in
+    let k = length (written_names w) in
     let sets = (acceptance_of w).sets in
     let ours : ℕ → Bool = λ set. is_in set (s.marks ++ e.marks) in
     record {
@@ -87,10 +87,10 @@ tree_edge_good w s i e means number labels good =
       marks_rise = AllPairs-filter (λ m n. m < n) ours (below sets) (below_rises sets);
     }
 
-tree_edges_good : (w : Written) → AllByRecursion (MeansBelow (length (names_of w))) (meanings_of w) → (s : WrittenState)
-    → IsGoodState (state_count w) (length (names_of w)) s → AllByRecursion (IsEdgeOf (described w)) (tree_edges_of w s)
+tree_edges_good : (w : Written) → AllByRecursion (MeansBelow (length (written_names w))) (meanings_of w) → (s : WrittenState)
+    → IsGoodState (state_count w) (length (written_names w)) s → AllByRecursion (IsEdgeOf (described w)) (tree_edges_of w s)
 tree_edges_good w means s good =
-    let P : WrittenEdge → Type 0 = IsGoodEdge (state_count w) (length (names_of w)) in
+    let P : WrittenEdge → Type 0 = IsGoodEdge (state_count w) (length (written_names w)) in
     AllByRecursion-map (IsEdgeOf (described w)) (λ (p : ℕ × WrittenEdge). tree_edge_of w s p.0 p.1) (enumerate_from 0 s.edges)
     (AllByRecursion-weaker (λ (p : ℕ × WrittenEdge). P p.1) (λ (p : ℕ × WrittenEdge). IsEdgeOf (described w) (tree_edge_of w s p.0 p.1))
     (enumerate_from 0 s.edges)
@@ -103,7 +103,7 @@ AreGoodEdges w = AllByRecursion (λ (s : WrittenState). AllByRecursion (IsEdgeOf
 edges_good : (w : Written) → AreGoodEdges w → All (IsEdgeOf (described w)) (edges_of w)
 edges_good w good =
     let n = state_count w in
-    let P : TreeEdge → Type 0 = IsEdgeOf (described w) in
+    let P : LabelledEdge → Type 0 = IsEdgeOf (described w) in
     All-from_recursion P (edges_of w) (AllByRecursion-flat_map P (tree_edges_from w) (below n)
     (AllByRecursion-of_each (λ q. AllByRecursion P (tree_edges_from w q)) (below n)
     (λ q. let ours : WrittenState → Bool = λ s. s.number == q in
@@ -121,13 +121,13 @@ groups_below n group xs ones used =
     (AllByRecursion-from_flat_map P group xs used))
 
 -- the starts, the states of the body and the goals of their edges
-states_below : (w : Written) → IsKept V6 w → AreBelow (state_count w) (used_states w)
+states_below : (w : Written) → IsRuleKept V6 w → AreBelow (state_count w) (used_states w)
 states_below w states = used_are_below (used_states w) (filter_map states_item w.items) states
 
-state_edges_good : (w : Written) → IsKept V5 w → IsKept V6 w → IsKept V8 w → AreGoodEdges w
+state_edges_good : (w : Written) → IsRuleKept V5 w → IsRuleKept V6 w → IsRuleKept V8 w → AreGoodEdges w
 state_edges_good w one states props =
     let n = state_count w in
-    let k = length (names_of w) in
+    let k = length (written_names w) in
     let P : ℕ → Type 0 = λ q. q < n in
     let labels = and_parts _ _ props in
     let numbers = map (λ (s : WrittenState). s.number) w.states in
@@ -148,7 +148,7 @@ state_edges_good w one states props =
     AllByRecursion-weaker G (λ (s : WrittenState). AllByRecursion (IsEdgeOf (described w)) (tree_edges_of w s)) w.states
     (λ (s : WrittenState) g. tree_edges_good w means s (good_state n k s g)) facts
 
-pub well_formed : (w : Written) → IsKept V4 w → IsKept V5 w → IsKept V6 w → IsKept V8 w → IsKept V9 w → IsWellFormed (described w)
+pub well_formed : (w : Written) → IsRuleKept V4 w → IsRuleKept V5 w → IsRuleKept V6 w → IsRuleKept V8 w → IsRuleKept V9 w → IsWellFormed (described w)
 well_formed w counted one states props sets =
     let n = state_count w in
     let P : ℕ → Type 0 = λ q. q < n in
@@ -157,7 +157,7 @@ well_formed w counted one states props sets =
     let starts = AllByRecursion-left P (flat_map (λ (q : List ℕ). q) (starts_written w)) (numbers ++ goals) (states_below w states) in
     let heads = map only_state (starts_written w) in
     record {
-      names_differ = pairs_differ (names_of w) (names_differ w.items counted);
+      names_differ = pairs_differ (written_names w) (names_differ w.items counted);
       starts_differ = they_differ heads;
       starts = All-from_recursion P _ (all_without_repeats P heads
           (AllByRecursion-map P only_state (starts_written w) (groups_below n (λ (q : List ℕ). q) (starts_written w) (and_parts _ _ one).0 starts)));
@@ -171,11 +171,11 @@ valid_is_well_formed w v = well_formed w v.1.1.1.0 v.1.1.1.1.0 v.1.1.1.1.1.0 v.1
 
 -- the labels of each state's edges speak of the names
 pub valid_labels : (w : Written) → IsValid w
-    → All (λ (s : WrittenState). AllByRecursion (λ (e : TreeEdge). AllBelow (length (names_of w)) e.label) (tree_edges_of w s)) w.states
+    → All (λ (s : WrittenState). AllByRecursion (λ (e : LabelledEdge). AllBelow (length (written_names w)) e.label) (tree_edges_of w s)) w.states
 valid_labels w v =
-    let P : TreeEdge → Type 0 = IsEdgeOf (described w) in
-    let B : TreeEdge → Type 0 = λ e. AllBelow (length (names_of w)) e.label in
+    let P : LabelledEdge → Type 0 = IsEdgeOf (described w) in
+    let B : LabelledEdge → Type 0 = λ e. AllBelow (length (written_names w)) e.label in
     All-from_recursion (λ (s : WrittenState). AllByRecursion B (tree_edges_of w s)) w.states
     (AllByRecursion-weaker (λ (s : WrittenState). AllByRecursion P (tree_edges_of w s)) (λ (s : WrittenState). AllByRecursion B (tree_edges_of w s)) w.states
-    (λ (s : WrittenState) good. AllByRecursion-weaker P B (tree_edges_of w s) (λ (e : TreeEdge) g. g.label) good)
+    (λ (s : WrittenState) good. AllByRecursion-weaker P B (tree_edges_of w s) (λ (e : LabelledEdge) g. g.label) good)
     (state_edges_good w v.1.1.1.1.0 v.1.1.1.1.1.0 v.1.1.1.1.1.1.1.0))

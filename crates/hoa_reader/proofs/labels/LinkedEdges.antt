@@ -5,9 +5,9 @@ use Rattle.std.proofs.lemmas.Option.{get_or_from_slice_get, slice_get_within}
 use Rattle.std.specs.List.{enumerate_from}
 use Rattle.std.specs.Prelude.{flat_map}
 use Rattle.aut_base.proofs.lists.Lists.{drop-at}
-use Rattle.aut_base.specs.Automaton.{TreeEdge}
+use Rattle.aut_base.specs.Automaton.{LabelledEdge}
 use Rattle.aut_core.proofs.Following.{stand_itself, stand_kept, stand_push}
-use Rattle.aut_core.specs.Core.{edge_of}
+use Rattle.aut_core.specs.SymbolicAutomata.{edge_of}
 use Rattle.aut_core.specs.Links.{StandFor}
 use Rattle.aut_core.specs.declared.link.Link.{Link}
 use Rattle.hoa_parser.specs.Raw.{WrittenEdge, WrittenState, written_edge, written_state}
@@ -19,7 +19,7 @@ use Rattle.hoa_reader.specs.inner.TreeEdges.{IsDefinedAt, edges_for, tree_edge_f
 use Rattle.label_guards.specs.Store.{Has, Keeps, Store}
 
 -- the edges of a state from this one on
-abbrev pub edges_from : Shared → RawState → ℕ → List TreeEdge
+abbrev pub edges_from : Shared → RawState → ℕ → List LabelledEdge
 edges_from x state i = map (λ (p : ℕ × WrittenEdge). tree_edge_for x (written_state state) p.0 p.1) (enumerate_from i (map written_edge (drop i state.edges)))
 
 pub next_edge : (x : Shared) (state : RawState) (edges : List RawEdge) (i : ℕ) (edge : RawEdge) → edges ≡ state.edges → i < length edges
@@ -35,11 +35,11 @@ no_edge x state edges i same past =
     (subst (λ (es : List RawEdge). drop i es ≡ []) same (drop_all i edges past))
 
 -- the links so far have guards of the store, and with those of the rest they stand for all edges
-pub record AreOnTheWay (s : Store) (links : List Link) (rest all : List TreeEdge) : Type 0 where
+pub record AreOnTheWay (s : Store) (links : List Link) (rest all : List LabelledEdge) : Type 0 where
   pub has : All (λ l. Has s l.guard) links
   pub edges : map (edge_of s) links ++ rest ≡ all
 
-pub link_more : (s t : Store) (old new : List Link) (l : Link) (e : TreeEdge) (rest all : List TreeEdge) → AreOnTheWay s old (e ∷ rest) all → Keeps s t
+pub link_more : (s t : Store) (old new : List Link) (l : Link) (e : LabelledEdge) (rest all : List LabelledEdge) → AreOnTheWay s old (e ∷ rest) all → Keeps s t
     → Has t l.guard → edge_of t l ≡ e
     → new ≡ old ++ l ∷ [] → AreOnTheWay t new rest all
 link_more s t old new l e rest all way keeps has is pushed =
@@ -47,7 +47,7 @@ link_more s t old new l e rest all way keeps has is pushed =
     stand_push t old new l (map (edge_of s) old) e (stand_kept s t old (map (edge_of s) old) keeps (stand_itself s old way.has)) has is pushed in
     record { has = stand.has; edges = ap (λ es. es ++ rest) stand.edges ∙ (append_assoc (map (edge_of s) old) (e ∷ []) rest ∙ way.edges) }
 
-pub all_linked : (s : Store) (links : List Link) (all : List TreeEdge) → AreOnTheWay s links [] all → StandFor s links all
+pub all_linked : (s : Store) (links : List Link) (all : List LabelledEdge) → AreOnTheWay s links [] all → StandFor s links all
 all_linked s links all way = record { has = way.has; edges = sym (append-nil (map (edge_of s) links)) ∙ way.edges }
 
 -- what holds of each state holds of the one that is defined at this place

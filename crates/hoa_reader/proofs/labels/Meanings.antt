@@ -12,7 +12,7 @@ use Rattle.aut_base.specs.Label as label
 use Rattle.aut_base.specs.Label.{LabelTree, LabelTrees, label_size, labels_size}
 use Rattle.hoa_reader.specs.Counts.{greatest_height, height}
 use Rattle.hoa_reader.specs.Described.{Meaning, each_expanded, expanded, meaning_of, meanings_after}
-use Rattle.hoa_reader.specs.inner.Growing.{AreKnown, IsKnownAs, IsKnownBy, alias_name, cap, capped_height, capped_heights, capped_size, capped_sizes}
+use Rattle.hoa_reader.specs.inner.Growing.{AreAliasesKnown, IsKnownAs, IsKnownBy, alias_name, cap, capped_height, capped_heights, capped_size, capped_sizes}
 use Rattle.hoa_reader.specs.inner.Growing.{known_height, known_size, meaning_names, meanings_by}
 use Rattle.hoa_reader.specs.inner.PickedOut.{alias_def, line_names}
 use Rattle.hoa_reader.specs.inner.Places.{place_in}
@@ -155,8 +155,8 @@ one_known ms m defs q k o true s away h before = new_known ms m defs q k s away 
 one_known ms m defs q k o false s away h before = kept_known ms m defs q o s before
 
 -- one more alias is known
-pub known_push : (ms : List Meaning) (m : Meaning) (defs : List AliasDef) (old new : Places Known) (k : Known) → AreKnown ms defs old → is_listed (meaning_names ms) m.name ≡ false
-    → IsKnownAs ms defs m.label k → ((q : List ℕ) → place_in new q ≡ update same_text (place_in old) m.name (Some k) q) → AreKnown (ms ++ m ∷ []) defs new
+pub known_push : (ms : List Meaning) (m : Meaning) (defs : List AliasDef) (old new : Places Known) (k : Known) → AreAliasesKnown ms defs old → is_listed (meaning_names ms) m.name ≡ false
+    → IsKnownAs ms defs m.label k → ((q : List ℕ) → place_in new q ≡ update same_text (place_in old) m.name (Some k) q) → AreAliasesKnown (ms ++ m ∷ []) defs new
 known_push ms m defs old new k before away h changed = λ q.
     let P : Option Known → Type 0 = λ o. IsKnownBy (ms ++ m ∷ []) defs q o in
     subst P (sym (changed q)) (one_known ms m defs q k (place_in old q) (same_text m.name q) refl away h (before q))
@@ -165,7 +165,7 @@ listed_by : (ms : List Meaning) (defs : List AliasDef) (q : List ℕ) (o : Optio
 listed_by ms defs q None h = sym h
 listed_by ms defs q (Some k) h = sym h.listed
 
-pub known_listed : (ms : List Meaning) (defs : List AliasDef) (known : Places Known) → AreKnown ms defs known → (q : List ℕ) → is_some (place_in known q) ≡ is_listed (meaning_names ms) q
+pub known_listed : (ms : List Meaning) (defs : List AliasDef) (known : Places Known) → AreAliasesKnown ms defs known → (q : List ℕ) → is_some (place_in known q) ≡ is_listed (meaning_names ms) q
 known_listed ms defs known all q = listed_by ms defs q (place_in known q) (all q)
 
 height_by : (ms : List Meaning) (defs : List AliasDef) (q : List ℕ) (o : Option Known) → IsKnownBy ms defs q o → known_height o ≡ cap (height (meaning_of ms q))
@@ -206,11 +206,11 @@ mutual
   sizes_law ms g h raw.none = refl
   sizes_law ms g h (raw.more t ts) = let p = size_law ms g h t in let q = sizes_law ms g h ts in omega (arith, p, q)
 
-pub known_heights : (ms : List Meaning) (defs : List AliasDef) (known : Places Known) → AreKnown ms defs known → (t : RawTree)
+pub known_heights : (ms : List Meaning) (defs : List AliasDef) (known : Places Known) → AreAliasesKnown ms defs known → (t : RawTree)
     → capped_height (λ q. known_height (place_in known q)) t ≡ cap (height (expanded ms t))
 known_heights ms defs known all = height_law ms (λ q. known_height (place_in known q)) (λ q. height_by ms defs q (place_in known q) (all q))
 
-pub known_sizes : (ms : List Meaning) (defs : List AliasDef) (known : Places Known) → AreKnown ms defs known → (t : RawTree)
+pub known_sizes : (ms : List Meaning) (defs : List AliasDef) (known : Places Known) → AreAliasesKnown ms defs known → (t : RawTree)
     → capped_size (λ q. known_size (place_in known q)) t ≡ cap (label_size (expanded ms t))
 known_sizes ms defs known all = size_law ms (λ q. known_size (place_in known q)) (λ q. size_by ms defs q (place_in known q) (all q))
 

@@ -9,7 +9,7 @@ use Rattle.std.proofs.lemmas.List.Elements.{filter-append}
 use Rattle.std.proofs.lemmas.Option.{none-some, same_Some}
 use Rattle.std.specs.Prelude.{flat_map}
 use Rattle.std.specs.List.{list_any}
-use Rattle.aut_base.specs.Automaton.{TreeEdge}
+use Rattle.aut_base.specs.Automaton.{LabelledEdge}
 use Rattle.hoa_reader.specs.inner.TreeEdges.{IsDefinedAt, IsPlace, tree_edges_for, edges_for, states_at}
 use Rattle.hoa_reader.specs.Described.{below}
 use Rattle.hoa_reader.specs.inner.PickedOut.{numbers}
@@ -70,8 +70,8 @@ below_more n = let next : n + 1 ≡ suc n = omega arith in ap below next
 -- the edges of one more state
 pub edges_more : (x : Shared) (ws : List WrittenState) (n : ℕ) → edges_for x ws (n + 1) ≡ edges_for x ws n ++ flat_map (tree_edges_for x) (states_at ws n)
 edges_more x ws n =
-    let F : ℕ → List TreeEdge = λ q. flat_map (tree_edges_for x) (states_at ws q) in
-    ap (flat_map F) (below_more n) ∙ flat_map-append F (below n) (n ∷ []) ∙ ap (λ (es : List TreeEdge). edges_for x ws n ++ es) (append-nil (F n))
+    let F : ℕ → List LabelledEdge = λ q. flat_map (tree_edges_for x) (states_at ws q) in
+    ap (flat_map F) (below_more n) ∙ flat_map-append F (below n) (n ∷ []) ∙ ap (λ (es : List LabelledEdge). edges_for x ws n ++ es) (append-nil (F n))
 
 -- what is known of the state at the place that the index has for a number
 pub record IsFound (ws : List WrittenState) (n place : ℕ) (state : WrittenState) : Type 0 where

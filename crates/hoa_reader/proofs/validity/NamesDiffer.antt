@@ -8,7 +8,7 @@ use Rattle.hoa_reader.proofs.labels.Meanings.{same_texts}
 use Rattle.hoa_parser.specs.Raw as raw
 use Rattle.hoa_parser.specs.Raw.{Written, WrittenItem}
 use Rattle.aut_base.specs.Text.{same_text}
-use Rattle.hoa_reader.specs.Validity.{IsValid, all_differ, names_agree, names_item, names_of}
+use Rattle.hoa_reader.specs.Validity.{IsValid, all_differ, names_agree, names_item, written_names}
 use Rattle.aut_base.proofs.numbers.Truth.{neither}
 use Rattle.std.proofs.lemmas.List.Elements.{All-from_recursion}
 
@@ -37,5 +37,5 @@ names_differ (raw.Name text ∷ items) e = names_differ items e
 names_differ (raw.Properties words ∷ items) e = names_differ items e
 names_differ (raw.Other name ∷ items) e = names_differ items e
 
-pub valid_names : (w : Written) → IsValid w → AllPairs (λ a b. a ≢ b) (names_of w)
-valid_names w valid = pairs_differ (names_of w) (names_differ w.items valid.1.1.1.0)
+pub valid_names : (w : Written) → IsValid w → AllPairs (λ a b. a ≢ b) (written_names w)
+valid_names w valid = pairs_differ (written_names w) (names_differ w.items valid.1.1.1.0)

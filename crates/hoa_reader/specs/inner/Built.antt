@@ -2,13 +2,13 @@
 use Rattle.std.specs.Prelude.{◌≡◌, ℕ, IsTrue, List, length, map, Result, Ok, Err}
 use Rattle.aut_base.specs.Formula.{formula_tree}
 use Rattle.aut_base.specs.declared.formula.Formula.{Formula}
-use Rattle.aut_core.specs.Core.{Core}
+use Rattle.aut_core.specs.SymbolicAutomata.{SymbolicAutomaton}
 use Rattle.aut_core.specs.Links.{StandFor}
 use Rattle.hoa_parser.specs.Raw.{Written}
 use Rattle.hoa_reader.specs.Counts.{PassesNone}
 use Rattle.hoa_reader.specs.Described.{edges_of, starts_of, state_count}
-use Rattle.hoa_reader.specs.Elaborating.{Refuses}
-use Rattle.hoa_reader.specs.Validity.{IsValid, acceptance_of, names_of}
+use Rattle.hoa_reader.specs.Elaborating.{IsRefusedFor}
+use Rattle.hoa_reader.specs.Validity.{IsValid, acceptance_of, written_names}
 use Rattle.hoa_reader.specs.declared.elaborate.ElabFault.{ElabFault}
 use Rattle.hoa_reader.specs.declared.elaborate.body.Body.{Body}
 use Rattle.hoa_reader.specs.inner.Implicit.{AreImplicit}
@@ -22,17 +22,17 @@ pub record IsBodyOf (w : Written) (b : Body) : Type 0 where
   pub starts : b.starts ≡ starts_of w
   pub states : b.states ≡ state_count w
   pub sets : b.sets ≡ (acceptance_of w).sets
-  pub count : b.guards.names ≡ length (names_of w)
-  pub stand : StandFor b.guards b.links (map (settled (length (names_of w))) (edges_of w))
-  pub implicit : IsTrue b.implicit → AreImplicit (length (names_of w)) (state_count w) w.states
+  pub count : b.guards.names ≡ length (written_names w)
+  pub stand : StandFor b.guards b.links (map (settled (length (written_names w))) (edges_of w))
+  pub implicit : IsTrue b.implicit → AreImplicit (length (written_names w)) (state_count w) w.states
 
 abbrev pub BuildsBody : Result Body ElabFault → Written → Type 0
 BuildsBody (Ok b) w = IsBodyOf w b
-BuildsBody (Err why) w = Refuses why w
+BuildsBody (Err why) w = IsRefusedFor why w
 
 -- the automaton of names, of a condition and of the rest
-abbrev pub core_of : List (List ℕ) → Formula → Body → Core
-core_of names formula b = record {
+abbrev pub symbolic_of_body : List (List ℕ) → Formula → Body → SymbolicAutomaton
+symbolic_of_body names formula b = record {
   names = names;
   starts = b.starts;
   states = b.states;

@@ -8,16 +8,16 @@ use Rattle.hoa_reader.specs.Described.{after_all}
 use Rattle.hoa_reader.specs.inner.PickedOut.{acceptance_def, alias_def, label_refs, numbers}
 use Rattle.hoa_reader.specs.inner.Rising.{rises_from}
 use Rattle.hoa_parser.specs.Raw.{Written}
-use Rattle.hoa_reader.specs.Validity.{acceptance_of, alias_lines, body_labels, names_of, no_acceptance, starts_written, used_states}
+use Rattle.hoa_reader.specs.Validity.{acceptance_of, alias_lines, body_labels, written_names, no_acceptance, starts_written, used_states}
 use Rattle.hoa_reader.specs.declared.elaborate.parts.Parts.{Parts}
 use Rattle.hoa_reader.specs.inner.Sums.{body_sums}
 
 pub record ArePartsOf (w : Written) (p : Parts) : Type 0 where
-  pub names : p.names.now ≡ names_of w
+  pub names : p.names.now ≡ written_names w
   pub acceptance : option_map_or acceptance_def p.acceptance no_acceptance ≡ acceptance_of w
   pub defs : map alias_def p.defs.items ≡ alias_lines w
   pub starts : map (λ s. s.now) p.starts.items ≡ starts_written w
-  pub sums : p.sums ≡ body_sums (length (names_of w)) w.states
+  pub sums : p.sums ≡ body_sums (length (written_names w)) w.states
   pub labels : p.sums.plain ≡ false → map label_refs p.labels.items ≡ body_labels w
   pub after : p.after ≡ after_all (used_states w)
   pub rising : p.rising ≡ rises_from 0 (numbers w.states)

@@ -17,22 +17,22 @@ cap n = min n (2 ^ 64 - 1)
 
 -- by that of each alias, and that of two parts by those of each
 abbrev mutual
-  pub capped : (ℕ → ℕ → ℕ) → (List ℕ → ℕ) → RawTree → ℕ
-  capped both alias raw.True = 1
-  capped both alias raw.False = 1
-  capped both alias (raw.Prop i) = 1
-  capped both alias (raw.Alias name) = alias name
-  capped both alias (raw.Not t) = cap (capped both alias t + 1)
-  capped both alias (raw.And a b cs) = cap (both (capped both alias a) (both (capped both alias b) (all_capped both alias cs)) + 1)
-  capped both alias (raw.Or a b cs) = cap (both (capped both alias a) (both (capped both alias b) (all_capped both alias cs)) + 1)
+  pub capped_weight : (ℕ → ℕ → ℕ) → (List ℕ → ℕ) → RawTree → ℕ
+  capped_weight both alias raw.True = 1
+  capped_weight both alias raw.False = 1
+  capped_weight both alias (raw.Prop i) = 1
+  capped_weight both alias (raw.Alias name) = alias name
+  capped_weight both alias (raw.Not t) = cap (capped_weight both alias t + 1)
+  capped_weight both alias (raw.And a b cs) = cap (both (capped_weight both alias a) (both (capped_weight both alias b) (all_capped both alias cs)) + 1)
+  capped_weight both alias (raw.Or a b cs) = cap (both (capped_weight both alias a) (both (capped_weight both alias b) (all_capped both alias cs)) + 1)
 
   pub all_capped : (ℕ → ℕ → ℕ) → (List ℕ → ℕ) → RawTrees → ℕ
   all_capped both alias raw.none = 0
-  all_capped both alias (raw.more t ts) = both (capped both alias t) (all_capped both alias ts)
+  all_capped both alias (raw.more t ts) = both (capped_weight both alias t) (all_capped both alias ts)
 
 -- the height of the taller
 abbrev pub capped_height : (List ℕ → ℕ) → RawTree → ℕ
-capped_height = capped max
+capped_height = capped_weight max
 
 abbrev pub capped_heights : (List ℕ → ℕ) → RawTrees → ℕ
 capped_heights = all_capped max
@@ -42,7 +42,7 @@ abbrev pub capped_sum : ℕ → ℕ → ℕ
 capped_sum a b = cap (a + b)
 
 abbrev pub capped_size : (List ℕ → ℕ) → RawTree → ℕ
-capped_size = capped capped_sum
+capped_size = capped_weight capped_sum
 
 abbrev pub capped_sizes : (List ℕ → ℕ) → RawTrees → ℕ
 capped_sizes = all_capped capped_sum
@@ -89,8 +89,8 @@ IsKnownBy ms defs name None = is_listed (meaning_names ms) name ≡ false
 IsKnownBy ms defs name (Some k) = IsKnownOne ms defs name k
 
 -- what is known of all aliases
-abbrev pub AreKnown : List Meaning → List AliasDef → Places Known → Type 0
-AreKnown ms defs known = (name : List ℕ) → IsKnownBy ms defs name (place_in known name)
+abbrev pub AreAliasesKnown : List Meaning → List AliasDef → Places Known → Type 0
+AreAliasesKnown ms defs known = (name : List ℕ) → IsKnownBy ms defs name (place_in known name)
 
 abbrev pub meanings_by : List AliasDef → List Meaning
 meanings_by defs = meanings_after [] (map alias_def defs)
@@ -100,5 +100,5 @@ abbrev pub alias_bit : Option (List ℕ) → ℕ
 alias_bit None = 0
 alias_bit (Some name) = 1
 
-abbrev pub steps_left : List AliasDef → RawTree → ℕ
-steps_left defs t = 2 * label_size (expanded (meanings_by defs) t) + alias_bit (alias_name t)
+abbrev pub expansion_steps : List AliasDef → RawTree → ℕ
+expansion_steps defs t = 2 * label_size (expanded (meanings_by defs) t) + alias_bit (alias_name t)

@@ -65,5 +65,5 @@ starts_named starts = flat_map (λ (q : List ℕ). q) (map (λ (s : Bor (List �
 abbrev pub numbers : List WrittenState → List ℕ
 numbers states = map (λ s. s.number) states
 
-abbrev pub goals : List WrittenState → List ℕ
-goals states = flat_map (λ (e : WrittenEdge). e.to) (flat_map (λ (s : WrittenState). s.edges) states)
+abbrev pub edge_targets : List WrittenState → List ℕ
+edge_targets states = flat_map (λ (e : WrittenEdge). e.to) (flat_map (λ (s : WrittenState). s.edges) states)

@@ -2,17 +2,17 @@
 use Rattle.std.specs.Prelude.{◌≡◌, ◌==◌, ◌++◌, ℕ, List, [], ◌∷◌, Option, Some, None, filter, flat_map, map, slice_get}
 use Rattle.std.specs.List.{AllByRecursion, enumerate_from}
 use Rattle.std.specs.Option.{option_map_or}
-use Rattle.aut_base.specs.Automaton.{TreeEdge}
+use Rattle.aut_base.specs.Automaton.{LabelledEdge}
 use Rattle.aut_base.specs.CanonicalLabel.{canonical_label}
 use Rattle.aut_base.specs.Label.{AllBelow, LabelTree, LabelTrees, trees}
 use Rattle.hoa_reader.specs.Described.{below, expanded, letter_label, marks_in_order, only_state}
-use Rattle.hoa_reader.specs.inner.Growing.{AreKnown, meanings_by}
+use Rattle.hoa_reader.specs.inner.Growing.{AreAliasesKnown, meanings_by}
 use Rattle.hoa_parser.specs.Raw.{RawTree, WrittenEdge, WrittenState, raw_list}
 use Rattle.hoa_parser.specs.declared.raw.RawLabels.{RawLabels}
 use Rattle.hoa_reader.specs.declared.elaborate.edges.Shared.{Shared}
 
 abbrev pub HasKnown : Shared → Type 0
-HasKnown x = AreKnown (meanings_by x.defs.items) x.defs.items x.known
+HasKnown x = AreAliasesKnown (meanings_by x.defs.items) x.defs.items x.known
 
 -- the label with its aliases replaced, and those of the parts of a conjunction or disjunction
 abbrev pub replaced : Shared → RawTree → LabelTree
@@ -33,25 +33,25 @@ abbrev pub label_for : Shared → WrittenState → ℕ → WrittenEdge → Label
 label_for x s i e = option_map_or (expanded (meanings_by x.defs.items)) s.label
     (option_map_or (expanded (meanings_by x.defs.items)) e.label (letter_label x.names i))
 
-abbrev pub tree_edge_for : Shared → WrittenState → ℕ → WrittenEdge → TreeEdge
+abbrev pub tree_edge_for : Shared → WrittenState → ℕ → WrittenEdge → LabelledEdge
 tree_edge_for x s i e = record { from = s.number; label = label_for x s i e; to = only_state e.to; marks = marks_in_order x.sets (s.marks ++ e.marks) }
 
-abbrev pub tree_edges_for : Shared → WrittenState → List TreeEdge
+abbrev pub tree_edges_for : Shared → WrittenState → List LabelledEdge
 tree_edges_for x s = map (λ p. tree_edge_for x s p.0 p.1) (enumerate_from 0 s.edges)
 
 abbrev pub states_at : List WrittenState → ℕ → List WrittenState
 states_at states q = filter (λ s. s.number == q) states
 
-abbrev pub edges_for : Shared → List WrittenState → ℕ → List TreeEdge
+abbrev pub edges_for : Shared → List WrittenState → ℕ → List LabelledEdge
 edges_for x states count = flat_map (λ q. flat_map (tree_edges_for x) (states_at states q)) (below count)
 
 -- the edge with its label in canonical form, over so many propositions
-abbrev pub settled : ℕ → TreeEdge → TreeEdge
+abbrev pub settled : ℕ → LabelledEdge → LabelledEdge
 settled n e = record e { label = canonical_label n e.label }
 
 -- the labels of a state's edges speak of no more propositions than these
 abbrev pub HasLabelsBelow : Shared → ℕ → WrittenState → Type 0
-HasLabelsBelow x n s = AllByRecursion (λ (e : TreeEdge). AllBelow n e.label) (tree_edges_for x s)
+HasLabelsBelow x n s = AllByRecursion (λ (e : LabelledEdge). AllBelow n e.label) (tree_edges_for x s)
 
 -- the state of this number is defined at this place alone
 pub record IsDefinedAt (states : List WrittenState) (q place : ℕ) : Type 0 where

@@ -25,5 +25,5 @@ edge_counted known s e = option_map_or (capped_size (sizes_in known)) s.label (o
 abbrev pub state_counted : Places Known → WrittenState → ℕ
 state_counted known s = sum_by (edge_counted known s) s.edges
 
-abbrev pub counted : Places Known → List WrittenState → ℕ
-counted known states = sum_by (state_counted known) states
+abbrev pub states_counted : Places Known → List WrittenState → ℕ
+states_counted known states = sum_by (state_counted known) states

@@ -3,7 +3,7 @@
 ghost use Rattle.std.specs.Prelude.{◌≡◌, ◌+◌, max, List, map, true, is_some, slice_get, Some, IfOk};
 ghost use Rattle.std.specs.Option.{option_map};
 ghost use Rattle.hoa_reader.specs.Described.{Meaning, expanded};
-ghost use Rattle.hoa_reader.specs.inner.Growing.{AreKnown, IsKnownAs, alias_name, cap, capped_height, capped_heights, capped_size, capped_sizes, heights_in, meaning_names, meanings_by, sizes_in};
+ghost use Rattle.hoa_reader.specs.inner.Growing.{AreAliasesKnown, IsKnownAs, alias_name, cap, capped_height, capped_heights, capped_size, capped_sizes, heights_in, meaning_names, meanings_by, sizes_in};
 ghost use Rattle.hoa_reader.specs.inner.PickedOut.{alias_def, are_defined};
 ghost use Rattle.hoa_reader.specs.inner.Places.{place_in};
 ghost use Rattle.hoa_parser.specs.Raw.{raw_tree, raw_trees};
@@ -126,7 +126,7 @@ fn alias_in(label: &RawLabel) -> Option<&Name>
 /// What is known of an alias that is defined as this, at this place, by what is known of those before it.
 fn known_of<'a>(place: usize, label: &'a RawLabel, known: &Places<'a, Known>) -> Known
     requires { leaves_pass (λ i. true) (λ name. is_some (place_in known.now name)) (raw_tree label.now) ≡ true }
-    ensures { (ms : List Meaning) (defs : List AliasDef) (def : AliasDef) → slice_get defs place ≡ Some def → def.label.now ≡ label.now → AreKnown ms defs known.now
+    ensures { (ms : List Meaning) (defs : List AliasDef) (def : AliasDef) → slice_get defs place ≡ Some def → def.label.now ≡ label.now → AreAliasesKnown ms defs known.now
         → aliases_among (meaning_names ms) (raw_tree label.now) ≡ true → IsKnownAs ms defs (expanded ms (raw_tree label.now)) result }
 {
     if let Some(name) = alias_in(label) {
@@ -149,7 +149,7 @@ pub(crate) fn known_aliases<'a>(
     defs: &[AliasDef<'a>],
 ) -> Result<Places<'a, Known>, Memory>
     requires { are_defined (map alias_def defs.now) ≡ true }
-    ensures { IfOk result (AreKnown (meanings_by defs.now) defs.now) }
+    ensures { IfOk result (AreAliasesKnown (meanings_by defs.now) defs.now) }
 {
     let mut known = Places::new(alloc);
     let mut place = 0;

@@ -1,10 +1,10 @@
 //! The automaton that is built but for what is moved out of the header, and how both are put together.
 
 ghost use Rattle.std.specs.Prelude.{◌≡◌, IfOk, IsTrue};
-ghost use Rattle.aut_core.specs.Core.{AreParts, automaton_of};
+ghost use Rattle.aut_core.specs.SymbolicAutomata.{AreSymbolicParts, automaton_of};
 ghost use Rattle.aut_core.specs.Deterministic.{GoesOneWay};
 ghost use Rattle.hoa_parser.specs.Raw.{written};
-ghost use Rattle.hoa_reader.specs.inner.Built.{IsBodyOf, core_of};
+ghost use Rattle.hoa_reader.specs.inner.Built.{IsBodyOf, symbolic_of_body};
 ghost use Rattle.hoa_reader.specs.inner.Examined.{IsExamined};
 
 use crate::elaborate::examined::Examined;
@@ -66,9 +66,9 @@ pub(crate) fn automaton(
     formula: Formula,
     body: Body,
 ) -> Result<Automaton, Memory>
-    requires parts { AreParts (core_of names formula body) }
-    requires letters { IsTrue body.implicit → GoesOneWay (automaton_of (core_of names formula body)) }
-    ensures { IfOk result (λ core. core ≡ core_of names formula body) }
+    requires parts { AreSymbolicParts (symbolic_of_body names formula body) }
+    requires letters { IsTrue body.implicit → GoesOneWay (automaton_of (symbolic_of_body names formula body)) }
+    ensures { IfOk result (λ core. core ≡ symbolic_of_body names formula body) }
 {
     if body.implicit {
         return Automaton::from_letters(

@@ -4,7 +4,7 @@ ghost use Rattle.std.specs.Prelude.{◌≡◌, IfOk, MatchOption};
 ghost use Rattle.std.specs.List.{list_all};
 ghost use Rattle.hoa_reader.specs.inner.Gathered.{ArePartsOf};
 ghost use Rattle.hoa_parser.specs.Raw.{written};
-ghost use Rattle.hoa_reader.specs.Validity.{IsFirstBroken, IsValid, defines_its_aliases, keeps, marks_below, names_single_states, propositions_have_names, sets_are_below};
+ghost use Rattle.hoa_reader.specs.Validity.{IsFirstBroken, IsValid, defines_its_aliases, keeps_rule, marks_below, names_single_states, propositions_have_names, sets_are_below};
 
 use crate::Rule;
 use crate::elaborate::parts::Parts;
@@ -83,7 +83,7 @@ fn sets_are_below(raw: &Raw, parts: &Parts<'_>) -> bool
 /// Whether the rule is kept.
 fn keeps<'a>(alloc: Global, rule: Rule, raw: &'a Raw, parts: &Parts<'a>) -> Result<bool, Memory>
     requires { ArePartsOf (written raw.now) parts.now }
-    ensures { IfOk result (λ kept. kept ≡ keeps rule (written raw.now)) }
+    ensures { IfOk result (λ kept. kept ≡ keeps_rule rule (written raw.now)) }
 {
     let items = raw.items.as_slice();
     let states = raw.states.as_slice();

@@ -5,7 +5,7 @@ ghost use Rattle.std.specs.Option.{option_map, option_map_or};
 ghost use Rattle.hoa_reader.specs.inner.Growing.{capped_size, sizes_in};
 ghost use Rattle.hoa_reader.specs.inner.PickedOut.{label_refs};
 ghost use Rattle.hoa_parser.specs.Raw.{WrittenState, written_edge, written_state};
-ghost use Rattle.hoa_reader.specs.inner.Weighing.{are_tall, counted, edge_counted, own_counted, state_counted};
+ghost use Rattle.hoa_reader.specs.inner.Weighing.{are_tall, states_counted, edge_counted, own_counted, state_counted};
 
 use crate::elaborate::aliases::{Known, growth_of};
 use crate::elaborate::leaves::has_no_alias;
@@ -80,7 +80,7 @@ fn left_after<'a>(state: &'a RawState, known: &Places<'a, Known>, most: u64) -> 
 // Why so: 'The label of a state weighs once for each edge' in docs/DECISIONS.md.
 /// Whether the edges of these states count more than this.
 pub(crate) fn are_heavy<'a>(states: &'a [RawState], known: &Places<'a, Known>, most: u64) -> bool
-    ensures { result ≡ nat_lt most (counted known.now (map written_state states.now)) }
+    ensures { result ≡ nat_lt most (states_counted known.now (map written_state states.now)) }
 {
     let mut left = most;
     'states: for state in states {

@@ -3,7 +3,7 @@
 ghost use Rattle.std.specs.Prelude.{◌≡◌, ◌<◌, ◌==◌, ◌++◌, ℕ, None, Some, true, get_or, length, map, slice_set, IfOk, OnOk};
 ghost use Rattle.std.specs.List.{list_all};
 ghost use Rattle.std.specs.Option.{option_map};
-ghost use Rattle.aut_base.specs.Automaton.{tree_edge};
+ghost use Rattle.aut_base.specs.Automaton.{labelled_edge};
 ghost use Rattle.aut_base.specs.Label.{label_tree};
 ghost use Rattle.hoa_reader.specs.Described.{marks_in_order};
 ghost use Rattle.hoa_reader.specs.inner.TreeEdges.{HasKnown, IsPlace, tree_edge_for, tree_edges_for, edges_for, label_for, label_written};
@@ -87,7 +87,7 @@ fn edge_of<'a>(
     requires known { HasKnown shared.now }
     requires own { numbers_below shared.now.sets state.now.marks ≡ true }
     requires marks { numbers_below shared.now.sets edge.now.marks ≡ true }
-    ensures { IfOk result (λ new. tree_edge new ≡ tree_edge_for shared.now (written_state state.now) letter (written_edge edge.now)) }
+    ensures { IfOk result (λ new. labelled_edge new ≡ tree_edge_for shared.now (written_state state.now) letter (written_edge edge.now)) }
 {
     Ok(Edge {
         from: state.number,
@@ -106,7 +106,7 @@ fn add_edges<'a>(
 ) -> Result<(), Memory>
     requires known { HasKnown shared.now }
     requires marks { marks_below shared.now.sets (written_state state.now) ≡ true }
-    ensures { OnOk result (map tree_edge edges.new ≡ map tree_edge edges.old ++ tree_edges_for shared.now (written_state state.now)) }
+    ensures { OnOk result (map labelled_edge edges.new ≡ map labelled_edge edges.old ++ tree_edges_for shared.now (written_state state.now)) }
 {
     let mut letter = 0;
     'written: for edge in state.edges.as_slice() {
@@ -155,7 +155,7 @@ pub(crate) fn edges_of<'a>(
     requires known { HasKnown shared.now }
     requires differ { all_differ ◌==◌ (numbers (map written_state states.now)) ≡ true }
     requires marks { list_all (marks_below shared.now.sets) (map written_state states.now) ≡ true }
-    ensures { IfOk result (λ edges. map tree_edge edges ≡ edges_for shared.now (map written_state states.now) count) }
+    ensures { IfOk result (λ edges. map labelled_edge edges ≡ edges_for shared.now (map written_state states.now) count) }
 {
     let places = places_of(alloc, states, count)?;
     let mut edges = Edges::from_vec(Vec::with_capacity(alloc, shared.edges)?);

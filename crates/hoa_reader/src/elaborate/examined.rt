@@ -1,7 +1,7 @@
 //! What was read, once it is known to keep the rules and to be within the limits.
 
 ghost use Rattle.hoa_parser.specs.Raw.{written};
-ghost use Rattle.hoa_reader.specs.inner.Examined.{Examines};
+ghost use Rattle.hoa_reader.specs.inner.Examined.{ExaminesText};
 
 use crate::elaborate::ElabFault;
 use crate::elaborate::aliases::{Known, known_aliases};
@@ -21,7 +21,7 @@ pub(crate) struct Examined<'a> {
 
 /// What was read, where no rule is broken and no limit passed.
 pub(crate) fn examine(alloc: Global, raw: &Raw) -> Result<Examined<'_>, ElabFault>
-    ensures { Examines result (written raw.now) }
+    ensures { ExaminesText result (written raw.now) }
 {
     let parts = parts_of(alloc, raw)?;
     if let Some(rule) = first_broken(alloc, raw, &parts)? {

@@ -6,7 +6,7 @@ ghost use Rattle.aut_base.specs.Formula.{formula_tree};
 ghost use Rattle.hoa_parser.specs.Naming.{name_item};
 ghost use Rattle.hoa_parser.specs.Raw.{written, written_item};
 ghost use Rattle.hoa_reader.specs.Validity.{IsValid, names_item};
-ghost use Rattle.hoa_reader.specs.inner.Headers.{IsHeaderOf, first_of, formula_item};
+ghost use Rattle.hoa_reader.specs.inner.Headers.{IsHeaderOf, first_given, formula_item};
 
 use aut_base::{Formula, Names, Text, Words};
 use hoa_parser::{Item, Raw};
@@ -44,9 +44,9 @@ impl Found {
 
     /// Takes what the item says, where no item before it said the same.
     fn take(&mut self, item: Item)
-        ensures names { self.new.names ≡ first_of self.old.names (names_item (written_item item)) }
-        ensures formula { option_map formula_tree self.new.formula ≡ first_of (option_map formula_tree self.old.formula) (formula_item (written_item item)) }
-        ensures name { self.new.name ≡ first_of self.old.name (name_item (written_item item)) }
+        ensures names { self.new.names ≡ first_given self.old.names (names_item (written_item item)) }
+        ensures formula { option_map formula_tree self.new.formula ≡ first_given (option_map formula_tree self.old.formula) (formula_item (written_item item)) }
+        ensures name { self.new.name ≡ first_given self.old.name (name_item (written_item item)) }
     {
         match item {
             Item::Ap { names, .. } => put_first(&mut self.names, names),
@@ -65,7 +65,7 @@ impl Found {
 
 /// Puts this where nothing is yet.
 fn put_first<T: Drop>(place: &mut Option<T>, found: T)
-    ensures { place.new ≡ first_of place.old (Some found) }
+    ensures { place.new ≡ first_given place.old (Some found) }
 {
     if place.is_none() {
         *place = Some(found);

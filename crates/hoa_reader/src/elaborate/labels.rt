@@ -3,7 +3,7 @@
 ghost use Rattle.std.specs.Prelude.{◌≡◌, ◌≤◌, ◌==◌, ◌/◌, ◌%◌, ◌^◌, ◌∷◌, map, IfOk};
 ghost use Rattle.aut_base.specs.Label.{LabelTree, label_list, label_tree};
 ghost use Rattle.hoa_reader.specs.Described.{below, expanded, letter_label, literal};
-ghost use Rattle.hoa_reader.specs.inner.Growing.{AreKnown, meanings_by};
+ghost use Rattle.hoa_reader.specs.inner.Growing.{AreAliasesKnown, meanings_by};
 ghost use Rattle.hoa_parser.specs.Raw.{raw_tree};
 
 use crate::elaborate::aliases::Known;
@@ -22,7 +22,7 @@ pub(crate) fn expand<'a>(
     defs: &[AliasDef<'a>],
     known: &Places<'a, Known>,
 ) -> Result<Label, Memory>
-    requires { AreKnown (meanings_by defs.now) defs.now known.now }
+    requires { AreAliasesKnown (meanings_by defs.now) defs.now known.now }
     ensures { IfOk result (λ new. label_tree new ≡ expanded (meanings_by defs.now) (raw_tree label.now)) }
 {
     match label {
@@ -57,7 +57,7 @@ fn expand_parts<'a>(
     defs: &[AliasDef<'a>],
     known: &Places<'a, Known>,
 ) -> Result<Labels, Memory>
-    requires { AreKnown (meanings_by defs.now) defs.now known.now }
+    requires { AreAliasesKnown (meanings_by defs.now) defs.now known.now }
     ensures { IfOk result (λ new. label_list new ≡ map (λ p. expanded (meanings_by defs.now) (raw_tree p)) (parts.now.first ∷ parts.now.second ∷ parts.now.others.items)) }
 {
     let first = expand(alloc, &parts.first, defs, known)?;

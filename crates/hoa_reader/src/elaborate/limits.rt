@@ -2,12 +2,12 @@
 
 ghost use Rattle.std.specs.Prelude.{◌≡◌, ◌<◌, ◌-◌, ◌^◌, length, true, nat_lt, MatchOption};
 ghost use Rattle.aut_base.specs.declared.limit.TheConstants.{MOST_EDGES};
-ghost use Rattle.hoa_reader.specs.Counts.{Aliases, PassesNone, count_of, most_of};
+ghost use Rattle.hoa_reader.specs.Counts.{Aliases, PassesNone, value_of_count, most_of};
 ghost use Rattle.hoa_reader.specs.inner.Gathered.{ArePartsOf, PassesSome};
-ghost use Rattle.hoa_reader.specs.inner.Growing.{AreKnown, meanings_by};
+ghost use Rattle.hoa_reader.specs.inner.Growing.{AreAliasesKnown, meanings_by};
 ghost use Rattle.hoa_parser.specs.Raw.{written};
-ghost use Rattle.hoa_reader.specs.Validity.{body_labels, keeps};
-ghost use Rattle.hoa_reader.specs.inner.Weighing.{all_edges, are_tall, counted};
+ghost use Rattle.hoa_reader.specs.Validity.{body_labels, keeps_rule};
+ghost use Rattle.hoa_reader.specs.inner.Weighing.{all_edges, are_tall, states_counted};
 ghost use Rattle.hoa_reader.specs.declared.elaborate.Rule.TheVariants.{V6};
 
 use crate::elaborate::aliases::Known;
@@ -41,7 +41,7 @@ fn is_tall<'a>(raw: &'a Raw, parts: &Parts<'a>, known: &Places<'a, Known>) -> bo
 fn is_heavy<'a>(raw: &'a Raw, parts: &Parts<'a>, known: &Places<'a, Known>, most: u64) -> bool
     requires parts { ArePartsOf (written raw.now) parts.now }
     requires most { most < 2 ^ 64 - 1 }
-    ensures { result ≡ nat_lt most (counted known.now (written raw.now).states) }
+    ensures { result ≡ nat_lt most (states_counted known.now (written raw.now).states) }
 {
     if parts.sums.plain {
         return parts.sums.weight > most;
@@ -52,8 +52,8 @@ fn is_heavy<'a>(raw: &'a Raw, parts: &Parts<'a>, known: &Places<'a, Known>, most
 /// Whether labels grow further than they may.
 fn grow_too_far<'a>(raw: &'a Raw, parts: &Parts<'a>, known: &Places<'a, Known>) -> bool
     requires parts { ArePartsOf (written raw.now) parts.now }
-    requires known { AreKnown (meanings_by parts.now.defs.items) parts.now.defs.items known.now }
-    ensures { result ≡ nat_lt (most_of Aliases) (count_of Aliases (written raw.now)) }
+    requires known { AreAliasesKnown (meanings_by parts.now.defs.items) parts.now.defs.items known.now }
+    ensures { result ≡ nat_lt (most_of Aliases) (value_of_count Aliases (written raw.now)) }
 {
     // Divided by 8,192, what the edges weigh is greater than the limit from this on.
     let most = (u64::from(MOST_ALIASES) + 1) * 8_192 - 1;
@@ -70,8 +70,8 @@ pub(crate) fn first_passed<'a>(
     known: &Places<'a, Known>,
 ) -> Option<Limit>
     requires parts { ArePartsOf (written raw.now) parts.now }
-    requires known { AreKnown (meanings_by parts.now.defs.items) parts.now.defs.items known.now }
-    requires below { keeps V6 (written raw.now) ≡ true }
+    requires known { AreAliasesKnown (meanings_by parts.now.defs.items) parts.now.defs.items known.now }
+    requires below { keeps_rule V6 (written raw.now) ≡ true }
     ensures { MatchOption result (PassesNone (written raw.now)) (λ which. PassesSome which (written raw.now)) }
 {
     if parts.names.len() > MOST_NAMES as usize {

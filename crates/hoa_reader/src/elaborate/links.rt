@@ -4,14 +4,14 @@ ghost use Rattle.std.specs.Prelude.{◌≡◌, ◌<◌, ◌==◌, ◌++◌, All,
 ghost use Rattle.std.specs.List.{AllByRecursion, list_all};
 ghost use Rattle.aut_base.specs.CanonicalLabel.{canonical_label};
 ghost use Rattle.aut_base.specs.Label.{AllBelow};
-ghost use Rattle.aut_core.specs.Core.{edge_of};
+ghost use Rattle.aut_core.specs.SymbolicAutomata.{edge_of};
 ghost use Rattle.aut_core.specs.Links.{StandFor};
 ghost use Rattle.hoa_parser.specs.Raw.{WrittenState, written_edge, written_state};
 ghost use Rattle.hoa_reader.specs.Validity.{all_differ, marks_below, numbers_below};
 ghost use Rattle.hoa_reader.specs.inner.PickedOut.{numbers};
 ghost use Rattle.hoa_reader.specs.inner.Rising.{rises_from};
 ghost use Rattle.hoa_reader.specs.inner.TreeEdges.{HasKnown, HasLabelsBelow, edges_for, label_for, settled, tree_edge_for, tree_edges_for};
-ghost use Rattle.label_guards.specs.Letters.{AreLetters};
+ghost use Rattle.label_guards.specs.Letters.{AreLastPlaces};
 ghost use Rattle.label_guards.specs.Store.{Has, Keeps, label_in};
 
 use crate::elaborate::edges::{Shared, label_written, marks_of, places_of};
@@ -36,9 +36,9 @@ fn guard_of<'a>(
     requires known { HasKnown shared.now }
     requires names { guards.old.names ≡ shared.now.names }
     requires below { AllBelow guards.old.names (label_for shared.now (written_state state.now) letter (written_edge edge.now)) }
-    requires letters { AreLetters guards.old letters.old }
+    requires letters { AreLastPlaces guards.old letters.old }
     ensures keeps { Keeps guards.old guards.new }
-    ensures letters { AreLetters guards.new letters.new }
+    ensures letters { AreLastPlaces guards.new letters.new }
     ensures has { IfOk result (Has guards.new) }
     ensures label { IfOk result (λ new. label_in guards.new new ≡ canonical_label guards.old.names (label_for shared.now (written_state state.now) letter (written_edge edge.now))) }
 {
@@ -63,9 +63,9 @@ fn link_of<'a>(
     requires below { AllBelow guards.old.names (label_for shared.now (written_state state.now) letter (written_edge edge.now)) }
     requires own { numbers_below shared.now.sets state.now.marks ≡ true }
     requires marks { numbers_below shared.now.sets edge.now.marks ≡ true }
-    requires letters { AreLetters guards.old letters.old }
+    requires letters { AreLastPlaces guards.old letters.old }
     ensures keeps { Keeps guards.old guards.new }
-    ensures letters { AreLetters guards.new letters.new }
+    ensures letters { AreLastPlaces guards.new letters.new }
     ensures has { IfOk result (λ new. Has guards.new new.guard) }
     ensures edge { IfOk result (λ new. edge_of guards.new new ≡ settled guards.old.names (tree_edge_for shared.now (written_state state.now) letter (written_edge edge.now))) }
 {
@@ -91,9 +91,9 @@ fn add_links<'a>(
     requires marks { marks_below shared.now.sets (written_state state.now) ≡ true }
     requires below { HasLabelsBelow shared.now guards.old.names (written_state state.now) }
     requires has { All (λ l. Has guards.old l.guard) links.old }
-    requires letters { AreLetters guards.old letters.old }
+    requires letters { AreLastPlaces guards.old letters.old }
     ensures names { guards.new.names ≡ guards.old.names }
-    ensures letters { AreLetters guards.new letters.new }
+    ensures letters { AreLastPlaces guards.new letters.new }
     ensures stand { OnOk result (StandFor guards.new links.new (map (edge_of guards.old) links.old ++ map (settled guards.old.names) (tree_edges_for shared.now (written_state state.now)))) }
 {
     let mut letter = 0;

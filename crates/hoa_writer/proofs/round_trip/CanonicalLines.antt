@@ -2,12 +2,12 @@
 use Rattle.std.proofs.Common.{slice_get, ◌≡◌, ◌==◌, ◌<◌, ◌≤◌, ◌+◌, ℕ, Bool, true, false, cond, ◌&&◌, List, [], ◌∷◌, ◌++◌, length, map, filter, get_or, refl, ap, ◌∙◌, arith, Option, Some, None}
 use Rattle.std.specs.Prelude.{codes, filter_map}
 use Rattle.std.specs.List.{AllByRecursion, cons_option, fold, list_all, range_with_len}
-use Rattle.aut_base.specs.Automaton.{TreeEdge, Automaton}
+use Rattle.aut_base.specs.Automaton.{LabelledEdge, Automaton}
 use Rattle.aut_base.specs.Formula.{FormulaTree}
 use Rattle.hoa_parser.specs.Naming.{name_item, name_of}
 use Rattle.hoa_parser.specs.Raw as raw
 use Rattle.hoa_parser.specs.Raw.{Written, WrittenEdge, WrittenItem, WrittenState}
-use Rattle.hoa_reader.specs.Validity.{acceptance_item, acceptance_of, alias_item, alias_lines, edges_written, names_item, names_of, start_item, starts_written, states_item}
+use Rattle.hoa_reader.specs.Validity.{acceptance_item, acceptance_of, alias_item, alias_lines, edges_written, names_item, written_names, start_item, starts_written, states_item}
 use Rattle.aut_base.proofs.order.Ordered.{range_within}
 use Rattle.hoa_writer.specs.CanonicalWritten.{canonical_edge, canonical_items, canonical_state, canonical_written}
 use Rattle.aut_base.proofs.lists.AllByRecursion.{AllByRecursion-map, AllByRecursion-weaker, AllByRecursion-filter, AllByRecursion-flat_map}
@@ -36,7 +36,7 @@ found f a (Some text) h k =
 pub states_found : (a : Automaton) (name : Option (List ℕ)) → filter_map states_item (canonical_items a name) ≡ a.states ∷ []
 states_found a name = found states_item a name (λ text. refl) (λ s. refl)
 
-pub names_found : (a : Automaton) (name : Option (List ℕ)) → names_of (canonical_written a name) ≡ a.names
+pub names_found : (a : Automaton) (name : Option (List ℕ)) → written_names (canonical_written a name) ≡ a.names
 names_found a name = ap (λ xs. get_or xs 0 []) (found names_item a name (λ text. refl) (λ s. refl))
 
 pub no_aliases : (a : Automaton) (name : Option (List ℕ)) → alias_lines (canonical_written a name) ≡ []
@@ -82,7 +82,7 @@ each_state a name P h =
 
 pub edges_at : (a : Automaton) (q : ℕ) (P : WrittenEdge → Type 0) → AllByRecursion (λ e. P (canonical_edge (length a.names) e)) a.edges → AllByRecursion P (canonical_state a q).edges
 edges_at a q P all =
-    let ours : TreeEdge → Bool = λ e. e.from == q in
+    let ours : LabelledEdge → Bool = λ e. e.from == q in
     AllByRecursion-map P (canonical_edge (length a.names)) (filter ours a.edges) (AllByRecursion-filter (λ e. P (canonical_edge (length a.names) e)) ours a.edges all)
 
 pub each_edge : (a : Automaton) (name : Option (List ℕ)) (P : WrittenEdge → Type 0) → AllByRecursion (λ e. P (canonical_edge (length a.names) e)) a.edges

@@ -7,11 +7,11 @@ use Rattle.std.proofs.lemmas.List.{append_assoc, append-nil, map-append}
 use Rattle.std.proofs.lemmas.List.Concat.{flat_map-append}
 use Rattle.std.proofs.lemmas.List.Elements.{All-filter}
 use Rattle.std.proofs.lemmas.List.FromFn.{length-range_with_len, get_or-range_with_len}
-use Rattle.aut_base.specs.Automaton.{TreeEdge, Automaton, IsEdgeOf, IsWellFormed}
+use Rattle.aut_base.specs.Automaton.{LabelledEdge, Automaton, IsEdgeOf, IsWellFormed}
 use Rattle.hoa_lexer.specs.Laws.{HasTokens}
 use Rattle.hoa_lexer.specs.declared.token.Token.{Token}
 use Rattle.hoa_lexer.specs.declared.token.Token.TheVariants.{HeaderName, Identifier, Str, Int, LeftBracket, RightBracket, LeftBrace, RightBrace, Body, End}
-use Rattle.hoa_parser.specs.Grammar.{AutomatonPhrase, EdgePhrase, ItemPhrase, Spells, StatePhrase, automaton_meaning, automaton_tokens, edge_meaning}
+use Rattle.hoa_parser.specs.Grammar.{AutomatonPhrase, EdgePhrase, ItemPhrase, SpellsAutomaton, StatePhrase, automaton_meaning, automaton_tokens, edge_meaning}
 use Rattle.hoa_parser.specs.Grammar.{edge_tokens, item_meaning, item_tokens, label_tokens, marks_meaning, optional_marks, state_meaning, state_tokens}
 use Rattle.hoa_parser.specs.Grammar.ItemPhrase.{states_item, start_item, names_item, acceptance_item, name_item, properties_item}
 use Rattle.hoa_parser.proofs.grammar.OneRaw.{one_raw}
@@ -33,7 +33,7 @@ abbrev text_marks : List ℕ → Option (List ℕ)
 text_marks [] = None
 text_marks (m ∷ ms) = Some (m ∷ ms)
 
-abbrev text_edge : ℕ → TreeEdge → EdgePhrase
+abbrev text_edge : ℕ → LabelledEdge → EdgePhrase
 text_edge n e = record { label = Some (text_label n e.label); to = record { first = e.to; others = [] }; marks = text_marks e.marks }
 
 abbrev text_state : Automaton → ℕ → StatePhrase
@@ -80,7 +80,7 @@ marks_mean : (ms : List ℕ) → marks_meaning (text_marks ms) ≡ ms
 marks_mean [] = refl
 marks_mean (m ∷ ms) = refl
 
-edge_means : (n : ℕ) (e : TreeEdge) → edge_meaning (text_edge n e) ≡ canonical_edge n e
+edge_means : (n : ℕ) (e : LabelledEdge) → edge_meaning (text_edge n e) ≡ canonical_edge n e
 edge_means n e =
     let label = text_label_means n e.label in
     let marks = marks_mean e.marks in
@@ -135,7 +135,7 @@ marks_stop (m ∷ ms) rest s = (refl, refl)
 
 -- edges
 
-edge_spelled : (a : Automaton) (e : TreeEdge) → a.states < 2 ^ 32 → a.sets < 2 ^ 32 → length a.names < 2 ^ 32 → IsEdgeOf a e
+edge_spelled : (a : Automaton) (e : LabelledEdge) → a.states < 2 ^ 32 → a.sets < 2 ^ 32 → length a.names < 2 ^ 32 → IsEdgeOf a e
     → Free (edge_tokens (text_edge (length a.names) e)) (edge_line (length a.names) e)
 edge_spelled a e few sets names h =
     let n = length a.names in
@@ -242,8 +242,8 @@ pub record ReadsAs (text : List ℕ) (w : Written) : Type 0 where
   pub tokens : List Token
   pub lexes : HasTokens text 0 tokens
   pub most : ℕ
-  pub spells : Spells most tokens w
-  pub alone : (n : ℕ) (v : Written) → Spells n tokens v → v ≡ w
+  pub spells : SpellsAutomaton most tokens w
+  pub alone : (n : ℕ) (v : Written) → SpellsAutomaton n tokens v → v ≡ w
 
 pub canonical_reads : (a : Automaton) (name : Option (List ℕ)) → a.states < 2 ^ 32 → a.sets < 2 ^ 32 → length a.names < 2 ^ 32 → IsWellFormed a
     → ReadsAs (canonical_text a name) (canonical_written a name)
@@ -252,7 +252,7 @@ canonical_reads a name few sets names w =
     let tokens = automaton_tokens phrase in
     let most = automaton_opens phrase in
     let written = canonical_written a name in
-    let spells : Spells most tokens written = record { phrase = phrase; within = automaton_within phrase; spelled = refl; means = sym (automaton_means a name) } in
+    let spells : SpellsAutomaton most tokens written = record { phrase = phrase; within = automaton_within phrase; spelled = refl; means = sym (automaton_means a name) } in
     record {
       tokens = tokens;
       lexes = free_is_read tokens (canonical_text a name) (automaton_spelled a name few sets names w);

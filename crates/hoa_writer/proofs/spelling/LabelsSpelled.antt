@@ -4,7 +4,7 @@ use Rattle.std.specs.Prelude.{codes}
 use Rattle.std.proofs.lemmas.List.{append_assoc, append-nil}
 use Rattle.aut_base.specs.Label.{LabelTree, trees}
 use Rattle.hoa_lexer.specs.declared.token.Token.{Token}
-use Rattle.hoa_parser.specs.Grammar.{Label, Lands, Lnot, Lnots, conjunction, disjunction, label_meaning, label_tokens, lands_meaning, lands_tokens}
+use Rattle.hoa_parser.specs.Grammar.{Label, Lands, Lnot, Lnots, raw_conjunction, disjunction, label_meaning, label_tokens, lands_meaning, lands_tokens}
 use Rattle.hoa_parser.specs.Grammar.{lnot_meaning, lnot_tokens, lnots_meaning, lnots_tokens}
 use Rattle.hoa_parser.specs.Grammar.Label.{label}
 use Rattle.hoa_parser.specs.Grammar.Lands.{no_land, or_land}
@@ -56,7 +56,7 @@ literals_mean (l ∷ ls) =
     let others = literals_mean ls in
     cc
 
-cube_means : (l : Literal) (ls : List Literal) → conjunction (lnot_meaning (literal_lnot l)) (lnots_meaning (literal_lnots ls)) ≡ written_label (cube_tree (l ∷ ls))
+cube_means : (l : Literal) (ls : List Literal) → raw_conjunction (lnot_meaning (literal_lnot l)) (lnots_meaning (literal_lnots ls)) ≡ written_label (cube_tree (l ∷ ls))
 cube_means l [] = literal_means l
 cube_means l (m ∷ ms) =
     let first = literal_means l in

@@ -8,7 +8,7 @@ use Rattle.hoa_lexer.specs.Blanks.{IsBlanks}
 use Rattle.hoa_lexer.specs.Blanks.IsBlanks.{nothing, space}
 use Rattle.hoa_lexer.specs.Bytes.{is_space, is_letter, is_digit, is_word}
 use Rattle.hoa_lexer.specs.Laws.{HasTokens}
-use Rattle.hoa_lexer.specs.Spelling.{Spells, Ends, StopsAt, IsIdentifier}
+use Rattle.hoa_lexer.specs.Spelling.{Spells, IsDelimited, StopsAt, IsIdentifier}
 use Rattle.hoa_lexer.specs.declared.token.Token.{Token}
 use Rattle.hoa_lexer.specs.declared.token.Token.TheVariants.{HeaderName, Identifier, Int}
 
@@ -16,7 +16,7 @@ use Rattle.hoa_lexer.specs.declared.token.Token.TheVariants.{HeaderName, Identif
 abbrev pub Spelled : List Token → List ℕ → List ℕ → Type 0
 Spelled [] input rest = (gap : List ℕ) × IsBlanks gap × (input ≡ gap ++ rest)
 Spelled (t ∷ ts) input rest =
-    (before : List ℕ) × (word : List ℕ) × (next : List ℕ) × IsBlanks before × Spells t word × Ends t next × (input ≡ before ++ (word ++ next)) × Spelled ts next rest
+    (before : List ℕ) × (word : List ℕ) × (next : List ℕ) × IsBlanks before × Spells t word × IsDelimited t next × (input ≡ before ++ (word ++ next)) × Spelled ts next rest
 
 -- the next byte goes on with no token
 abbrev pub Stops : List ℕ → Type 0
@@ -71,7 +71,7 @@ free_blank b h = record { before = λ rest. (b ∷ [], space h nothing, refl) }
 
 -- one token
 
-one : (t : Token) (word rest : List ℕ) → Spells t word → Ends t rest → Spelled (t ∷ []) (word ++ rest) rest
+one : (t : Token) (word rest : List ℕ) → Spells t word → IsDelimited t rest → Spelled (t ∷ []) (word ++ rest) rest
 one t word rest s e = ([], word, rest, nothing, s, e, refl, ([], nothing, refl))
 
 digit_word : (b : ℕ) → is_word b ≡ false → is_digit b ≡ false
@@ -81,7 +81,7 @@ digit_stops : (rest : List ℕ) → StopsAt is_word rest → StopsAt is_digit re
 digit_stops [] h = absurd h
 digit_stops (b ∷ rest) h = digit_word b h
 
-pub free_one : (t : Token) (word : List ℕ) → Spells t word → ((rest : List ℕ) → Ends t rest) → Free (t ∷ []) word
+pub free_one : (t : Token) (word : List ℕ) → Spells t word → ((rest : List ℕ) → IsDelimited t rest) → Free (t ∷ []) word
 free_one t word s e = record { before = λ rest. one t word rest s (e rest) }
 
 pub free_header : (name : List ℕ) → IsIdentifier name → Free (HeaderName name ∷ []) (name ++ 58 ∷ [])

@@ -8,9 +8,9 @@ use Rattle.aut_base.proofs.order.Ordered.{Pairs}
 use Rattle.aut_base.specs.Valuation.{IsLeast, holds_in, truth_on}
 use Rattle.label_guards.specs.declared.guard.Guard.{Guard}
 use Rattle.label_guards.specs.ClassParts.{IsAlikeness, IsFirst, Test}
-use Rattle.label_guards.specs.Classes.{AreClasses, IsBefore, IsMet, agree}
+use Rattle.label_guards.specs.Classes.{AreClasses, IsBefore, IsSatisfiable, agree}
 use Rattle.label_guards.specs.Guards.{truth_in}
-use Rattle.label_guards.specs.Nodes.{Grows, IsReduced}
+use Rattle.label_guards.specs.Nodes.{Grows, IsReducedDiagram}
 use Rattle.label_guards.specs.Store.{Store, Has, label_in}
 use Rattle.label_guards.proofs.alike.ClassParts.{joined, turned}
 use Rattle.label_guards.proofs.alike.Firsts.{IsEarlier}
@@ -51,7 +51,7 @@ module _ (alike : Test) (is : IsAlikeness alike) where
   one_place (x ∷ vs) pairs (suc i) (suc j) v w at_i at_j e = ap suc (one_place vs pairs.1 i j v w at_i at_j e)
 
   -- what the guards found say, by their valuations
-  module _ (s : Store) (reduced : IsReduced s.names s.nodes) where
+  module _ (s : Store) (reduced : IsReducedDiagram s.names s.nodes) where
     truth_found : (v : List Bool) (c : Guard) → AreFound s alike (v ∷ []) (c ∷ []) → (on : ℕ → Bool) → truth_in s c on ≡ alike (holds_in v) on
     truth_found v c found on = truth_is s reduced c found.0.has on ∙ found.0.truth on
 
@@ -74,7 +74,7 @@ module _ (alike : Test) (is : IsAlikeness alike) where
       least = λ w size h. first.least w size (sym (truth_found v c found (holds_in w)) ∙ h);
     }
 
-    found_met : (vs : List (List Bool)) (cs : List Guard) → AllByRecursion (IsFirst s.names alike) vs → AreFound s alike vs cs → AllByRecursion (IsMet s) cs
+    found_met : (vs : List (List Bool)) (cs : List Guard) → AllByRecursion (IsFirst s.names alike) vs → AreFound s alike vs cs → AllByRecursion (IsSatisfiable s) cs
     found_met [] [] first found = tt
     found_met [] (c ∷ cs) first found = absurd found
     found_met (v ∷ vs) [] first found = absurd found
@@ -104,7 +104,7 @@ module _ (alike : Test) (is : IsAlikeness alike) where
     found_ordered (v ∷ vs) [] pairs firsts found = absurd found
     found_ordered (v ∷ vs) (c ∷ cs) pairs firsts found = (before_all v c vs cs firsts.0 (found.0, tt) pairs.0 firsts.1 found.1, found_ordered vs cs pairs.1 firsts.1 found.1)
 
-pub are_classes : (old s : Store) → IsReduced old.names old.nodes → IsReduced s.names s.nodes → Grows old s → (list classes : List Guard) (most : ℕ) → All (Has old) list
+pub are_classes : (old s : Store) → IsReducedDiagram old.names old.nodes → IsReducedDiagram s.names s.nodes → Grows old s → (list classes : List Guard) (most : ℕ) → All (Has old) list
     → AreAllFound s (agree old list) classes → length classes ≤ most → AreClasses s list most classes
 are_classes old s was reduced grows list classes most has all few =
     let alike : Test = agree old list in
@@ -114,7 +114,7 @@ are_classes old s was reduced grows list classes most has all few =
     record {
       has = All-from_recursion (Has s) classes (found_has alike is s reduced vs classes all.found);
       few = few;
-      met = All-from_recursion (IsMet s) classes (found_met alike is s reduced vs classes all.first all.found);
+      met = All-from_recursion (IsSatisfiable s) classes (found_met alike is s reduced vs classes all.first all.found);
       every = λ on. let some = some_met (λ v. alike (holds_in v) on) vs (all.every on) in (some.0, ap (λ bs. slice_get bs some.0) (said on) ∙ some.1);
       alike = λ on also i j meets_i meets_j.
           let v = met_at (λ v. alike (holds_in v) on) vs i (ap (λ bs. slice_get bs i) (sym (said on)) ∙ meets_i) in

@@ -14,7 +14,7 @@ use Rattle.aut_base.proofs.order.Ordered.{Pairs, pairs_from, pairs_weaker}
 use Rattle.aut_base.specs.Label.{LabelTree, truth}
 use Rattle.aut_base.specs.Valuation.{IsLeast, holds_in, number_of, truth_on}
 use Rattle.label_guards.specs.declared.guard.Guard.{Guard}
-use Rattle.label_guards.specs.Classes.{AreAlike, AreClasses, IsBefore, IsMet, MeetsAt, ClassesExcludeMore, OneClassUnderNone, ClassesAreDetermined}
+use Rattle.label_guards.specs.Classes.{AreAlike, AreClasses, IsBefore, IsSatisfiable, MeetsAt, ClassesExcludeMore, OneClassUnderNone, ClassesAreDetermined}
 use Rattle.label_guards.specs.Guards.{truth_in}
 use Rattle.label_guards.specs.Store.{Store, Has, Keeps, label_at, label_in, outcome}
 use Rattle.label_guards.proofs.alike.ClassGuards.{met_at}
@@ -156,7 +156,7 @@ module _ (s : Store) (list : List Guard) where
       → AllByRecursion (λ t. IsIn t (map (label_in s) others)) (map (label_in s) classes)
   labels_in most more classes others are also =
       AllByRecursion-map (λ t. IsIn t (map (label_in s) others)) (label_in s) classes (each_at (λ c. IsIn (label_in s c) (map (label_in s) others)) classes (λ i c at.
-      let met : IsMet s c = subst (IsMet s) (get_or_from_slice_get classes i c c at) (are.met i c (slice_get_within classes i c at)) in
+      let met : IsSatisfiable s c = subst (IsSatisfiable s) (get_or_from_slice_get classes i c c at) (are.met i c (slice_get_within classes i c at)) in
       let v : ℕ → Bool = holds_in met.valuation in
       let there = also.every v in
       let found = met_at (λ g. truth_in s g v) others there.0 there.1 in

@@ -19,8 +19,8 @@ use Rattle.aut_base.proofs.canonical.ValuationLists.{each_size, same_test, test_
 use Rattle.aut_base.specs.Label.{LabelTree, truth}
 use Rattle.aut_base.specs.Valuation.{IsLeast, holds_in, number_of, truth_on, valuations}
 use Rattle.label_guards.specs.declared.guard.Guard.{Guard}
-use Rattle.label_guards.specs.ClassLeasts.{AreClassesOf, ClassesByLeasts, MoreClassesByLeasts, are_alike, class_leasts, is_least_alike, labels_in}
-use Rattle.label_guards.specs.Classes.{AreAlike, AreClasses, HasMoreClasses, IsBefore, IsMet, MeetsAt}
+use Rattle.label_guards.specs.ClassLeasts.{AreClassesAtLeasts, ClassesByLeasts, MoreClassesByLeasts, are_alike, class_leasts, is_least_alike, labels_in}
+use Rattle.label_guards.specs.Classes.{AreAlike, AreClasses, HasMoreLetterClasses, IsBefore, IsSatisfiable, MeetsAt}
 use Rattle.label_guards.specs.Guards.{truth_in}
 use Rattle.label_guards.specs.Store.{Store, label_in}
 use Rattle.label_guards.proofs.alike.ClassGuards.{met_at}
@@ -32,11 +32,11 @@ Less v w = number_of v < number_of w
 
 pairs_kept : {X : Type 0} (R : X → X → Type 0) (p : X → Bool) (xs : List X) → Pairs R xs → Pairs R (filter p xs)
 pairs_kept R p [] h = tt
-pairs_kept {X = X} R p (x ∷ xs) h = by (p x) (pairs_kept R p xs h.1)
+pairs_kept {X = X} R p (x ∷ xs) h = by_cases (p x) (pairs_kept R p xs h.1)
   where
-    by : (b : Bool) → Pairs R (filter p xs) → Pairs R (cond b (x ∷ filter p xs) (filter p xs))
-    by true rest = (AllByRecursion-filter (R x) p xs h.0, rest)
-    by false rest = rest
+    by_cases : (b : Bool) → Pairs R (filter p xs) → Pairs R (cond b (x ∷ filter p xs) (filter p xs))
+    by_cases true rest = (AllByRecursion-filter (R x) p xs h.0, rest)
+    by_cases false rest = rest
 
 each_passed : {X : Type 0} (P : X → Type 0) (xs : List X) (x : X) → AllByRecursion P xs → Contains xs x → P x
 each_passed P xs x all there = read_has P xs there.0 x (All-from_recursion P xs all) there.1 (sym there.2)
@@ -65,7 +65,7 @@ LeastAmong g vs = (w : List Bool) × Contains vs w × (g w ≡ true) × ((u : Li
 
 least_among : (g : List Bool → Bool) (vs : List (List Bool)) → Pairs Less vs → (v : List Bool) → Contains vs v → g v ≡ true → LeastAmong g vs
 least_among g [] rise v there e = absurd (none_there v there)
-least_among g (x ∷ xs) rise v there e = by (g x) refl (λ later. least_among g xs rise.1 v later e)
+least_among g (x ∷ xs) rise v there e = by_cases (g x) refl (λ later. least_among g xs rise.1 v later e)
   where
     fails : (u : List Bool) → x ≡ u → g x ≡ false → g u ≡ true → ⊥
     fails u same is f = true≢false (sym f ∙ (ap g (sym same) ∙ is))
@@ -78,9 +78,9 @@ least_among g (x ∷ xs) rise v there e = by (g x) refl (λ later. least_among g
     second r is u f (inl same) = absurd (fails u same is f)
     second r is u f (inr later) = r.3 u later f
 
-    by : (b : Bool) → g x ≡ b → (Contains xs v → LeastAmong g xs) → LeastAmong g (x ∷ xs)
-    by true is rest = (x, first_there x xs, is, λ u at f. first u (there_cases x xs u at))
-    by false is rest = elim (there_cases x xs v there) [
+    by_cases : (b : Bool) → g x ≡ b → (Contains xs v → LeastAmong g xs) → LeastAmong g (x ∷ xs)
+    by_cases true is rest = (x, first_there x xs, is, λ u at f. first u (there_cases x xs u at))
+    by_cases false is rest = elim (there_cases x xs v there) [
       | inl same ↦ absurd (fails v same is e)
       | inr later ↦ (let r = rest later in (r.0, later_there x xs r.0 r.1, r.2, λ u at f. second r is u f (there_cases x xs u at)))
     ]
@@ -173,16 +173,16 @@ module _ (n : ℕ) (labels : List LabelTree) where
       both a b p q = ap (λ c. c && b) p ∙ q
 
   pub leasts_to : (v : List Bool) → IsLeastAlike v → Contains (class_leasts n labels) v
-  leasts_to v is = there_filter (is_least_alike n labels) (valuations n) v (valuation_there n v is.size) (by (list_any (lesser_alike v) (valuations n)) refl)
+  leasts_to v is = there_filter (is_least_alike n labels) (valuations n) v (valuation_there n v is.size) (by_cases (list_any (lesser_alike v) (valuations n)) refl)
     where
-      by : (b : Bool) → list_any (lesser_alike v) (valuations n) ≡ b → not b ≡ true
-      by true e =
+      by_cases : (b : Bool) → list_any (lesser_alike v) (valuations n) ≡ b → not b ≡ true
+      by_cases true e =
           let found = any_found (lesser_alike v) (valuations n) e in
           let parts = and_parts (nat_lt (number_of found.0) (number_of v)) (are_alike labels (holds_in found.0) (holds_in v)) found.2 in
           let less = ltb-true (number_of found.0) (number_of v) parts.0 in
           let more = is.least found.0 (each_size n found.0 found.1) parts.1 in
           absurd (omega (arith, less, more))
-      by false e = refl
+      by_cases false e = refl
 
   pub leasts_rise : Pairs Less (class_leasts n labels)
   leasts_rise = pairs_kept Less (is_least_alike n labels) (valuations n) (valuations_rise n)
@@ -239,7 +239,7 @@ module _ (s : Store) (list : List Guard) where
   abbrev IsLeastOf : Guard → List Bool → Type 0
   IsLeastOf g w = IsLeast s.names (truth_on (label_in s g)) w
 
-  guard_leasts : (gs : List Guard) → AllByRecursion (IsMet s) gs → (ws : List (List Bool)) × AllZip IsLeastOf gs ws
+  guard_leasts : (gs : List Guard) → AllByRecursion (IsSatisfiable s) gs → (ws : List (List Bool)) × AllZip IsLeastOf gs ws
   guard_leasts [] all = ([], tt)
   guard_leasts (g ∷ gs) all =
       let here = least_there s.names (truth_on (label_in s g)) all.0.valuation all.0.size all.0.truth in
@@ -287,7 +287,7 @@ module _ (s : Store) (list : List Guard) where
     class_alike on also k g at e f = to_labels on also ((are.alike on also k k (meets_at on k g at e) (meets_at also k g at f)).0 refl)
 
     abbrev found : (ws : List (List Bool)) × AllZip IsLeastOf classes ws
-    found = guard_leasts classes (recursion_from_All (IsMet s) classes are.met)
+    found = guard_leasts classes (recursion_from_All (IsSatisfiable s) classes are.met)
 
     is_class_least : (w : List Bool) → Contains found.0 w → Contains (class_leasts s.names labels) w
     is_class_least w there =
@@ -320,7 +320,7 @@ module _ (s : Store) (list : List Guard) where
         let w = zip_left IsLeastOf classes found.0 k g found.1 at in
         subst (IsLeastOf g) (same_Some w.0 v (sym w.1 ∙ (ap (λ (xs : List (List Bool)). slice_get xs k) leasts_are ∙ there))) w.2
 
-    pub by_leasts : AreClassesOf s list classes
+    pub by_leasts : AreClassesAtLeasts s list classes
     by_leasts = record {
       count = zip_length IsLeastOf classes found.0 found.1 ∙ ap length leasts_are;
       least = least_at;
@@ -341,7 +341,7 @@ module _ (s : Store) (list : List Guard) where
       let rest = places_of vs all.1 in
       (at.0 ∷ rest.0, ((w.0, at.1, w.2), rest.1))
 
-  pub more_by_leasts : (most : ℕ) → HasMoreClasses s list most → most < length (class_leasts s.names labels)
+  pub more_by_leasts : (most : ℕ) → HasMoreLetterClasses s list most → most < length (class_leasts s.names labels)
   more_by_leasts most more = omega (arith, many)
     where
       vs : List (List Bool)

@@ -18,10 +18,10 @@ use Rattle.aut_base.specs.Valuation.{holds_in, number_of, valuation_of}
 use Rattle.label_guards.specs.declared.classes.Part.{Part}
 use Rattle.label_guards.specs.declared.guard.Guard.{Guard}
 use Rattle.label_guards.specs.declared.guards.Operation.TheVariants.{And, Xor}
-use Rattle.label_guards.specs.ClassParts.{AreHalves, AreParts, HasSide, IsAlikeness, IsFirst, IsHalved, IsOneSided, IsPart, IsSplit, IsWhole, Test, also_by, side_of}
+use Rattle.label_guards.specs.ClassParts.{AreHalves, AreClassParts, HasSide, IsAlikeness, IsFirst, IsHalved, IsOneSided, IsClassPart, IsPartSplit, IsUnsplit, Test, also_by, side_of}
 use Rattle.label_guards.specs.Classes.{agree}
 use Rattle.label_guards.specs.Leasts.{IsLeastAt, IsLeastNumber, IsLeastOf, IsMetAt, bits_of}
-use Rattle.label_guards.specs.Nodes.{Grows, IsReduced}
+use Rattle.label_guards.specs.Nodes.{Grows, IsReducedDiagram}
 use Rattle.label_guards.specs.Operations.{IsJoin, IsPlaceOf, differs}
 use Rattle.label_guards.specs.Store.{Store, Has, HasPlace, outcome}
 use Rattle.label_guards.proofs.diagrams.Growth.{grows_none, grows_on, has_kept, level_kept, outcome_kept}
@@ -142,19 +142,19 @@ module _ (alike : Test) (is : IsAlikeness alike) where
   alike_left v w h on = both_ways (alike v on) (alike w on) (λ k. joined v w on h k) (λ k. sym (is.same w on k v) ∙ h)
 
 -- the least valuation of a class is also that of the smaller class that it is in
-narrowed : {s t : Store} → Grows s t → (alike also : Test) → ((on w : ℕ → Bool) → also on w ≡ true → alike on w ≡ true) → (part : Part) → IsPart s alike part → (q : ℕ)
-    → IsPlaceOf t (also (holds_in (bits_of s.names part.number))) q → IsPart t also (record { number = part.number; place = q })
+narrowed : {s t : Store} → Grows s t → (alike also : Test) → ((on w : ℕ → Bool) → also on w ≡ true → alike on w ≡ true) → (part : Part) → IsClassPart s alike part → (q : ℕ)
+    → IsPlaceOf t (also (holds_in (bits_of s.names part.number))) q → IsClassPart t also (record { number = part.number; place = q })
 narrowed {s} {t} grows alike also weaker part is q piece = record {
   number = ap (λ (n : ℕ). number_of (bits_of n part.number)) grows.names ∙ is.number;
   first = subst (λ (n : ℕ). IsFirst n also (bits_of n part.number)) (sym grows.names) (record { size = is.first.size; least = λ w size h. is.first.least w size (weaker _ _ h) });
   is = subst (λ (n : ℕ). IsPlaceOf t (also (holds_in (bits_of n part.number))) q) (sym grows.names) piece;
 }
 
-part_kept : {s t : Store} → Grows s t → (alike : Test) (part : Part) → IsPart s alike part → IsPart t alike part
+part_kept : {s t : Store} → Grows s t → (alike : Test) (part : Part) → IsClassPart s alike part → IsClassPart t alike part
 part_kept grows alike part is = narrowed grows alike alike (λ on w h. h) part is part.place (place_kept grows _ part.place is.is)
 
 -- what becomes of a part under one guard more
-module _ {old s : Store} (first : Grows old s) (alike : Test) (by : ℕ) (has_by : HasPlace old by) (part : Part) (is : IsPart s alike part) where
+module _ {old s : Store} (first : Grows old s) (alike : Test) (by : ℕ) (has_by : HasPlace old by) (part : Part) (is : IsClassPart s alike part) where
   abbrev also : Test
   also = also_by old alike by
 
@@ -167,7 +167,7 @@ module _ {old s : Store} (first : Grows old s) (alike : Test) (by : ℕ) (has_by
   weaker : (on w : ℕ → Bool) → also on w ≡ true → alike on w ≡ true
   weaker on w h = (and_parts _ _ h).0
 
-  whole_part : IsAlikeness alike → IsOneSided s part.place by → IsPart s also part
+  whole_part : IsAlikeness alike → IsOneSided s part.place by → IsClassPart s also part
   whole_part likeness one = narrowed (grows_none s) alike also weaker part is part.place (place_same s _ _ part.place same is.is)
     where
       here : (on : ℕ → Bool) → alike v on ≡ true → outcome s.nodes on by ≡ one.side
@@ -179,11 +179,11 @@ module _ {old s : Store} (first : Grows old s) (alike : Test) (by : ℕ) (has_by
 
   module _ {t : Store} (second : Grows s t) where
     kept_part : (kept : ℕ) → IsPlaceOf t (λ on. outcome s.nodes on part.place && beq (side_of s part by) (outcome s.nodes on by)) kept
-        → IsPart t also (record { number = part.number; place = kept })
+        → IsClassPart t also (record { number = part.number; place = kept })
     kept_part kept half = narrowed second alike also weaker part is kept (place_same t _ (also v) kept (λ on i. is.is.truth on i && beq (by_was v i) (by_was on i)) half)
 
     rest_part : IsAlikeness alike → (rest : Part) → IsPlaceOf t (λ on. outcome s.nodes on part.place && beq (not (side_of s part by)) (outcome s.nodes on by)) rest.place
-        → IsLeastNumber t rest.place rest.number → IsPart t also rest
+        → IsLeastNumber t rest.place rest.number → IsClassPart t also rest
     rest_part likeness rest half least =
         let met = least.met in
         let w : ℕ → Bool = holds_in met.valuation in
@@ -240,11 +240,11 @@ count_halved {s} {t} grows before after index by has split on =
 -- The parts before the index and those that were added are split, and the others aren't yet.
 pub record IsMidway (old s : Store) (alike : Test) (by count index : ℕ) (parts : List Part) : Type 0 where
   pub within : count ≤ length parts
-  pub left : (k : ℕ) (d : Part) → index ≤ k → k < count → IsPart s alike (get_or parts k d)
-  pub split : (k : ℕ) (d : Part) → k < length parts → (k < index) ⊎ (count ≤ k) → IsPart s (also_by old alike by) (get_or parts k d)
+  pub left : (k : ℕ) (d : Part) → index ≤ k → k < count → IsClassPart s alike (get_or parts k d)
+  pub split : (k : ℕ) (d : Part) → k < length parts → (k < index) ⊎ (count ≤ k) → IsClassPart s (also_by old alike by) (get_or parts k d)
   pub one : (on : ℕ → Bool) → count_true s on parts ≡ 1
 
-pub split_end : (old s : Store) (alike : Test) (by count index : ℕ) (parts : List Part) → count ≤ index → IsMidway old s alike by count index parts → AreParts s (also_by old alike by) parts
+pub split_end : (old s : Store) (alike : Test) (by count index : ℕ) (parts : List Part) → count ≤ index → IsMidway old s alike by count index parts → AreClassParts s (also_by old alike by) parts
 split_end old s alike by count index parts end way = record {
   each = λ k d within. elim (dec_lt k index) [
     | yes h ↦ way.split k d within (inl h)
@@ -258,17 +258,17 @@ module _ {old s t : Store} (first : Grows old s) (second : Grows s t) (alike : T
   abbrev finer : Test
   finer = also_by old alike by
 
-  the_part : (part : Part) → slice_get before index ≡ Some part → IsPart s alike part
-  the_part part was = subst (IsPart s alike) (get_or_from_slice_get before index part part was) (way.left index part (omega arith) here)
+  the_part : (part : Part) → slice_get before index ≡ Some part → IsClassPart s alike part
+  the_part part was = subst (IsClassPart s alike) (get_or_from_slice_get before index part part was) (way.left index part (omega arith) here)
 
-  split_before : (k : ℕ) (d : Part) → k < length before → (k ≡ index → ⊥) → (k < index + 1) ⊎ (count ≤ k) → IsPart t finer (get_or before k d)
+  split_before : (k : ℕ) (d : Part) → k < length before → (k ≡ index → ⊥) → (k < index + 1) ⊎ (count ≤ k) → IsClassPart t finer (get_or before k d)
   split_before k d within other where_it_is = part_kept second finer _ (way.split k d within (earlier where_it_is))
     where
       earlier : (k < index + 1) ⊎ (count ≤ k) → (k < index) ⊎ (count ≤ k)
       earlier (inl h) = inl (omega arith)
       earlier (inr h) = inr h
 
-  step_whole : IsWhole s before after index by → IsMidway old t alike by count (index + 1) after
+  step_whole : IsUnsplit s before after index by → IsMidway old t alike by count (index + 1) after
   step_whole whole = subst (IsMidway old t alike by count (index + 1)) (sym whole.unchanged) (record {
     within = way.within;
     left = λ k d from to. part_kept second alike _ (way.left k d (omega (arith, from)) to);
@@ -276,9 +276,9 @@ module _ {old s t : Store} (first : Grows old s) (second : Grows s t) (alike : T
     one = λ on. count_kept second on before (recursion_from_All _ before has) ∙ way.one on;
   })
     where
-      split : (k : ℕ) (d : Part) → k < length before → (k < index + 1) ⊎ (count ≤ k) → IsPart t finer (get_or before k d)
+      split : (k : ℕ) (d : Part) → k < length before → (k < index + 1) ⊎ (count ≤ k) → IsClassPart t finer (get_or before k d)
       split k d within where_it_is = elim (ℕ_discrete k index) [
-        | yes e ↦ part_kept second finer _ (subst (IsPart s finer) (sym (ap (λ i. get_or before i d) e ∙ get_or_from_slice_get before index whole.part d whole.was))
+        | yes e ↦ part_kept second finer _ (subst (IsClassPart s finer) (sym (ap (λ i. get_or before i d) e ∙ get_or_from_slice_get before index whole.part d whole.was))
             (whole_part first alike by has_by whole.part (the_part whole.part whole.was) is whole.one_sided))
         | no e ↦ split_before k d within e where_it_is
       ]
@@ -289,7 +289,7 @@ module _ {old s t : Store} (first : Grows old s) (second : Grows s t) (alike : T
     left = λ k d from to.
         let other : k ≢ index = omega arith in
         let within : k < length before = let a = way.within in omega arith in
-        subst (IsPart t alike) (sym (get_or-set_other more index k kept d other ∙ get_or_append_left before (half.rest ∷ []) d k within))
+        subst (IsClassPart t alike) (sym (get_or-set_other more index k kept d other ∙ get_or_append_left before (half.rest ∷ []) d k within))
         (part_kept second alike _ (way.left k d (omega (arith, from)) to));
     split = split;
     one = λ on. sym (ap (count_true t on) half.made) ∙ (count_halved second before after index by has half on ∙ way.one on);
@@ -304,44 +304,44 @@ module _ {old s t : Store} (first : Grows old s) (second : Grows s t) (alike : T
       long : length (set more index kept) ≡ length before + 1
       long = length-set more index kept ∙ length-append before (half.rest ∷ [])
 
-      part : IsPart s alike half.part
+      part : IsClassPart s alike half.part
       part = the_part half.part half.was
 
-      past : (k : ℕ) (d : Part) → k < length (set more index kept) → (k ≡ index → ⊥) → (k < index + 1) ⊎ (count ≤ k) → IsPart t finer (get_or more k d)
+      past : (k : ℕ) (d : Part) → k < length (set more index kept) → (k ≡ index → ⊥) → (k < index + 1) ⊎ (count ≤ k) → IsClassPart t finer (get_or more k d)
       past k d within other where_it_is = elim (dec_lt k (length before)) [
-        | yes h ↦ subst (IsPart t finer) (sym (get_or_append_left before (half.rest ∷ []) d k h)) (split_before k d h other where_it_is)
-        | no h ↦ let last : length before ≡ k = omega (arith, within, long) in subst (IsPart t finer) (sym (get_or_push before half.rest d k last))
+        | yes h ↦ subst (IsClassPart t finer) (sym (get_or_append_left before (half.rest ∷ []) d k h)) (split_before k d h other where_it_is)
+        | no h ↦ let last : length before ≡ k = omega (arith, within, long) in subst (IsClassPart t finer) (sym (get_or_push before half.rest d k last))
             (rest_part first alike by has_by half.part part second is half.rest half.halves.is_rest half.least)
       ]
 
-      split : (k : ℕ) (d : Part) → k < length (set more index kept) → (k < index + 1) ⊎ (count ≤ k) → IsPart t finer (get_or (set more index kept) k d)
+      split : (k : ℕ) (d : Part) → k < length (set more index kept) → (k < index + 1) ⊎ (count ≤ k) → IsClassPart t finer (get_or (set more index kept) k d)
       split k d within where_it_is = elim (ℕ_discrete k index) [
         | yes e ↦ let a = way.within in let b = length-append before (half.rest ∷ []) in let within_more : index < length more = omega arith in
-            subst (IsPart t finer) (sym (ap (λ i. get_or (set more index kept) i d) e ∙ get_or-set_same more index kept d within_more))
+            subst (IsClassPart t finer) (sym (ap (λ i. get_or (set more index kept) i d) e ∙ get_or-set_same more index kept d within_more))
             (kept_part first alike by has_by half.part part second half.kept half.halves.is_kept)
-        | no other ↦ subst (IsPart t finer) (sym (get_or-set_other more index k kept d other)) (past k d within other where_it_is)
+        | no other ↦ subst (IsClassPart t finer) (sym (get_or-set_other more index k kept d other)) (past k d within other where_it_is)
       ]
 
-  pub split_step : IsSplit s t before after index by → IsMidway old t alike by count (index + 1) after
+  pub split_step : IsPartSplit s t before after index by → IsMidway old t alike by count (index + 1) after
   split_step (inl whole) = step_whole whole
   split_step (inr half) = step_halved half
 
 -- the parts have their places still
-pub split_has : {s t : Store} → Grows s t → (before after : List Part) (index by : ℕ) → All (λ (part : Part). HasPlace s part.place) before → IsSplit s t before after index by
+pub split_has : {s t : Store} → Grows s t → (before after : List Part) (index by : ℕ) → All (λ (part : Part). HasPlace s part.place) before → IsPartSplit s t before after index by
     → All (λ (part : Part). HasPlace t part.place) after
 split_has {s} {t} grows before after index by has split = this split
   where
     still : All (λ (part : Part). HasPlace t part.place) before
     still k d within = has_kept grows _ (has k d within)
 
-    this : IsSplit s t before after index by → All (λ (part : Part). HasPlace t part.place) after
+    this : IsPartSplit s t before after index by → All (λ (part : Part). HasPlace t part.place) after
     this (inl whole) = subst (All (λ (part : Part). HasPlace t part.place)) (sym whole.unchanged) still
     this (inr half) = subst (All (λ (part : Part). HasPlace t part.place)) (sym half.made)
         (All-set (λ (part : Part). HasPlace t part.place) (before ++ half.rest ∷ []) index (record { number = half.part.number; place = half.kept }) half.halves.is_kept.has
         (All-push (λ (part : Part). HasPlace t part.place) before half.rest still half.halves.is_rest.has))
 
 -- no part is lost
-pub split_longer : (s t : Store) (before after : List Part) (index by : ℕ) → IsSplit s t before after index by → length before ≤ length after
+pub split_longer : (s t : Store) (before after : List Part) (index by : ℕ) → IsPartSplit s t before after index by → length before ≤ length after
 split_longer s t before after index by (inl whole) = let same = ap length whole.unchanged in omega arith
 split_longer s t before after index by (inr half) =
     let a = ap length half.made in
@@ -350,7 +350,7 @@ split_longer s t before after index by (inr half) =
     omega arith
 
 -- What is never true is of no part, so the guard has the truth that it has at the least valuation.
-pub no_rest : {s t : Store} → Grows s t → IsReduced t.names t.nodes → (part : Part) (by kept rest : ℕ) → HasPlace s part.place → HasPlace s by → AreHalves s t part by kept rest
+pub no_rest : {s t : Store} → Grows s t → IsReducedDiagram t.names t.nodes → (part : Part) (by kept rest : ℕ) → HasPlace s part.place → HasPlace s by → AreHalves s t part by kept rest
     → IsLeastAt t rest None → IsOneSided s part.place by
 no_rest {s} {t} grows reduced part by kept rest has_place has_by halves none = record {
   side = side_of s part by;
@@ -369,9 +369,9 @@ pub guard_there : (s : Store) (list : List Guard) (i : ℕ) (g : Guard) → All 
 guard_there s list i g has at = subst (Has s) (get_or_from_slice_get list i g g at) (has i g (slice_get_within list i g at))
 
 -- The one part that is true everywhere is of what is alike under no guard.
-pub whole_parts : (s : Store) (parts : List Part) → parts ≡ record { number = 0; place = 1 } ∷ [] → AreParts s (agree s []) parts
-whole_parts s parts e = subst (AreParts s (agree s [])) (sym e) (record {
-  each = All-from_recursion (IsPart s (agree s [])) (record { number = 0; place = 1 } ∷ []) (one, tt);
+pub whole_parts : (s : Store) (parts : List Part) → parts ≡ record { number = 0; place = 1 } ∷ [] → AreClassParts s (agree s []) parts
+whole_parts s parts e = subst (AreClassParts s (agree s [])) (sym e) (record {
+  each = All-from_recursion (IsClassPart s (agree s [])) (record { number = 0; place = 1 } ∷ []) (one, tt);
   one = λ on. ap (λ (b : Bool). 0 + cond {A = ℕ} b 1 0) (outcome-true s.nodes on);
 })
   where
@@ -381,7 +381,7 @@ whole_parts s parts e = subst (AreParts s (agree s [])) (sym e) (record {
     zeros : bits_of s.names 0 ≡ met.valuation
     zeros = ap (bits_of s.names) (sym met.is_number) ∙ bits_of-number met.valuation s.names met.size
 
-    one : IsPart s (agree s []) (record { number = 0; place = 1 })
+    one : IsClassPart s (agree s []) (record { number = 0; place = 1 })
     one = record {
       number = ap number_of zeros ∙ met.is_number;
       first = record { size = length-bits_of s.names 0; least = λ w size h. subst (λ (m : ℕ). m ≤ number_of w) (sym (ap number_of zeros ∙ met.is_number)) (omega arith) };
@@ -390,7 +390,7 @@ whole_parts s parts e = subst (AreParts s (agree s [])) (sym e) (record {
 
 -- What is alike by one guard more is alike under one guard more.
 pub parts_more : {old s : Store} → Grows old s → (list : List Guard) (i : ℕ) (g : Guard) → Has old g → slice_get list i ≡ Some g → (t : Store) (parts : List Part)
-    → AreParts t (also_by s (agree old (take i list)) g.place) parts → AreParts t (agree old (take (i + 1) list)) parts
+    → AreClassParts t (also_by s (agree old (take i list)) g.place) parts → AreClassParts t (agree old (take (i + 1) list)) parts
 parts_more {old} {s} grows list i g has at t parts are =
     let same : (ℕ → Bool) → (ℕ → Bool) → Guard → Bool = λ on also h. beq (outcome old.nodes on h.place) (outcome old.nodes also h.place) in
     let all : (on also : ℕ → Bool) → list_all (same on also) (take (i + 1) list) ≡ (list_all (same on also) (take i list) && same on also g) =
@@ -399,4 +399,4 @@ parts_more {old} {s} grows list i g has at t parts are =
     let step : (on also : ℕ → Bool) → also_by s (agree old (take i list)) g.place on also ≡ agree old (take (i + 1) list) on also =
     λ on also. (λ j. agree old (take i list) on also && beq (outcome_kept grows on g.place has j) (outcome_kept grows also g.place has j)) ∙ sym (all on also) in
     let path : also_by s (agree old (take i list)) g.place ≡ agree old (take (i + 1) list) = λ j on also. step on also j in
-    subst (λ (alike : Test). AreParts t alike parts) path are
+    subst (λ (alike : Test). AreClassParts t alike parts) path are

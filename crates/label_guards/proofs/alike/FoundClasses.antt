@@ -12,9 +12,9 @@ use Rattle.aut_base.proofs.order.Ordered.{Pairs, pairs_weaker}
 use Rattle.aut_base.specs.Label.{truth}
 use Rattle.aut_base.specs.Valuation.{holds_in}
 use Rattle.label_guards.specs.declared.guard.Guard.{Guard}
-use Rattle.label_guards.specs.Classes.{AreAlike, HasMoreClasses, agree}
+use Rattle.label_guards.specs.Classes.{AreAlike, HasMoreLetterClasses, agree}
 use Rattle.label_guards.specs.Guards.{truth_in}
-use Rattle.label_guards.specs.Nodes.{IsReduced}
+use Rattle.label_guards.specs.Nodes.{IsReducedDiagram}
 use Rattle.label_guards.specs.Operations.{IsPlaceOf}
 use Rattle.label_guards.specs.Store.{Store, Has, Keeps, outcome}
 use Rattle.label_guards.specs.ClassParts.{IsAlikeness, IsFirst, Test}
@@ -56,7 +56,7 @@ pub agree_is : (s : Store) (list : List Guard) → IsAlikeness (agree s list)
 agree_is s list = record { self = agree-self s list; same = agree-same s list }
 
 -- what is alike by labels is so by places
-module _ (old : Store) (reduced : IsReduced old.names old.nodes) (t : Store) (kept : Keeps old t) (on also : ℕ → Bool) where
+module _ (old : Store) (reduced : IsReducedDiagram old.names old.nodes) (t : Store) (kept : Keeps old t) (on also : ℕ → Bool) where
   truth_was : (on : ℕ → Bool) (g : Guard) → Has old g → truth_in t g on ≡ outcome old.nodes on g.place
   truth_was on g has = ap (truth on) (kept.labels g has) ∙ truth_is old reduced g has on
 
@@ -93,8 +93,9 @@ module _ {X : Type 0} where
   pairs_taken R (suc k) (x ∷ xs) pairs = (all_taken (R x) k xs pairs.0, pairs_taken R k xs pairs.1)
 
 -- more classes under the first guards of the list are more under all of it
-pub more_classes : (old s : Store) → IsReduced old.names old.nodes → s.names ≡ old.names → (list : List Guard) (valuations : List (List Bool)) (count most : ℕ) → All (Has old) list
-    → AllByRecursion (IsFirst s.names (agree old (take count list))) valuations → Pairs (AreApart (agree old (take count list))) valuations → most < length valuations → HasMoreClasses old list most
+pub more_classes : (old s : Store) → IsReducedDiagram old.names old.nodes → s.names ≡ old.names → (list : List Guard) (valuations : List (List Bool)) (count most : ℕ) → All (Has old) list
+    → AllByRecursion (IsFirst s.names (agree old (take count list))) valuations → Pairs (AreApart (agree old (take count list))) valuations → most < length valuations
+    → HasMoreLetterClasses old list most
 more_classes old s reduced names list valuations count most has firsts apart more =
     let alike : Test = agree old (take count list) in
     let vs : List (List Bool) = take (most + 1) valuations in

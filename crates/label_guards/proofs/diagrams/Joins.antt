@@ -6,7 +6,7 @@ use Rattle.std.specs.Map.{lookup}
 use Rattle.std.proofs.lemmas.Option.{same_Some}
 use Rattle.label_guards.specs.contracts.guards.Operation.{the_type}
 use Rattle.label_guards.specs.declared.guards.Operation.{Operation}
-use Rattle.label_guards.specs.Nodes.{level, IsReduced, Grows, IsChoice, AreSides}
+use Rattle.label_guards.specs.Nodes.{level, IsReducedDiagram, Grows, IsChoice, AreSides}
 use Rattle.label_guards.specs.Operations.{joins, IsShort, IsJoin, key_eq, AreJoins}
 use Rattle.label_guards.specs.Store.{Store, HasPlace, outcome}
 use Rattle.label_guards.proofs.diagrams.Growth.{has_kept, level_kept, outcome_kept, grows_on}
@@ -36,11 +36,11 @@ operation_same a b h = same_true the_type (search rules) a b h
 pub joins_insert : (s : Store) (entries now : List ((Operation × ℕ × ℕ) × ℕ)) (key : Operation × ℕ × ℕ) (place : ℕ)
     → ((q : Operation × ℕ × ℕ) → lookup (key_eq q) now ≡ cond (key_eq key q) (Some place) (lookup (key_eq q) entries))
     → AreJoins s entries → IsJoin s key.0 key.1 key.2 place → AreJoins s now
-joins_insert s entries now key place updates are is = λ q p h. by q p (key_eq key q) refl (sym (updates q) ∙ h)
+joins_insert s entries now key place updates are is = λ q p h. by_cases q p (key_eq key q) refl (sym (updates q) ∙ h)
   where
-    by : (q : Operation × ℕ × ℕ) (p : ℕ) (b : Bool) → key_eq key q ≡ b → cond (key_eq key q) (Some place) (lookup (key_eq q) entries) ≡ Some p → IsJoin s q.0 q.1 q.2 p
-    by q p false e h = are q p (sym (ap (λ c. cond c (Some place) (lookup (key_eq q) entries)) e) ∙ h)
-    by q p true e h =
+    by_cases : (q : Operation × ℕ × ℕ) (p : ℕ) (b : Bool) → key_eq key q ≡ b → cond (key_eq key q) (Some place) (lookup (key_eq q) entries) ≡ Some p → IsJoin s q.0 q.1 q.2 p
+    by_cases q p false e h = are q p (sym (ap (λ c. cond c (Some place) (lookup (key_eq q) entries)) e) ∙ h)
+    by_cases q p true e h =
         let same : place ≡ p = same_Some place p (sym (ap (λ c. cond c (Some place) (lookup (key_eq q) entries)) e) ∙ h) in
         let two = and_parts (sameb the_type key.0 q.0 && nat_eq key.1 q.1) (nat_eq key.2 q.2) e in
         let one = and_parts (sameb the_type key.0 q.0) (nat_eq key.1 q.1) two.0 in
@@ -54,7 +54,7 @@ joins_insert s entries now key place updates are is = λ q p h. by q p (key_eq k
         nat_same a b h = grind arith
 
 -- a result that needs no look
-pub join_short : (s : Store) → IsReduced s.names s.nodes → (operation : Operation) (g h place : ℕ) → HasPlace s g → HasPlace s h → IsShort operation g h place → IsJoin s operation g h place
+pub join_short : (s : Store) → IsReducedDiagram s.names s.nodes → (operation : Operation) (g h place : ℕ) → HasPlace s g → HasPlace s h → IsShort operation g h place → IsJoin s operation g h place
 join_short s is operation g h place left right short = record {
   left = left;
   right = right;
@@ -104,7 +104,7 @@ join_step {s} {t} {u} {v} first second third operation g h prop g_low g_high h_l
       right = has_kept all h right;
       has = choice.has;
       later = omega arith;
-      truth = λ on. choice.truth on ∙ by on (on prop) refl;
+      truth = λ on. choice.truth on ∙ by_cases on (on prop) refl;
     }
   where
     one : Grows s u
@@ -113,8 +113,8 @@ join_step {s} {t} {u} {v} first second third operation g h prop g_low g_high h_l
     all : Grows s v
     all = grows_on one third
 
-    by : (on : ℕ → Bool) (b : Bool) → on prop ≡ b → (if on prop then outcome v.nodes on high else outcome v.nodes on low) ≡ joins operation (outcome v.nodes on g) (outcome v.nodes on h)
-    by on true e =
+    by_cases : (on : ℕ → Bool) (b : Bool) → on prop ≡ b → (if on prop then outcome v.nodes on high else outcome v.nodes on low) ≡ joins operation (outcome v.nodes on g) (outcome v.nodes on h)
+    by_cases on true e =
         let a = g_sides.high_bound in
         let b = h_sides.high_bound in
         let g_is : outcome u.nodes on g_high ≡ outcome v.nodes on g = outcome_kept one on g_high (omega arith)
@@ -122,7 +122,7 @@ join_step {s} {t} {u} {v} first second third operation g h prop g_low g_high h_l
         let h_is : outcome u.nodes on h_high ≡ outcome v.nodes on h = outcome_kept one on h_high (omega arith)
         ∙ sym (outcome_kept all on h right ∙ (h_sides.truth on ∙ ap (λ c. if c then outcome s.nodes on h_high else outcome s.nodes on h_low) e)) in
         ap (λ c. if c then outcome v.nodes on high else outcome v.nodes on low) e ∙ (outcome_kept third on high high_is.has ∙ (high_is.truth on ∙ (λ i. joins operation (g_is i) (h_is i))))
-    by on false e =
+    by_cases on false e =
         let a = g_sides.low_bound in
         let b = h_sides.low_bound in
         let later = grows_on second third in

@@ -3,7 +3,7 @@ use Rattle.std.proofs.Common.{◌≡◌, ◌≢◌, ℕ, zero, suc, ◌+◌, ◌
 use Rattle.std.proofs.lemmas.Option.{none-some, same_Some, slice_get_within}
 use Rattle.std.proofs.lemmas.List.{get_or_append_left, length-map, map-append}
 use Rattle.label_guards.specs.declared.nodes.Node.{Node}
-use Rattle.label_guards.specs.Nodes.{level_among, level, IsNode, IsReduced, Adds, StandsAt, IsChoice}
+use Rattle.label_guards.specs.Nodes.{level_among, level, IsNode, IsReducedDiagram, AddsNode, IsNodeAt, IsChoice}
 use Rattle.label_guards.specs.Store.{Store, HasPlace}
 use Rattle.aut_base.proofs.lists.Lists.{slice_get-push_cases}
 use Rattle.aut_base.proofs.lists.Members.{placed_there}
@@ -38,7 +38,7 @@ node_kept names ns more i n h is = record {
   high_later = rw (level_grows names ns more n.high (let a = is.high in omega arith)) is.high_later;
 }
 
-pub reduced_push : (names : ℕ) (ns : List Node) (m : Node) → IsReduced names ns → (Contains ns m → ⊥) → IsNode names ns (2 + length ns) m → IsReduced names (ns ++ m ∷ [])
+pub reduced_push : (names : ℕ) (ns : List Node) (m : Node) → IsReducedDiagram names ns → (Contains ns m → ⊥) → IsNode names ns (2 + length ns) m → IsReducedDiagram names (ns ++ m ∷ [])
 reduced_push names ns m is new node = record {
   few = is.few;
   node = λ i n h. elim (slice_get-push_cases ns m i n h) [
@@ -67,11 +67,11 @@ reduced_push names ns m is new node = record {
       high_later = rw (level_grows names ns (m ∷ []) m.high node.high) node.high_later;
     }
 
-pub reduced_adds : (names : ℕ) (ns ns' : List Node) (m : Node) → IsReduced names ns → Adds ns ns' m → IsNode names ns (2 + length ns) m → IsReduced names ns'
-reduced_adds names ns ns' m is (inl e) node = subst (IsReduced names) (sym e) is
-reduced_adds names ns ns' m is (inr e) node = subst (IsReduced names) (sym e.0) (reduced_push names ns m is e.1 node)
+pub reduced_adds : (names : ℕ) (ns ns' : List Node) (m : Node) → IsReducedDiagram names ns → AddsNode ns ns' m → IsNode names ns (2 + length ns) m → IsReducedDiagram names ns'
+reduced_adds names ns ns' m is (inl e) node = subst (IsReducedDiagram names) (sym e) is
+reduced_adds names ns ns' m is (inr e) node = subst (IsReducedDiagram names) (sym e.0) (reduced_push names ns m is e.1 node)
 
-pub stands : (s : Store) → IsReduced s.names s.nodes → (i : ℕ) (n : Node) → slice_get s.nodes i ≡ Some n → StandsAt s (2 + i) n
+pub stands : (s : Store) → IsReducedDiagram s.names s.nodes → (i : ℕ) (n : Node) → slice_get s.nodes i ≡ Some n → IsNodeAt s (2 + i) n
 stands s is i n h =
     let node = is.node i n h in
     record {
@@ -81,23 +81,23 @@ stands s is i n h =
     }
 
 -- the node of a place behind `f` and `t`
-pub stands_at : (s : Store) → IsReduced s.names s.nodes → (place : ℕ) (n : Node) → 2 ≤ place → slice_get s.nodes (place - 2) ≡ Some n → StandsAt s place n
+pub stands_at : (s : Store) → IsReducedDiagram s.names s.nodes → (place : ℕ) (n : Node) → 2 ≤ place → slice_get s.nodes (place - 2) ≡ Some n → IsNodeAt s place n
 stands_at s is place n inner h =
     let e : 2 + (place - 2) ≡ place = omega arith in
-    subst (λ k. StandsAt s k n) e (stands s is (place - 2) n h)
+    subst (λ k. IsNodeAt s k n) e (stands s is (place - 2) n h)
 
 get_some : {A : Type 0} (xs : List A) (i : ℕ) → i < length xs → (x : A) × (slice_get xs i ≡ Some x)
 get_some [] i h = absurd (omega arith)
 get_some (x ∷ xs) zero h = (x, refl)
 get_some (x ∷ xs) (suc i) h = get_some xs i (omega arith)
 
-pub node_of : (s : Store) → IsReduced s.names s.nodes → (place : ℕ) → 2 ≤ place → HasPlace s place → (n : Node) × StandsAt s place n × (slice_get s.nodes (place - 2) ≡ Some n)
+pub node_of : (s : Store) → IsReducedDiagram s.names s.nodes → (place : ℕ) → 2 ≤ place → HasPlace s place → (n : Node) × IsNodeAt s place n × (slice_get s.nodes (place - 2) ≡ Some n)
 node_of s is place inner has =
     let got = get_some s.nodes (place - 2) (omega arith) in
     (got.0, stands_at s is place got.0 inner got.1, got.1)
 
 -- no place asks for a proposition behind the last
-pub level_most : (s : Store) → IsReduced s.names s.nodes → (p : ℕ) → HasPlace s p → level s p ≤ s.names
+pub level_most : (s : Store) → IsReducedDiagram s.names s.nodes → (p : ℕ) → HasPlace s p → level s p ≤ s.names
 level_most s is zero h = omega arith
 level_most s is (suc zero) h = omega arith
 level_most s is (suc (suc i)) h =
@@ -106,7 +106,7 @@ level_most s is (suc (suc i)) h =
     let b = got.1.node.within in
     omega arith
 
-new_node : (s : Store) → IsReduced s.names s.nodes → (prop low high : ℕ) → HasPlace s low → HasPlace s high → prop < level s low → prop < level s high → low ≢ high
+new_node : (s : Store) → IsReducedDiagram s.names s.nodes → (prop low high : ℕ) → HasPlace s low → HasPlace s high → prop < level s low → prop < level s high → low ≢ high
     → IsNode s.names s.nodes (2 + length s.nodes) (record { prop = prop; low = low; high = high })
 new_node s is prop low high has_low has_high low_later high_later differ =
     let most = level_most s is low has_low in
@@ -120,8 +120,8 @@ new_node s is prop low high has_low has_high low_later high_later differ =
     }
 
 -- a store with a node more
-pub make_reduced : (s old : Store) → s ≡ old → IsReduced s.names s.nodes → (prop low high : ℕ) → HasPlace old low → HasPlace old high → prop < level old low → prop < level old high
-    → low ≢ high → (new : List Node) → Adds s.nodes new (record { prop = prop; low = low; high = high }) → IsReduced s.names new
+pub make_reduced : (s old : Store) → s ≡ old → IsReducedDiagram s.names s.nodes → (prop low high : ℕ) → HasPlace old low → HasPlace old high → prop < level old low → prop < level old high
+    → low ≢ high → (new : List Node) → AddsNode s.nodes new (record { prop = prop; low = low; high = high }) → IsReducedDiagram s.names new
 make_reduced s old e is prop low high has_low has_high low_later high_later differ new adds =
     let node : Node = record { prop = prop; low = low; high = high } in
     let fits : (t : Store) → s ≡ t → HasPlace t low → HasPlace t high → prop < level t low → prop < level t high → IsNode s.names s.nodes (2 + length s.nodes) node =
@@ -129,12 +129,13 @@ make_reduced s old e is prop low high has_low has_high low_later high_later diff
     (subst (λ (u : Store). prop < level u low) (sym same) c) (subst (λ (u : Store). prop < level u high) (sym same) d) differ in
     reduced_adds s.names s.nodes new node is adds (fits old e has_low has_high low_later high_later)
 
-pub made : (s : Store) → IsReduced s.names s.nodes → (prop low high index place : ℕ) → place ≡ index + 2 → slice_get s.nodes index ≡ Some (record { prop = prop; low = low; high = high })
+pub pushed_is_reduced : (s : Store) → IsReducedDiagram s.names s.nodes → (prop low high index place : ℕ) → place ≡ index + 2
+    → slice_get s.nodes index ≡ Some (record { prop = prop; low = low; high = high })
     → IsChoice s prop low high place
-made s is prop low high index place e h =
+pushed_is_reduced s is prop low high index place e h =
     let within = slice_get_within s.nodes index _ h in
     let there : 2 + index ≡ place = omega arith in
-    let is_at = subst (λ k. StandsAt s k (record { prop = prop; low = low; high = high })) there (stands s is index _ h) in
+    let is_at = subst (λ k. IsNodeAt s k (record { prop = prop; low = low; high = high })) there (stands s is index _ h) in
     let l = is_at.level in
     record {
       has = omega arith;

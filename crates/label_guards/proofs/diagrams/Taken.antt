@@ -4,7 +4,7 @@ use Rattle.std.proofs.lemmas.List.{take-append-drop, take-append-le, take_all}
 use Rattle.std.proofs.lemmas.Option.{slice_get_within}
 use Rattle.aut_base.proofs.lists.Lists.{slice_get-append_left}
 use Rattle.label_guards.specs.declared.nodes.Node.{Node}
-use Rattle.label_guards.specs.Nodes.{Grows, IsNode, IsReduced}
+use Rattle.label_guards.specs.Nodes.{Grows, IsNode, IsReducedDiagram}
 use Rattle.label_guards.specs.Store.{Store}
 use Rattle.label_guards.proofs.diagrams.Reduced.{level_grows}
 
@@ -22,7 +22,7 @@ node_before names ns more i n h is = record {
   high_later = subst (λ m. n.prop < m) (level_grows names ns more n.high (let a = is.high in omega arith)) is.high_later;
 }
 
-front_reduced : (names : ℕ) (ns more : List Node) → IsReduced names (ns ++ more) → IsReduced names ns
+front_reduced : (names : ℕ) (ns more : List Node) → IsReducedDiagram names (ns ++ more) → IsReducedDiagram names ns
 front_reduced names ns more is = record {
   few = is.few;
   node = λ i n h. node_before names ns more i n (slice_get_within ns i n h) (is.node i n (there i n h));
@@ -32,8 +32,8 @@ front_reduced names ns more is = record {
     there : (i : ℕ) (n : Node) → slice_get ns i ≡ Some n → slice_get (ns ++ more) i ≡ Some n
     there i n h = slice_get-append_left ns more i (slice_get_within ns i n h) ∙ h
 
-pub taken_reduced : (names : ℕ) (ns : List Node) (count : ℕ) → IsReduced names ns → IsReduced names (take count ns)
-taken_reduced names ns count is = front_reduced names (take count ns) (drop count ns) (subst (IsReduced names) (sym (take-append-drop count ns)) is)
+pub taken_reduced : (names : ℕ) (ns : List Node) (count : ℕ) → IsReducedDiagram names ns → IsReducedDiagram names (take count ns)
+taken_reduced names ns count is = front_reduced names (take count ns) (drop count ns) (subst (IsReducedDiagram names) (sym (take-append-drop count ns)) is)
 
 -- Nodes that are added behind them change nothing of the first ones.
 pub front_kept : {old new : Store} (count : ℕ) → count ≤ length old.nodes → Grows old new → front_of count new ≡ front_of count old

@@ -10,8 +10,8 @@ use Rattle.std.specs.Bool.{beq}
 use Rattle.aut_base.proofs.lists.Lists.{slice_get-append_left, slice_get-at, slice_get-push_cases}
 use Rattle.aut_base.specs.Label.{LabelTree, truth}
 use Rattle.label_guards.specs.Guards.{truth_in, with_prop}
-use Rattle.label_guards.specs.Letters.{AreLetters, IsLast, LastLetter}
-use Rattle.label_guards.specs.Nodes.{Grows, IsReduced, level}
+use Rattle.label_guards.specs.Letters.{AreLastPlaces, IsLastPlace, LastLetter}
+use Rattle.label_guards.specs.Nodes.{Grows, IsReducedDiagram, level}
 use Rattle.label_guards.specs.Numbers.{is_at, is_set, last_at}
 use Rattle.label_guards.specs.Store.{Has, HasPlace, Keeps, Store, outcome}
 use Rattle.label_guards.specs.Tables.{IsFreeAt, PlaceGoesBelow}
@@ -62,7 +62,7 @@ last_same a b n h (suc count) on within same =
     λ i. beq (on (n - suc count)) (bit_same a b h (n - suc count) (omega (arith, within)) same i) && last_same a b n h count on (omega (arith, within)) same i
 
 -- A place of the last propositions asks for none of those before them.
-last_goes_below : (s : Store) → IsReduced s.names s.nodes → (number count place : ℕ) → IsLast s number count place → PlaceGoesBelow (count + 1) (λ k. s.names - k) s place
+last_goes_below : (s : Store) → IsReducedDiagram s.names s.nodes → (number count place : ℕ) → IsLastPlace s number count place → PlaceGoesBelow (count + 1) (λ k. s.names - k) s place
 last_goes_below s is number count place last prop within = elim (cases_lt prop (s.names - count)) [
   | inl before ↦ inr (λ on. sym (truth_is s is (at place) last.has (with_prop on prop true)) ∙ (same on before ∙ truth_is s is (at place) last.has (with_prop on prop false)))
   | inr from ↦ inl (omega (arith, from, within))
@@ -73,7 +73,7 @@ last_goes_below s is number count place last prop within = elim (cases_lt prop (
         last.truth (with_prop on prop true) ∙ (last_free number s.names count on prop true before
         ∙ (sym (last_free number s.names count on prop false before) ∙ sym (last.truth (with_prop on prop false))))
 
-pub last_later : (s : Store) → IsReduced s.names s.nodes → (number count place : ℕ) → IsLast s number count place → s.names ≤ count + level s place
+pub last_later : (s : Store) → IsReducedDiagram s.names s.nodes → (number count place : ℕ) → IsLastPlace s number count place → s.names ≤ count + level s place
 last_later s is number count zero last = omega arith
 last_later s is number count (suc zero) last = omega arith
 last_later s is number count (suc (suc i)) last =
@@ -83,28 +83,28 @@ last_later s is number count (suc (suc i)) last =
     let below = node_goes_below (count + 1) (λ k. s.names - k) s (suc (suc i)) got.0 is last.has got.1 (last_goes_below s is number count (suc (suc i)) last) in
     omega (arith, asks, within, below)
 
-last_kept : {s t : Store} → Keeps s t → (number count place : ℕ) → IsLast s number count place → IsLast t number count place
+last_kept : {s t : Store} → Keeps s t → (number count place : ℕ) → IsLastPlace s number count place → IsLastPlace t number count place
 last_kept {s} {t} keeps number count place last = record {
   has = keeps.has (at place) last.has;
   truth = λ on. ap (λ (label : LabelTree). truth on label) (keeps.labels (at place) last.has) ∙ (last.truth on ∙ ap (λ n. last_at number n count on) (sym keeps.names));
 }
 
 -- What is kept of a letter is right in a store that keeps what it has.
-pub letters_kept : {s t : Store} → Keeps s t → (l : LastLetter) → AreLetters s l → AreLetters t l
+pub letters_kept : {s t : Store} → Keeps s t → (l : LastLetter) → AreLastPlaces s l → AreLastPlaces t l
 letters_kept keeps l are = record {
   few = subst (λ n. length l.places ≤ n) (sym keeps.names) are.few;
   last = λ k place is. last_kept keeps l.number (k + 1) place (are.last k place is);
 }
 
-pub no_letters : (s : Store) (l : LastLetter) → l.places ≡ [] → AreLetters s l
+pub no_letters : (s : Store) (l : LastLetter) → l.places ≡ [] → AreLastPlaces s l
 no_letters s l none = record {
   few = subst (λ (ps : List ℕ). length ps ≤ s.names) (sym none) (omega arith);
   last = λ k place is. absurd (none-some place (subst (λ (ps : List ℕ). slice_get ps k ≡ Some place) none is));
 }
 
 -- Another number, with the same bits from one on.
-pub letters_turned : (s : Store) (a b h : ℕ) (places : List ℕ) → h ≤ s.names → (h < s.names → a / 2 ^ h ≡ b / 2 ^ h) → AreLetters s (record { number = a; places = places })
-    → AreLetters s (record { number = b; places = take (s.names - h) places })
+pub letters_turned : (s : Store) (a b h : ℕ) (places : List ℕ) → h ≤ s.names → (h < s.names → a / 2 ^ h ≡ b / 2 ^ h) → AreLastPlaces s (record { number = a; places = places })
+    → AreLastPlaces s (record { number = b; places = take (s.names - h) places })
 letters_turned s a b h places within same are = record {
   few = let size = length-take (s.names - h) places in omega (arith, size);
   last = λ k place is.
@@ -124,20 +124,20 @@ letters_turned s a b h places within same are = record {
         ∙ (slice_get-append_left (take (s.names - h) places) (drop (s.names - h) places) k short ∙ is)
 
 -- before any proposition is asked for
-pub last_none : (s : Store) → IsReduced s.names s.nodes → (number : ℕ) → IsLast s number 0 1
+pub last_none : (s : Store) → IsReducedDiagram s.names s.nodes → (number : ℕ) → IsLastPlace s number 0 1
 last_none s is number = let always = always_is s is in record { has = always.has; truth = always.truth }
 
 -- the last place
-pub last_there : (s : Store) (l : LastLetter) (count place : ℕ) → AreLetters s l → count ≡ length l.places → 0 < count → place ≡ get_or l.places (count - 1) place
-    → IsLast s l.number (length l.places) place
+pub last_there : (s : Store) (l : LastLetter) (count place : ℕ) → AreLastPlaces s l → count ≡ length l.places → 0 < count → place ≡ get_or l.places (count - 1) place
+    → IsLastPlace s l.number (length l.places) place
 last_there s l count place are size some is =
     let up : (count - 1) + 1 ≡ length l.places = omega (arith, size, some) in
-    subst (λ n. IsLast s l.number n place) up (are.last (count - 1) place (slice_get-at l.places (count - 1) place (omega (arith, size, some)) is))
+    subst (λ n. IsLastPlace s l.number n place) up (are.last (count - 1) place (slice_get-at l.places (count - 1) place (omega (arith, size, some)) is))
 
 -- one proposition more
-pub last_more : {s t : Store} → IsReduced s.names s.nodes → IsReduced t.names t.nodes → Grows s t → (number count prop place made : ℕ) (bit : Bool) → bit ≡ is_set number prop
-    → prop + (count + 1) ≡ s.names → IsLast s number count place → HasPlace t made
-    → ((on : ℕ → Bool) → outcome t.nodes on made ≡ (beq (on prop) bit && outcome s.nodes on place)) → IsLast t number (count + 1) made
+pub last_more : {s t : Store} → IsReducedDiagram s.names s.nodes → IsReducedDiagram t.names t.nodes → Grows s t → (number count prop place made : ℕ) (bit : Bool) → bit ≡ is_set number prop
+    → prop + (count + 1) ≡ s.names → IsLastPlace s number count place → HasPlace t made
+    → ((on : ℕ → Bool) → outcome t.nodes on made ≡ (beq (on prop) bit && outcome s.nodes on place)) → IsLastPlace t number (count + 1) made
 last_more {s} {t} was is grows number count prop place made bit set next last has says = record {
   has = has;
   truth = λ on.
@@ -151,13 +151,13 @@ last_more {s} {t} was is grows number count prop place made bit set next last ha
         let up : suc count ≡ count + 1 = omega arith in
         ap (λ i. beq (on i) (is_set number i) && last_at number s.names count on) place_of ∙ ap (λ c. last_at number s.names c on) up
 
-pub letters_pushed : (s : Store) (number place : ℕ) (old new : List ℕ) → AreLetters s (record { number = number; places = old }) → length old + 1 ≤ s.names
-    → IsLast s number (length old + 1) place → new ≡ old ++ place ∷ [] → AreLetters s (record { number = number; places = new })
+pub letters_pushed : (s : Store) (number place : ℕ) (old new : List ℕ) → AreLastPlaces s (record { number = number; places = old }) → length old + 1 ≤ s.names
+    → IsLastPlace s number (length old + 1) place → new ≡ old ++ place ∷ [] → AreLastPlaces s (record { number = number; places = new })
 letters_pushed s number place old new are few last pushed = record {
   few = let size = length_pushed in omega (arith, size, few);
   last = λ k p is. elim (slice_get-push_cases old place k p (subst (λ (ps : List ℕ). slice_get ps k ≡ Some p) pushed is)) [
     | inl before ↦ are.last k p before
-    | inr here ↦ subst (λ n. IsLast s number (n + 1) p) (sym here.0) (subst (λ q. IsLast s number (length old + 1) q) here.1 last)
+    | inr here ↦ subst (λ n. IsLastPlace s number (n + 1) p) (sym here.0) (subst (λ q. IsLastPlace s number (length old + 1) q) here.1 last)
   ];
 }
   where

@@ -5,7 +5,7 @@ use Rattle.aut_base.specs.Label.{Prop, Not, truth}
 use Rattle.label_guards.specs.declared.cubes.Literal.{Literal}
 use Rattle.label_guards.specs.declared.guards.Operation.{Operation}
 use Rattle.label_guards.specs.Guards.{IsGuardOf, literal_truth, truth_in}
-use Rattle.label_guards.specs.Nodes.{Grows, IsReduced}
+use Rattle.label_guards.specs.Nodes.{Grows, IsReducedDiagram}
 use Rattle.label_guards.specs.Operations.{IsJoin, IsPlaceOf, joins}
 use Rattle.label_guards.specs.Pieces.{literal_of}
 use Rattle.label_guards.specs.Store.{Has, HasPlace, Store, outcome}
@@ -16,11 +16,11 @@ use Rattle.label_guards.proofs.labelled.Parts.{IsBranch, joined_branch, joined_p
 
 -- the literal as a label says the same
 tree_truth : (l : Literal) (on : ℕ → Bool) → truth on (literal_tree (literal_of l)) ≡ literal_truth l.prop l.holds on
-tree_truth l on = by l.holds
+tree_truth l on = by_cases l.holds
   where
-    by : (b : Bool) → truth on (if b then Prop l.prop else Not (Prop l.prop)) ≡ (if b then on l.prop else not (on l.prop))
-    by true = refl
-    by false = refl
+    by_cases : (b : Bool) → truth on (if b then Prop l.prop else Not (Prop l.prop)) ≡ (if b then on l.prop else not (on l.prop))
+    by_cases true = refl
+    by_cases false = refl
 
 pub met_above : (s t : Store) (l : Literal) (place result : ℕ) → IsBranch s t (literal_tree (literal_of l)) 0 place result
     → IsPlaceOf t (λ on. literal_truth l.prop l.holds on && outcome s.nodes on place) result
@@ -52,7 +52,8 @@ joined_beside {s} {t} first second operation l own place result has is joined =
     joined_place first second operation (literal_truth l.prop l.holds) own place result has (alone s t l own is) joined
 
 -- the guard of a literal and another guard
-pub beside_guard : {old new : Store} → IsReduced old.names old.nodes → IsReduced new.names new.nodes → (operation : Operation) (prop : ℕ) (holds : Bool) (g : Guard) (place : ℕ) → Has old g
+pub beside_guard : {old new : Store} → IsReducedDiagram old.names old.nodes → IsReducedDiagram new.names new.nodes → (operation : Operation) (prop : ℕ) (holds : Bool) (g : Guard) (place : ℕ)
+    → Has old g
     → IsPlaceOf new (λ on. joins operation (literal_truth prop holds on) (outcome old.nodes on g.place)) place
     → IsGuardOf new (λ on. joins operation (literal_truth prop holds on) (truth_in old g on)) (at place)
 beside_guard {old} {new} was is operation prop holds g place has placed = guard_of new is _ (at place) placed.has

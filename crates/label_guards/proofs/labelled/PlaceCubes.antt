@@ -8,7 +8,7 @@ use Rattle.aut_base.specs.Valuation.{holds_in, truth_on}
 use Rattle.aut_base.proofs.canonical.ValuationLists.{independent_agrees, independent_from}
 use Rattle.label_guards.specs.declared.guard.Guard.{Guard}
 use Rattle.label_guards.specs.declared.nodes.Node.{Node}
-use Rattle.label_guards.specs.Nodes.{level, IsReduced, StandsAt}
+use Rattle.label_guards.specs.Nodes.{level, IsReducedDiagram, IsNodeAt}
 use Rattle.label_guards.specs.Pieces.{cube_piece, pieces_after, is_any, shifted, cubes_from, place_cubes, WritesCubes}
 use Rattle.label_guards.specs.Store.{Store, Has, HasPlace, label_in, outcome}
 use Rattle.label_guards.proofs.diagrams.Agreement.{outcome_agrees}
@@ -26,7 +26,7 @@ shifted-later i b v j h = let e : j - i ≡ suc (j - (i + 1)) = omega arith in a
 shifted-here : (i : ℕ) (b : Bool) (v : List Bool) → shifted i (b ∷ v) i ≡ b
 shifted-here i b v = let e : i - i ≡ 0 = omega arith in ap (holds_in (b ∷ v)) e
 
-module _ (s : Store) (is : IsReduced s.names s.nodes) where
+module _ (s : Store) (is : IsReducedDiagram s.names s.nodes) where
   -- where the i-th proposition comes before those that are asked for
   behind : (i p : ℕ) → HasPlace s p → i < level s p → (b : Bool) (v : List Bool) → outcome s.nodes (shifted i (b ∷ v)) p ≡ outcome s.nodes (shifted (i + 1) v) p
   behind i p has h b v = outcome_agrees s is p has (shifted i (b ∷ v)) (shifted (i + 1) v) (λ j x y. shifted-later i b v j (omega arith))
@@ -65,7 +65,7 @@ module _ (s : Store) (is : IsReduced s.names s.nodes) where
       ap (λ k. cubes s.names k (λ v. outcome s.nodes (shifted s.names v) 1)) none ∙ ap (λ b. cond b ([] ∷ []) []) (outcome-true s.nodes (shifted s.names []))
 
   -- a side of a node, under the value that leads to it
-  side : (p : ℕ) (n : Node) → StandsAt s p n → HasPlace s p → (b : Bool) (v : List Bool)
+  side : (p : ℕ) (n : Node) → IsNodeAt s p n → HasPlace s p → (b : Bool) (v : List Bool)
       → outcome s.nodes (shifted n.prop (b ∷ v)) p ≡ outcome s.nodes (shifted (n.prop + 1) v) (if b then n.high else n.low)
   side p n at has true v = let a = at.node.high in at.truth (shifted n.prop (true ∷ v))
       ∙ (ap (λ c. if c then outcome s.nodes (shifted n.prop (true ∷ v)) n.high else outcome s.nodes (shifted n.prop (true ∷ v)) n.low) (shifted-here n.prop true v)
@@ -80,7 +80,7 @@ module _ (s : Store) (is : IsReduced s.names s.nodes) where
       let e : k + 1 + (j - (k + 1)) ≡ j = omega arith in
       sym (get_or-drop (k + 1) w (j - (k + 1)) false ∙ ap (holds_in w) e))
 
-  depends : (p : ℕ) (n : Node) → StandsAt s p n → HasPlace s p → (m : ℕ) → s.names - (n.prop + 1) ≡ m → (b : Bool) → is_independent m (λ v. outcome s.nodes (shifted n.prop v) p) ≡ b → b ≡ false
+  depends : (p : ℕ) (n : Node) → IsNodeAt s p n → HasPlace s p → (m : ℕ) → s.names - (n.prop + 1) ≡ m → (b : Bool) → is_independent m (λ v. outcome s.nodes (shifted n.prop v) p) ≡ b → b ≡ false
   depends p n at has m e false h = refl
   depends p n at has m e true h =
       let a = at.node.low in
@@ -92,7 +92,7 @@ module _ (s : Store) (is : IsReduced s.names s.nodes) where
       rest n.prop n.low (omega arith) at.node.low_later w ∙ (sym (side p n at has false v) ∙ (independent_agrees m (λ v. outcome s.nodes (shifted n.prop v) p) h v long
       ∙ (side p n at has true v ∙ sym (rest n.prop n.high (omega arith) at.node.high_later w)))))))
 
-  pub cubes_node : (p : ℕ) (n : Node) → StandsAt s p n → HasPlace s p
+  pub cubes_node : (p : ℕ) (n : Node) → IsNodeAt s p n → HasPlace s p
       → place_cubes s p ≡ map (λ cube. record { prop = n.prop; holds = false } ∷ cube) (place_cubes s n.low) ++ map (λ cube. record { prop = n.prop; holds = true } ∷ cube) (place_cubes s n.high)
   unfolding place_cubes
   cubes_node p n at has =
@@ -168,11 +168,12 @@ no_cube [] h = refl
 no_cube (c ∷ cs) h = absurd cc
 
 -- the text of a label, by the cubes of its place
-pub label_of_cubes : (s : Store) (is : IsReduced s.names s.nodes) (g : Guard) → Has s g → (cs : List (List Literal)) → place_cubes s g.place ≡ cs → label_text s.names (label_in s g) ≡ cubes_text cs
+pub label_of_cubes : (s : Store) (is : IsReducedDiagram s.names s.nodes) (g : Guard) → Has s g → (cs : List (List Literal)) → place_cubes s g.place ≡ cs
+    → label_text s.names (label_in s g) ≡ cubes_text cs
 label_of_cubes s is g has cs e = ap cubes_text (cubes_of_guard s is g has ∙ e)
 
 -- what is written of a label that has a cube
-pub label_written : (s : Store) (is : IsReduced s.names s.nodes) (g : Guard) → Has s g → (literals : List Literal) (now : Bool) (old new : List ℕ) → literals ≡ []
+pub label_written : (s : Store) (is : IsReducedDiagram s.names s.nodes) (g : Guard) → Has s g → (literals : List Literal) (now : Bool) (old new : List ℕ) → literals ≡ []
     → WritesCubes literals (place_cubes s g.place) false now old new → now ≡ true → new ≡ old ++ label_text s.names (label_in s g)
 label_written s is g has literals now old new none w h =
     let all = cubes_of_guard s is g has in
@@ -182,7 +183,7 @@ label_written s is g has literals now old new none w h =
     ∙ ap (λ t. old ++ t) (tidy_text cs (tidy_cubes 0 s.names (truth_on (label_in s g))) some)
 
 -- and of one that has none
-pub no_label_written : (s : Store) (is : IsReduced s.names s.nodes) (g : Guard) → Has s g → (literals : List Literal) (now : Bool) (old new last : List ℕ)
+pub no_label_written : (s : Store) (is : IsReducedDiagram s.names s.nodes) (g : Guard) → Has s g → (literals : List Literal) (now : Bool) (old new last : List ℕ)
     → WritesCubes literals (place_cubes s g.place) false now old new → now ≡ false → last ≡ new ++ codes "f" → last ≡ old ++ label_text s.names (label_in s g)
 no_label_written s is g has literals now old new last w h f =
     let none : place_cubes s g.place ≡ [] = no_cube (place_cubes s g.place) (sym h ∙ w.some) in
@@ -190,13 +191,13 @@ no_label_written s is g has literals now old new last w h f =
     f ∙ (λ j. same j ++ sym (label_of_cubes s is g has [] none) j)
 
 -- the cubes of a place that is one literal
-pub literal_holds : (s : Store) (is : IsReduced s.names s.nodes) (p : ℕ) (n : Node) → StandsAt s p n → HasPlace s p → n.low ≡ 0 → n.high ≡ 1
+pub literal_holds : (s : Store) (is : IsReducedDiagram s.names s.nodes) (p : ℕ) (n : Node) → IsNodeAt s p n → HasPlace s p → n.low ≡ 0 → n.high ≡ 1
     → place_cubes s p ≡ (record { prop = n.prop; holds = true } ∷ []) ∷ []
 literal_holds s is p n at has low high =
     cubes_node s is p n at has ∙ (λ j. map (λ cube. record { prop = n.prop; holds = false } ∷ cube) ((ap (place_cubes s) low ∙ cubes_false s is) j) ++ map
     (λ cube. record { prop = n.prop; holds = true } ∷ cube) ((ap (place_cubes s) high ∙ cubes_true s is) j))
 
-pub literal_fails : (s : Store) (is : IsReduced s.names s.nodes) (p : ℕ) (n : Node) → StandsAt s p n → HasPlace s p → n.low ≡ 1 → n.high ≡ 0
+pub literal_fails : (s : Store) (is : IsReducedDiagram s.names s.nodes) (p : ℕ) (n : Node) → IsNodeAt s p n → HasPlace s p → n.low ≡ 1 → n.high ≡ 0
     → place_cubes s p ≡ (record { prop = n.prop; holds = false } ∷ []) ∷ []
 literal_fails s is p n at has low high =
     cubes_node s is p n at has ∙ (λ j. map (λ cube. record { prop = n.prop; holds = false } ∷ cube) ((ap (place_cubes s) low ∙ cubes_true s is) j) ++ map

@@ -4,7 +4,7 @@ use Rattle.label_guards.specs.declared.guard.Guard.{Guard}
 use Rattle.label_guards.specs.declared.guards.Operation.TheVariants.{And, Or}
 use Rattle.label_guards.specs.declared.nodes.Node.{Node}
 use Rattle.label_guards.specs.Guards.{truth_in, IsGuardOf}
-use Rattle.label_guards.specs.Nodes.{IsReduced, Grows, IsChoice, StandsAt}
+use Rattle.label_guards.specs.Nodes.{IsReducedDiagram, Grows, IsChoice, IsNodeAt}
 use Rattle.label_guards.specs.Operations.{IsJoin, IsPlaceOf}
 use Rattle.label_guards.specs.Store.{Store, Has, HasPlace, outcome}
 use Rattle.label_guards.specs.Tables.{IsBrought}
@@ -53,7 +53,7 @@ brought_end other s to zero h = record { has = omega arith; truth = λ on. outco
 brought_end other s to (suc zero) h = record { has = omega arith; truth = λ on. outcome-true s.nodes on ∙ sym (outcome-true other.nodes (λ k. on (to k))) }
 brought_end other s to (suc (suc p)) h = absurd (omega arith)
 
-pub brought_step : (other : Store) {t u v : Store} → Grows t u → (to : ℕ → ℕ) (p prop low high found : ℕ) (n : Node) → StandsAt other p n → to n.prop ≡ prop → IsBrought other t to n.low low
+pub brought_step : (other : Store) {t u v : Store} → Grows t u → (to : ℕ → ℕ) (p prop low high found : ℕ) (n : Node) → IsNodeAt other p n → to n.prop ≡ prop → IsBrought other t to n.low low
     → IsBrought other u to n.high high
     → IsPlaceOf v (λ on. if on prop then outcome u.nodes on high else outcome u.nodes on low) found → IsBrought other v to p found
 brought_step other {t} {u} {v} grows to p prop low high found n at e low_is high_is is = record {
@@ -62,6 +62,6 @@ brought_step other {t} {u} {v} grows to p prop low high found n at e low_is high
       is.truth on ∙ ((λ i. if on (sym e i) then high_is.truth on i else (outcome_kept grows on low low_is.has ∙ low_is.truth on) i) ∙ sym (at.truth (λ k. on (to k))));
 }
 
-pub brought_guard : (other : Store) {new : Store} → IsReduced other.names other.nodes → IsReduced new.names new.nodes → (to : ℕ → ℕ) (g : Guard) (place : ℕ) → Has other g
+pub brought_guard : (other : Store) {new : Store} → IsReducedDiagram other.names other.nodes → IsReducedDiagram new.names new.nodes → (to : ℕ → ℕ) (g : Guard) (place : ℕ) → Has other g
     → IsBrought other new to g.place place → IsGuardOf new (λ on. truth_in other g (λ k. on (to k))) (at place)
 brought_guard other {new} was is to g place has brought = guard_of new is _ (at place) brought.has (λ on. brought.truth on ∙ sym (truth_is other was g has (λ k. on (to k))))

@@ -2,7 +2,7 @@
 use Rattle.std.proofs.Common.{◌≡◌, ℕ, ◌<◌, ◌≤◌, ◌∙◌, Bool, true, false, if◌then◌else◌, nat_eq, sym, refl, ap, arith}
 use Rattle.label_guards.specs.declared.guard.Guard.{Guard}
 use Rattle.label_guards.specs.Guards.{truth_in, IsGuardOf, with_prop}
-use Rattle.label_guards.specs.Nodes.{level, IsReduced, Grows, IsChoice, AreSides}
+use Rattle.label_guards.specs.Nodes.{level, IsReducedDiagram, Grows, IsChoice, AreSides}
 use Rattle.label_guards.specs.Store.{Store, Has, HasPlace, outcome}
 use Rattle.label_guards.specs.Tables.{IsFixedAt}
 use Rattle.label_guards.proofs.diagrams.Agreement.{outcome_fixed, fixed-here}
@@ -22,7 +22,7 @@ fixed_kept {old} {new} grows prop value p q is =
     }
 
 -- a place that doesn't ask for the proposition
-pub fixed_behind : (s : Store) → IsReduced s.names s.nodes → (prop : ℕ) (value : Bool) (p l : ℕ) → HasPlace s p → l ≡ level s p → prop < l → IsFixedAt s prop value p p
+pub fixed_behind : (s : Store) → IsReducedDiagram s.names s.nodes → (prop : ℕ) (value : Bool) (p l : ℕ) → HasPlace s p → l ≡ level s p → prop < l → IsFixedAt s prop value p p
 fixed_behind s is prop value p l has e later = record {
   from = has;
   has = has;
@@ -31,7 +31,7 @@ fixed_behind s is prop value p l has e later = record {
 }
 
 -- a node that asks for it, and the side to which the value leads
-fixed_side : (s : Store) → IsReduced s.names s.nodes → (prop p l side : ℕ) (value : Bool) → HasPlace s p → l ≡ level s p → l ≡ prop → side ≤ p → l < level s side
+fixed_side : (s : Store) → IsReducedDiagram s.names s.nodes → (prop p l side : ℕ) (value : Bool) → HasPlace s p → l ≡ level s p → l ≡ prop → side ≤ p → l < level s side
     → ((on : ℕ → Bool) → on l ≡ value → outcome s.nodes on p ≡ outcome s.nodes on side) → IsFixedAt s prop value p side
 fixed_side s is prop p l side value has e f bound later leads = record {
   from = has;
@@ -42,11 +42,11 @@ fixed_side s is prop p l side value has e f bound later leads = record {
       sym (leads set (ap set f ∙ fixed-here on prop value) ∙ outcome_fixed s is side (omega arith) on prop value (omega arith));
 }
 
-pub fixed_high : (s : Store) → IsReduced s.names s.nodes → (prop p l low high : ℕ) → HasPlace s p → l ≡ level s p → l ≡ prop → AreSides s l p low high → IsFixedAt s prop true p high
+pub fixed_high : (s : Store) → IsReducedDiagram s.names s.nodes → (prop p l low high : ℕ) → HasPlace s p → l ≡ level s p → l ≡ prop → AreSides s l p low high → IsFixedAt s prop true p high
 fixed_high s is prop p l low high has e f sides = fixed_side s is prop p l high true has e f sides.high_bound sides.high_later
     (λ set here. sides.truth set ∙ ap (λ b. if b then outcome s.nodes set high else outcome s.nodes set low) here)
 
-pub fixed_low : (s : Store) → IsReduced s.names s.nodes → (prop p l low high : ℕ) → HasPlace s p → l ≡ level s p → l ≡ prop → AreSides s l p low high → IsFixedAt s prop false p low
+pub fixed_low : (s : Store) → IsReducedDiagram s.names s.nodes → (prop p l low high : ℕ) → HasPlace s p → l ≡ level s p → l ≡ prop → AreSides s l p low high → IsFixedAt s prop false p low
 fixed_low s is prop p l low high has e f sides = fixed_side s is prop p l low false has e f sides.low_bound sides.low_later
     (λ set here. sides.truth set ∙ ap (λ b. if b then outcome s.nodes set high else outcome s.nodes set low) here)
 
@@ -74,7 +74,7 @@ fixed_step {s} {t} {u} {v} first second third prop p l low high low_found high_f
       from = has_kept all p has;
       has = choice.has;
       later = omega arith;
-      truth = λ on. choice.truth on ∙ by on (on l) refl;
+      truth = λ on. choice.truth on ∙ by_cases on (on l) refl;
     }
   where
     one : Grows s u
@@ -86,15 +86,15 @@ fixed_step {s} {t} {u} {v} first second third prop p l low high low_found high_f
     earlier : l < prop
     earlier = omega arith
 
-    by : (on : ℕ → Bool) (b : Bool) → on l ≡ b → (if on l then outcome v.nodes on high_found else outcome v.nodes on low_found) ≡ outcome v.nodes (with_prop on prop value) p
-    by on true e =
+    by_cases : (on : ℕ → Bool) (b : Bool) → on l ≡ b → (if on l then outcome v.nodes on high_found else outcome v.nodes on low_found) ≡ outcome v.nodes (with_prop on prop value) p
+    by_cases on true e =
         let set = with_prop on prop value in
         let a = sides.high_bound in
         let here : set l ≡ true = with_prop-before on prop value l earlier ∙ e in
         ap (λ c. if c then outcome v.nodes on high_found else outcome v.nodes on low_found) e
         ∙ (outcome_kept third on high_found high_is.has ∙ (high_is.truth on ∙ (outcome_kept one set high (omega arith)
         ∙ sym (outcome_kept all set p has ∙ (sides.truth set ∙ ap (λ c. if c then outcome s.nodes set high else outcome s.nodes set low) here)))))
-    by on false e =
+    by_cases on false e =
         let set = with_prop on prop value in
         let a = sides.low_bound in
         let here : set l ≡ false = with_prop-before on prop value l earlier ∙ e in
@@ -102,7 +102,7 @@ fixed_step {s} {t} {u} {v} first second third prop p l low high low_found high_f
         ∙ (outcome_kept (grows_on second third) on low_found low_is.has ∙ (low_is.truth on ∙ (outcome_kept first set low (omega arith)
         ∙ sym (outcome_kept all set p has ∙ (sides.truth set ∙ ap (λ c. if c then outcome s.nodes set high else outcome s.nodes set low) here)))))
 
-pub fixed_guard : {old new : Store} → IsReduced old.names old.nodes → IsReduced new.names new.nodes → Grows old new → (prop : ℕ) (value : Bool) (g : Guard) (found : ℕ) → Has old g
+pub fixed_guard : {old new : Store} → IsReducedDiagram old.names old.nodes → IsReducedDiagram new.names new.nodes → Grows old new → (prop : ℕ) (value : Bool) (g : Guard) (found : ℕ) → Has old g
     → IsFixedAt new prop value g.place found → IsGuardOf new (λ on. truth_in old g (with_prop on prop value)) (at found)
 fixed_guard {old} {new} was is grows prop value g found has fixed = guard_of new is _ (at found) fixed.has (λ on.
     let set = with_prop on prop value in

@@ -9,7 +9,7 @@ use Rattle.label_guards.specs.declared.guard.Guard.{Guard}
 use Rattle.label_guards.specs.declared.nodes.Node.{Node}
 use Rattle.label_guards.specs.Guards.{IsNeverMet}
 use Rattle.label_guards.specs.Leasts.{IsLeastLetter, IsNeverMetAt, IsLeastNumber, IsLeastAt, IsLeastIn, IsMetAt, lesser_of, bits_of}
-use Rattle.label_guards.specs.Nodes.{IsReduced, StandsAt}
+use Rattle.label_guards.specs.Nodes.{IsReducedDiagram, IsNodeAt}
 use Rattle.label_guards.specs.Store.{Store, Has, HasPlace, label_in, outcome}
 use Rattle.label_guards.proofs.diagrams.Agreement.{outcome_agrees}
 use Rattle.label_guards.proofs.labelled.LabelTruth.{truth_is}
@@ -52,7 +52,7 @@ met_true s = record {
 pub least_true : (s : Store) → IsLeastAt s 1 (Some 0)
 least_true s = record { met = met_true s; least = λ w size h. omega arith }
 
-module _ (s : Store) (is : IsReduced s.names s.nodes) (p : ℕ) (n : Node) (at : StandsAt s p n) (has : HasPlace s p) where
+module _ (s : Store) (is : IsReducedDiagram s.names s.nodes) (p : ℕ) (n : Node) (at : IsNodeAt s p n) (has : HasPlace s p) where
   choose : (on : ℕ → Bool) (b : Bool) → on n.prop ≡ b → outcome s.nodes on p ≡ (if b then outcome s.nodes on n.high else outcome s.nodes on n.low)
   choose on b e = at.truth on ∙ ap (λ c. if c then outcome s.nodes on n.high else outcome s.nodes on n.low) e
 
@@ -151,7 +151,7 @@ module _ (s : Store) (is : IsReduced s.names s.nodes) (p : ℕ) (n : Node) (at :
         | inr e ↦ let a = e.0 in inr (omega arith, omega arith)
       ]
 
-number_small : (s : Store) → IsReduced s.names s.nodes → (v : List Bool) (m : ℕ) → length v ≡ s.names → number_of v ≡ m → m < 2 ^ MOST_NAMES
+number_small : (s : Store) → IsReducedDiagram s.names s.nodes → (v : List Bool) (m : ℕ) → length v ≡ s.names → number_of v ≡ m → m < 2 ^ MOST_NAMES
 number_small s is v m size is_number =
     let a = number_bound v in
     let few = is.few in
@@ -161,25 +161,25 @@ number_small s is v m size is_number =
     omega arith
 
 -- what the number of a valuation that meets a place is below
-pub met_small : (s : Store) → IsReduced s.names s.nodes → (p m : ℕ) → IsMetAt s p m → m < 2 ^ MOST_NAMES
+pub met_small : (s : Store) → IsReducedDiagram s.names s.nodes → (p m : ℕ) → IsMetAt s p m → m < 2 ^ MOST_NAMES
 met_small s is p m met = number_small s is met.valuation m met.size met.is_number
 
 -- the number of a least valuation is small
-pub least_small : (s : Store) → IsReduced s.names s.nodes → (p : ℕ) (found : Option ℕ) → IsLeastAt s p found → IfSome found (λ number. number < 2 ^ MOST_NAMES)
+pub least_small : (s : Store) → IsReducedDiagram s.names s.nodes → (p : ℕ) (found : Option ℕ) → IsLeastAt s p found → IfSome found (λ number. number < 2 ^ MOST_NAMES)
 least_small s is p None least = tt
 least_small s is p (Some m) least = met_small s is p m least.met
 
 -- what is found of a place is found of its guard
-pub met_guard : (s : Store) → IsReduced s.names s.nodes → (g : Guard) → Has s g → (number : ℕ) → IsMetAt s g.place number → truth_on (label_in s g) (bits_of s.names number) ≡ true
+pub met_guard : (s : Store) → IsReducedDiagram s.names s.nodes → (g : Guard) → Has s g → (number : ℕ) → IsMetAt s g.place number → truth_on (label_in s g) (bits_of s.names number) ≡ true
 met_guard s is g has number met =
     let same : bits_of s.names number ≡ met.valuation = ap (bits_of s.names) (sym met.is_number) ∙ bits_of-number met.valuation s.names met.size in
     ap (truth_on (label_in s g)) same ∙ (truth_is s is g has (holds_in met.valuation) ∙ met.truth)
 
-pub never_met : (s : Store) → IsReduced s.names s.nodes → (g : Guard) → Has s g → IsNeverMetAt s g.place → IsNeverMet s g
+pub never_met : (s : Store) → IsReducedDiagram s.names s.nodes → (g : Guard) → Has s g → IsNeverMetAt s g.place → IsNeverMet s g
 never_met s is g has none v size = truth_is s is g has (holds_in v) ∙ none v size
 
 -- the valuation of the number is the least that meets the label
-least_valuation : (s : Store) → IsReduced s.names s.nodes → (g : Guard) → Has s g → (number : ℕ) → IsLeastNumber s g.place number
+least_valuation : (s : Store) → IsReducedDiagram s.names s.nodes → (g : Guard) → Has s g → (number : ℕ) → IsLeastNumber s g.place number
     → IsLeast s.names (truth_on (label_in s g)) (bits_of s.names number)
 least_valuation s is g has number least =
     let met = least.met in
@@ -190,7 +190,7 @@ least_valuation s is g has number least =
       least = λ w size h. subst (λ m. m ≤ number_of w) (sym met.is_number) (least.least w size (sym (truth_is s is g has (holds_in w)) ∙ h));
     })
 
-pub least_of_label : (s : Store) → IsReduced s.names s.nodes → (g : Guard) → Has s g → (found : Option ℕ) → IsLeastAt s g.place found → IsLeastIn s g found
+pub least_of_label : (s : Store) → IsReducedDiagram s.names s.nodes → (g : Guard) → Has s g → (found : Option ℕ) → IsLeastAt s g.place found → IsLeastIn s g found
 least_of_label s is g has None none = never_met s is g has none
 least_of_label s is g has (Some number) least = least_valuation s is g has number least
 

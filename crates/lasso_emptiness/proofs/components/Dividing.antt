@@ -7,11 +7,11 @@ use Rattle.std.proofs.lemmas.List.Elements.{All-contains, Contains-append_left, 
 use Rattle.aut_base.proofs.lists.Members.{each_there, from_map, none_there, there_map}
 use Rattle.aut_base.specs.Formula.{FormulaTree}
 use Rattle.aut_core.specs.declared.link.Link.{Link}
-use Rattle.lasso_emptiness.specs.declared.live.LiveEdge.{LiveEdge}
-use Rattle.lasso_emptiness.specs.declared.side.Side.{Side}
+use Rattle.lasso_emptiness.specs.declared.live.EdgeRef.{EdgeRef}
+use Rattle.lasso_emptiness.specs.declared.side.SetLiteral.{SetLiteral}
 use Rattle.lasso_emptiness.specs.inner.Edges.{marks_of, met_along, on_side}
 use Rattle.lasso_emptiness.specs.inner.Judged.{IsNever, has_side}
-use Rattle.lasso_emptiness.specs.inner.Splits.{AddsOff, AreLeft, Crosses, IsMetGroup, IsSplit}
+use Rattle.lasso_emptiness.specs.inner.Splits.{AddsOff, AreLeft, Crosses, IsMetGroup, AreGroupsSplit}
 use Rattle.lasso_emptiness.specs.inner.Trails.{InSome, IsTrail, NoneAccepting, NoneInAny}
 use Rattle.lasso_emptiness.proofs.trails.Trails.{trail_kind}
 
@@ -28,24 +28,24 @@ popped_cases all rest x y is here = Contains-push_cases rest x y (subst (λ xs. 
 none_left : {A : Type 0} (all : List A) (y : A) → length all ≡ 0 → Contains all y → ⊥
 none_left all y empty here = let within = here.1 in omega arith
 
-pub record IsDivided (links : List Link) (set : ℕ) (neg : Bool) (group off : List LiveEdge) (crossed : List (List LiveEdge)) : Type 0 where
-  pub to_off : (e : LiveEdge) → Contains group e → on_side set neg (marks_of links e) ≡ false → Contains off e
-  pub to_crossed : (e : LiveEdge) → Contains group e → on_side set neg (marks_of links e) ≡ true → Contains crossed group
+pub record IsDivided (links : List Link) (set : ℕ) (neg : Bool) (group off : List EdgeRef) (crossed : List (List EdgeRef)) : Type 0 where
+  pub to_off : (e : EdgeRef) → Contains group e → on_side set neg (marks_of links e) ≡ false → Contains off e
+  pub to_crossed : (e : EdgeRef) → Contains group e → on_side set neg (marks_of links e) ≡ true → Contains crossed group
 
 -- these groups of all are still to be divided
-pub record DividedSoFar (links : List Link) (set : ℕ) (neg : Bool) (all rest : List (List LiveEdge)) (off : List LiveEdge) (crossed : List (List LiveEdge)) : Type 0 where
-  pub rest_inside : (group : List LiveEdge) → Contains rest group → Contains all group
-  pub off_some : (e : LiveEdge) → Contains off e → InSome all e
-  pub off_side : (e : LiveEdge) → Contains off e → on_side set neg (marks_of links e) ≡ false
-  pub crossed_inside : (group : List LiveEdge) → Contains crossed group → Contains all group
-  pub crosses : (group : List LiveEdge) → Contains crossed group → Crosses links set neg group
-  pub done : (group : List LiveEdge) → Contains all group → Contains rest group ⊎ IsDivided links set neg group off crossed
+pub record DividedSoFar (links : List Link) (set : ℕ) (neg : Bool) (all rest : List (List EdgeRef)) (off : List EdgeRef) (crossed : List (List EdgeRef)) : Type 0 where
+  pub rest_inside : (group : List EdgeRef) → Contains rest group → Contains all group
+  pub off_some : (e : EdgeRef) → Contains off e → InSome all e
+  pub off_side : (e : EdgeRef) → Contains off e → on_side set neg (marks_of links e) ≡ false
+  pub crossed_inside : (group : List EdgeRef) → Contains crossed group → Contains all group
+  pub crosses : (group : List EdgeRef) → Contains crossed group → Crosses links set neg group
+  pub done : (group : List EdgeRef) → Contains all group → Contains rest group ⊎ IsDivided links set neg group off crossed
 
-module _ (links : List Link) (set : ℕ) (neg : Bool) (all : List (List LiveEdge)) where
-  divided_more : (before rest : List (List LiveEdge)) (off new : List LiveEdge) (crossed crossed' : List (List LiveEdge)) (group : List LiveEdge) → before ≡ rest ++ group ∷ []
-      → AddsOff links set neg group off new → ((g : List LiveEdge) → Contains crossed g → Contains crossed' g)
-      → ((g : List LiveEdge) → Contains crossed' g → Contains crossed g ⊎ ((group ≡ g) × Crosses links set neg group))
-      → ((e : LiveEdge) → Contains group e → on_side set neg (marks_of links e) ≡ true → Contains crossed' group) → DividedSoFar links set neg all before off crossed
+module _ (links : List Link) (set : ℕ) (neg : Bool) (all : List (List EdgeRef)) where
+  divided_more : (before rest : List (List EdgeRef)) (off new : List EdgeRef) (crossed crossed' : List (List EdgeRef)) (group : List EdgeRef) → before ≡ rest ++ group ∷ []
+      → AddsOff links set neg group off new → ((g : List EdgeRef) → Contains crossed g → Contains crossed' g)
+      → ((g : List EdgeRef) → Contains crossed' g → Contains crossed g ⊎ ((group ≡ g) × Crosses links set neg group))
+      → ((e : EdgeRef) → Contains group e → on_side set neg (marks_of links e) ≡ true → Contains crossed' group) → DividedSoFar links set neg all before off crossed
       → DividedSoFar links set neg all rest new crossed'
   divided_more before rest off new crossed crossed' group popped adds kept from covers so_far = record {
     rest_inside = λ g here. so_far.rest_inside g (popped_rest before rest group g popped here);
@@ -71,22 +71,22 @@ module _ (links : List Link) (set : ℕ) (neg : Bool) (all : List (List LiveEdge
       listed : Contains all group
       listed = so_far.rest_inside group (popped_item before rest group popped)
 
-  pub divided_crossed : (before rest : List (List LiveEdge)) (off new : List LiveEdge) (crossed crossed' : List (List LiveEdge)) (group : List LiveEdge) → before ≡ rest ++ group ∷ []
+  pub divided_crossed : (before rest : List (List EdgeRef)) (off new : List EdgeRef) (crossed crossed' : List (List EdgeRef)) (group : List EdgeRef) → before ≡ rest ++ group ∷ []
       → AddsOff links set neg group off new → crossed' ≡ crossed ++ group ∷ [] → Crosses links set neg group → DividedSoFar links set neg all before off crossed
       → DividedSoFar links set neg all rest new crossed'
   divided_crossed before rest off new crossed crossed' group popped adds made on_it so_far =
       divided_more before rest off new crossed crossed' group popped adds (λ g here. popped_rest crossed' crossed group g made here)
       (λ g here. elim (popped_cases crossed' crossed group g made here) [ inl old ↦ inl old | inr same ↦ inr (same, on_it) ]) (λ e here on. popped_item crossed' crossed group made) so_far
 
-  pub divided_off : (before rest : List (List LiveEdge)) (off new : List LiveEdge) (crossed : List (List LiveEdge)) (group : List LiveEdge) → before ≡ rest ++ group ∷ []
-      → AddsOff links set neg group off new → All (λ (e : LiveEdge). on_side set neg (marks_of links e) ≡ false) group → DividedSoFar links set neg all before off crossed
+  pub divided_off : (before rest : List (List EdgeRef)) (off new : List EdgeRef) (crossed : List (List EdgeRef)) (group : List EdgeRef) → before ≡ rest ++ group ∷ []
+      → AddsOff links set neg group off new → All (λ (e : EdgeRef). on_side set neg (marks_of links e) ≡ false) group → DividedSoFar links set neg all before off crossed
       → DividedSoFar links set neg all rest new crossed
   divided_off before rest off new crossed group popped adds none so_far =
       divided_more before rest off new crossed crossed group popped adds (λ g here. here) (λ g here. inl here)
-      (λ e here on. absurd (true≢false (sym on ∙ All-contains (λ (d : LiveEdge). on_side set neg (marks_of links d) ≡ false) group e none here))) so_far
+      (λ e here on. absurd (true≢false (sym on ∙ All-contains (λ (d : EdgeRef). on_side set neg (marks_of links d) ≡ false) group e none here))) so_far
 
-  pub divided_all : (before : List (List LiveEdge)) (off : List LiveEdge) (crossed : List (List LiveEdge)) → length before ≡ 0 → DividedSoFar links set neg all before off crossed
-      → IsSplit links set neg all off crossed
+  pub divided_all : (before : List (List EdgeRef)) (off : List EdgeRef) (crossed : List (List EdgeRef)) → length before ≡ 0 → DividedSoFar links set neg all before off crossed
+      → AreGroupsSplit links set neg all off crossed
   divided_all before off crossed empty so_far = record {
     off_some = so_far.off_some;
     off_side = so_far.off_side;
@@ -103,30 +103,30 @@ module _ (links : List Link) (set : ℕ) (neg : Bool) (all : List (List LiveEdge
   }
 
 -- these groups of all are still to be judged, and those are left
-pub record JudgedSoFar (links : List Link) (f : FormulaTree) (all rest left : List (List LiveEdge)) (undecided : Option Side) : Type 0 where
-  pub rest_inside : (group : List LiveEdge) → Contains rest group → Contains all group
-  pub left_inside : (group : List LiveEdge) → Contains left group → Contains all group
-  pub done : (group : List LiveEdge) → Contains all group → Contains rest group ⊎ (Contains left group ⊎ NoneAccepting links (Contains group) f)
+pub record JudgedSoFar (links : List Link) (f : FormulaTree) (all rest left : List (List EdgeRef)) (undecided : Option SetLiteral) : Type 0 where
+  pub rest_inside : (group : List EdgeRef) → Contains rest group → Contains all group
+  pub left_inside : (group : List EdgeRef) → Contains left group → Contains all group
+  pub done : (group : List EdgeRef) → Contains all group → Contains rest group ⊎ (Contains left group ⊎ NoneAccepting links (Contains group) f)
   pub side : MatchOption undecided (left ≡ []) (λ s. has_side s.set s.neg f ≡ true)
 
 module _ (links : List Link) (f : FormulaTree) where
   -- a group without edges has no closed path
-  pub none_in_empty : (group : List LiveEdge) → length group ≡ 0 → NoneAccepting links (Contains group) f
+  pub none_in_empty : (group : List EdgeRef) → length group ≡ 0 → NoneAccepting links (Contains group) f
   none_in_empty group empty cycle accepting = go cycle accepting.some accepting.closed
     where
-      go : (es : List LiveEdge) → 0 < length es → IsTrail (Contains group) accepting.state es accepting.state → ⊥
+      go : (es : List EdgeRef) → 0 < length es → IsTrail (Contains group) accepting.state es accepting.state → ⊥
       go [] some closed = omega arith
       go (e ∷ es) some closed = let within = closed.0.1 in omega arith
 
-  pub none_in_never : (group : List LiveEdge) → IsNever (map (marks_of links) group) f → NoneAccepting links (Contains group) f
+  pub none_in_never : (group : List EdgeRef) → IsNever (map (marks_of links) group) f → NoneAccepting links (Contains group) f
   none_in_never group never cycle accepting =
       true≢false (sym accepting.meets ∙ never (map (marks_of links) cycle) (each_there (Contains (map (marks_of links) group)) (map (marks_of links) cycle) (λ marks here.
       let edge = from_map (marks_of links) cycle marks here in
       subst (Contains (map (marks_of links) group)) edge.2
       (there_map (marks_of links) group edge.0 (trail_kind (Contains group) accepting.state accepting.state cycle edge.0 accepting.closed edge.1)))))
 
-  module _ (all : List (List LiveEdge)) where
-    pub judged_never : (before rest left : List (List LiveEdge)) (undecided : Option Side) (group : List LiveEdge) → before ≡ rest ++ group ∷ [] → NoneAccepting links (Contains group) f
+  module _ (all : List (List EdgeRef)) where
+    pub judged_never : (before rest left : List (List EdgeRef)) (undecided : Option SetLiteral) (group : List EdgeRef) → before ≡ rest ++ group ∷ [] → NoneAccepting links (Contains group) f
         → JudgedSoFar links f all before left undecided → JudgedSoFar links f all rest left undecided
     judged_never before rest left undecided group popped never so_far = record {
       rest_inside = λ g here. so_far.rest_inside g (popped_rest before rest group g popped here);
@@ -141,7 +141,7 @@ module _ (links : List Link) (f : FormulaTree) where
       side = so_far.side;
     }
 
-    pub judged_open : (before rest left new : List (List LiveEdge)) (undecided : Option Side) (side : Side) (group : List LiveEdge) → before ≡ rest ++ group ∷ [] → new ≡ left ++ group ∷ []
+    pub judged_open : (before rest left new : List (List EdgeRef)) (undecided : Option SetLiteral) (side : SetLiteral) (group : List EdgeRef) → before ≡ rest ++ group ∷ [] → new ≡ left ++ group ∷ []
         → has_side side.set side.neg f ≡ true → JudgedSoFar links f all before left undecided → JudgedSoFar links f all rest new (Some side)
     judged_open before rest left new undecided side group popped made has so_far = record {
       rest_inside = λ g here. so_far.rest_inside g (popped_rest before rest group g popped here);
@@ -162,7 +162,7 @@ module _ (links : List Link) (f : FormulaTree) where
       side = has;
     }
 
-    pub judged_met : (before rest left : List (List LiveEdge)) (undecided : Option Side) (group : List LiveEdge) → before ≡ rest ++ group ∷ [] → 0 < length group
+    pub judged_met : (before rest left : List (List EdgeRef)) (undecided : Option SetLiteral) (group : List EdgeRef) → before ≡ rest ++ group ∷ [] → 0 < length group
         → met_along links group f ≡ true → JudgedSoFar links f all before left undecided → IsMetGroup links all f group
     judged_met before rest left undecided group popped some meets so_far = record {
       listed = so_far.rest_inside group (popped_item before rest group popped);
@@ -170,7 +170,7 @@ module _ (links : List Link) (f : FormulaTree) where
       meets = meets;
     }
 
-    pub judged_all_never : (before left : List (List LiveEdge)) → length before ≡ 0 → JudgedSoFar links f all before left None → NoneInAny links all f
+    pub judged_all_never : (before left : List (List EdgeRef)) → length before ≡ 0 → JudgedSoFar links f all before left None → NoneInAny links all f
     judged_all_never before left empty so_far group listed = elim (so_far.done group listed) [
       | inl still ↦ absurd (none_left before group empty still)
       | inr judged ↦ elim judged [
@@ -179,7 +179,7 @@ module _ (links : List Link) (f : FormulaTree) where
       ]
     ]
 
-    pub judged_all_open : (before left : List (List LiveEdge)) (side : Side) → length before ≡ 0 → JudgedSoFar links f all before left (Some side)
+    pub judged_all_open : (before left : List (List EdgeRef)) (side : SetLiteral) → length before ≡ 0 → JudgedSoFar links f all before left (Some side)
         → (has_side side.set side.neg f ≡ true) × AreLeft links all f left
     judged_all_open before left side empty so_far = (
       so_far.side,

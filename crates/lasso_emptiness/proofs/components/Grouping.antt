@@ -9,30 +9,30 @@ use Rattle.aut_base.proofs.lists.Members.{from_filter, from_map, none_there, the
 use Rattle.graph_walk.specs.Components.{AreComponents}
 use Rattle.graph_walk.specs.Walk.{IsWalk, Reaches}
 use Rattle.graph_walk.proofs.WalkLemmas.{reach_then}
-use Rattle.lasso_emptiness.specs.declared.live.LiveEdge.{LiveEdge}
+use Rattle.lasso_emptiness.specs.declared.live.EdgeRef.{EdgeRef}
 use Rattle.lasso_emptiness.specs.inner.Edges.{arc_of}
-use Rattle.lasso_emptiness.specs.inner.Groups.{AreGroups, IsGroup, IsJoined, is_inside}
-use Rattle.lasso_emptiness.specs.inner.Tours.{edge_at}
+use Rattle.lasso_emptiness.specs.inner.Groups.{AreGroups, IsGroup, IsStronglyConnected, is_inside}
+use Rattle.lasso_emptiness.specs.inner.Tours.{listed_edge}
 use Rattle.lasso_emptiness.specs.inner.Trails.{IsTrail}
 use Rattle.lasso_emptiness.proofs.trails.Trails.{trail_reaches}
 
-inside_parts : (numbers : List ℕ) (k : ℕ) (e : LiveEdge) → is_inside numbers k e ≡ true → (get_or numbers e.from 0 ≡ k) × (get_or numbers e.to 0 ≡ k)
+inside_parts : (numbers : List ℕ) (k : ℕ) (e : EdgeRef) → is_inside numbers k e ≡ true → (get_or numbers e.from 0 ≡ k) × (get_or numbers e.to 0 ≡ k)
 inside_parts numbers k e is =
     let both = and_parts (nat_eq (get_or numbers e.from 0) k) (nat_eq (get_or numbers e.to 0) k) is in
     (eqb-true (get_or numbers e.from 0) k both.0, eqb-true (get_or numbers e.to 0) k both.1)
 
-inside_from : (numbers : List ℕ) (k : ℕ) (e : LiveEdge) → get_or numbers e.from 0 ≡ k → get_or numbers e.to 0 ≡ k → is_inside numbers k e ≡ true
+inside_from : (numbers : List ℕ) (k : ℕ) (e : EdgeRef) → get_or numbers e.from 0 ≡ k → get_or numbers e.to 0 ≡ k → is_inside numbers k e ≡ true
 inside_from numbers k e from to = and_from (nat_eq (get_or numbers e.from 0) k) (nat_eq (get_or numbers e.to 0) k) (eq-eqb (get_or numbers e.from 0) k from) (eq-eqb (get_or numbers e.to 0) k to)
 
 -- an edge from one component to another is in no group
-outside : (numbers : List ℕ) (k : ℕ) (e : LiveEdge) → get_or numbers e.from 0 ≢ get_or numbers e.to 0 → is_inside numbers k e ≡ false
+outside : (numbers : List ℕ) (k : ℕ) (e : EdgeRef) → get_or numbers e.from 0 ≢ get_or numbers e.to 0 → is_inside numbers k e ≡ false
 outside numbers k e differ = go (is_inside numbers k e) refl
   where
     go : (b : Bool) → is_inside numbers k e ≡ b → is_inside numbers k e ≡ false
     go false is = is
     go true is = let both = inside_parts numbers k e is in absurd (differ (both.0 ∙ sym both.1))
 
-only_there : (numbers : List ℕ) (number k : ℕ) (e : LiveEdge) → get_or numbers e.from 0 ≡ number → get_or numbers e.to 0 ≡ number → is_inside numbers k e ≡ nat_eq k number
+only_there : (numbers : List ℕ) (number k : ℕ) (e : EdgeRef) → get_or numbers e.from 0 ≡ number → get_or numbers e.to 0 ≡ number → is_inside numbers k e ≡ nat_eq k number
 only_there numbers number k e from to = go (nat_eq k number) refl
   where
     go : (b : Bool) → nat_eq k number ≡ b → is_inside numbers k e ≡ nat_eq k number
@@ -43,14 +43,14 @@ only_there numbers number k e from to = go (nat_eq k number) refl
         go_inside false out = out ∙ sym is
         go_inside true there = let both = inside_parts numbers k e there in there ∙ sym (eq-eqb k number (sym both.0 ∙ from))
 
-module _ (numbers : List ℕ) (edges : List LiveEdge) (i : ℕ) (within : i < length edges) where
-  abbrev e : LiveEdge
-  e = edge_at edges i
+module _ (numbers : List ℕ) (edges : List EdgeRef) (i : ℕ) (within : i < length edges) where
+  abbrev e : EdgeRef
+  e = listed_edge edges i
 
   is : e ≡ get_or edges i e
   is = get_or_default edges i _ e within
 
-  pub groups_skip : (groups : List (List LiveEdge)) → get_or numbers e.from 0 ≢ get_or numbers e.to 0 → ((k : ℕ) → get_or groups k [] ≡ filter (is_inside numbers k) (take i edges)) → (k : ℕ)
+  pub groups_skip : (groups : List (List EdgeRef)) → get_or numbers e.from 0 ≢ get_or numbers e.to 0 → ((k : ℕ) → get_or groups k [] ≡ filter (is_inside numbers k) (take i edges)) → (k : ℕ)
       → get_or groups k [] ≡ filter (is_inside numbers k) (take (i + 1) edges)
   groups_skip groups differ so_far k =
       so_far k ∙ sym (append-nil (filter (is_inside numbers k) (take i edges)))
@@ -58,7 +58,7 @@ module _ (numbers : List ℕ) (edges : List LiveEdge) (i : ℕ) (within : i < le
       ∙ sym (filter-append (is_inside numbers k) (take i edges) (e ∷ []))
       ∙ ap (filter (is_inside numbers k)) (sym (take-push edges i e within is))
 
-  pub groups_more : (old new : List (List LiveEdge)) (number : ℕ) → get_or numbers e.from 0 ≡ number → get_or numbers e.to 0 ≡ number
+  pub groups_more : (old new : List (List EdgeRef)) (number : ℕ) → get_or numbers e.from 0 ≡ number → get_or numbers e.to 0 ≡ number
       → ((k : ℕ) → get_or old k [] ≡ filter (is_inside numbers k) (take i edges)) → ((k : ℕ) → get_or new k [] ≡ (if nat_eq k number then get_or old k [] ++ e ∷ [] else get_or old k []))
       → (k : ℕ) → get_or new k [] ≡ filter (is_inside numbers k) (take (i + 1) edges)
   groups_more old new number from to so_far made k =
@@ -69,20 +69,20 @@ module _ (numbers : List ℕ) (edges : List LiveEdge) (i : ℕ) (within : i < le
       ∙ sym (filter-append (is_inside numbers k) (take i edges) (e ∷ []))
       ∙ ap (filter (is_inside numbers k)) (sym (take-push edges i e within is))
     where
-      cases : (b : Bool) (es : List LiveEdge) → (if b then es ++ e ∷ [] else es) ≡ es ++ (if b then e ∷ [] else [])
+      cases : (b : Bool) (es : List EdgeRef) → (if b then es ++ e ∷ [] else es) ≡ es ++ (if b then e ∷ [] else [])
       cases true es = refl
       cases false es = sym (append-nil es)
 
 -- the groups of all edges
-module _ (states : ℕ) (numbers : List ℕ) (edges : List LiveEdge) (groups : List (List LiveEdge)) (ends : All (λ (e : LiveEdge). (e.from < states) × (e.to < states)) edges)
+module _ (states : ℕ) (numbers : List ℕ) (edges : List EdgeRef) (groups : List (List EdgeRef)) (ends : All (λ (e : EdgeRef). (e.from < states) × (e.to < states)) edges)
     (are : AreComponents states (map arc_of edges) numbers) (made : (k : ℕ) → get_or groups k [] ≡ filter (is_inside numbers k) edges) where
   abbrev arcs : List (ℕ × ℕ)
   arcs = map arc_of edges
 
-  ends_of : (e : LiveEdge) → Contains edges e → (e.from < states) × (e.to < states)
-  ends_of e here = All-contains (λ (d : LiveEdge). (d.from < states) × (d.to < states)) edges e ends here
+  ends_of : (e : EdgeRef) → Contains edges e → (e.from < states) × (e.to < states)
+  ends_of e here = All-contains (λ (d : EdgeRef). (d.from < states) × (d.to < states)) edges e ends here
 
-  group_at : (group : List LiveEdge) (h : Contains groups group) → group ≡ filter (is_inside numbers h.0) edges
+  group_at : (group : List EdgeRef) (h : Contains groups group) → group ≡ filter (is_inside numbers h.0) edges
   group_at group h = sym h.2 ∙ sym (get_or_default groups h.0 [] group h.1) ∙ made h.0
 
   -- a walk whose end leads back stays in its component
@@ -107,7 +107,7 @@ module _ (states : ℕ) (numbers : List ℕ) (edges : List LiveEdge) (groups : L
         stays k a.1 q walk next there leads.2 (reach_then arcs q p a.1 back out),
       )
 
-  joined_at : (k : ℕ) → IsJoined (filter (is_inside numbers k) edges)
+  joined_at : (k : ℕ) → IsStronglyConnected (filter (is_inside numbers k) edges)
   joined_at k d e here there =
       let first = from_filter (is_inside numbers k) edges d here in
       let second = from_filter (is_inside numbers k) edges e there in
@@ -119,7 +119,7 @@ module _ (states : ℕ) (numbers : List ℕ) (edges : List LiveEdge) (groups : L
       record { walk = both.0.walk; leads = stays k d.to e.from both.0.walk ends_d.1 from.1 both.0.leads both.1 }
 
   -- the edges of a closed path lie in one component
-  one_component : (k p q : ℕ) (es : List LiveEdge) → p < states → get_or numbers p 0 ≡ k → IsTrail (Contains edges) p es q → Reaches arcs q p
+  one_component : (k p q : ℕ) (es : List EdgeRef) → p < states → get_or numbers p 0 ≡ k → IsTrail (Contains edges) p es q → Reaches arcs q p
       → IsTrail (Contains (filter (is_inside numbers k) edges)) p es q
   one_component k p q [] at number trail back = trail
   one_component k p q (e ∷ es) at number trail back =
@@ -132,8 +132,8 @@ module _ (states : ℕ) (numbers : List ℕ) (edges : List LiveEdge) (groups : L
       let inside : is_inside numbers k e ≡ true = inside_from numbers k e (ap (λ x. get_or numbers x 0) trail.1 ∙ number) there in
       (there_filter (is_inside numbers k) edges e trail.0 inside, trail.1, one_component k e.to q es both.1 there trail.2 (reach_then arcs q p e.to back out))
 
-  whole : (state : ℕ) (cycle : List LiveEdge) → 0 < length cycle → IsTrail (Contains edges) state cycle state
-      → (group : List LiveEdge) × Contains groups group × IsTrail (Contains group) state cycle state
+  whole : (state : ℕ) (cycle : List EdgeRef) → 0 < length cycle → IsTrail (Contains edges) state cycle state
+      → (group : List EdgeRef) × Contains groups group × IsTrail (Contains group) state cycle state
   whole state [] some closed = absurd (omega arith)
   whole state (e ∷ es) some closed =
       let at : state < states = subst (λ x. x < states) closed.1 (ends_of e closed.0).0 in

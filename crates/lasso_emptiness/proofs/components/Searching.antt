@@ -5,13 +5,13 @@ use Rattle.std.proofs.lemmas.List.Elements.{All-contains}
 use Rattle.aut_base.proofs.lists.Members.{any_found, each_there, from_map, none_at, there_map}
 use Rattle.aut_base.specs.Formula.{FormulaTree}
 use Rattle.aut_core.specs.declared.link.Link.{Link}
-use Rattle.lasso_emptiness.specs.declared.live.LiveEdge.{LiveEdge}
-use Rattle.lasso_emptiness.specs.inner.Carriers.{Finds, FindsInAny, IsCarrier}
+use Rattle.lasso_emptiness.specs.declared.live.EdgeRef.{EdgeRef}
+use Rattle.lasso_emptiness.specs.inner.AcceptingComponents.{Finds, FindsInAny, IsAcceptingComponent}
 use Rattle.lasso_emptiness.specs.inner.Edges.{marks_of, on_side}
 use Rattle.lasso_emptiness.specs.inner.Groups.{AreGroups}
 use Rattle.lasso_emptiness.specs.inner.Needed.{AreNeeded}
-use Rattle.lasso_emptiness.specs.inner.Splits.{AreLeft, IsSplit}
-use Rattle.lasso_emptiness.specs.inner.Taken.{taken}
+use Rattle.lasso_emptiness.specs.inner.Splits.{AreLeft, AreGroupsSplit}
+use Rattle.lasso_emptiness.specs.inner.Taken.{substituted}
 use Rattle.lasso_emptiness.specs.inner.Tours.{IsTour}
 use Rattle.lasso_emptiness.specs.inner.Trails.{InSome, IsAccepting, NoneAccepting, NoneInAny}
 use Rattle.lasso_emptiness.proofs.conditions.Conditions.{met-denied, met-taken}
@@ -19,7 +19,7 @@ use Rattle.lasso_emptiness.proofs.conditions.Marked.{none_on}
 use Rattle.lasso_emptiness.proofs.trails.Trails.{trail_kind, trail_weaker, trail_with}
 
 -- the same closed path, along edges of another kind
-pub accepting_weaker : (links : List Link) (K L : LiveEdge → Type 0) (f : FormulaTree) (cycle : List LiveEdge) → ((e : LiveEdge) → K e → L e) → IsAccepting links K f cycle
+pub accepting_weaker : (links : List Link) (K L : EdgeRef → Type 0) (f : FormulaTree) (cycle : List EdgeRef) → ((e : EdgeRef) → K e → L e) → IsAccepting links K f cycle
     → IsAccepting links L f cycle
 accepting_weaker links K L f cycle weaker accepting = record {
   some = accepting.some;
@@ -29,8 +29,8 @@ accepting_weaker links K L f cycle weaker accepting = record {
 }
 
 -- the same edges, of another kind
-pub carrier_weaker : (links : List Link) (K L : LiveEdge → Type 0) (f : FormulaTree) (group : List LiveEdge) → ((e : LiveEdge) → K e → L e) → IsCarrier links K f group
-    → IsCarrier links L f group
+pub carrier_weaker : (links : List Link) (K L : EdgeRef → Type 0) (f : FormulaTree) (group : List EdgeRef) → ((e : EdgeRef) → K e → L e) → IsAcceptingComponent links K f group
+    → IsAcceptingComponent links L f group
 carrier_weaker links K L f group weaker carrier = record {
   some = carrier.some;
   kind = λ e here. weaker e (carrier.kind e here);
@@ -39,7 +39,7 @@ carrier_weaker links K L f group weaker carrier = record {
 }
 
 -- what the groups of components answer for all edges
-pub finds_of_groups : (links : List Link) (edges : List LiveEdge) (groups : List (List LiveEdge)) (f : FormulaTree) → AreGroups edges groups → (found : Option (List LiveEdge))
+pub finds_of_groups : (links : List Link) (edges : List EdgeRef) (groups : List (List EdgeRef)) (f : FormulaTree) → AreGroups edges groups → (found : Option (List EdgeRef))
     → FindsInAny links groups f found → Finds links (Contains edges) f found
 finds_of_groups links edges groups f are None none = λ cycle accepting.
     let there = are.whole accepting.state cycle accepting.some accepting.closed in
@@ -48,7 +48,7 @@ finds_of_groups links edges groups f are (Some group) carrier =
     carrier_weaker links (InSome groups) (Contains edges) f group (λ e some. (are.each some.group some.listed).inside e some.here) carrier
 
 -- a closed path through the edges that are needed
-pub accepting_tour : (links : List Link) (edges needed cycle : List LiveEdge) (f : FormulaTree) → AreNeeded links edges f needed → IsTour edges needed cycle
+pub accepting_tour : (links : List Link) (edges needed cycle : List EdgeRef) (f : FormulaTree) → AreNeeded links edges f needed → IsTour edges needed cycle
     → IsAccepting links (Contains edges) f cycle
 accepting_tour links edges needed cycle f are tour = record {
   some = tour.some;
@@ -58,20 +58,20 @@ accepting_tour links edges needed cycle f are tour = record {
 }
 
 -- Groups are left after others have no such path, and are divided by the side of a `Fin`.
-module _ (links : List Link) (set : ℕ) (neg : Bool) (f : FormulaTree) (groups left crossed : List (List LiveEdge)) (off : List LiveEdge) (are : AreLeft links groups f left)
-    (split : IsSplit links set neg left off crossed) where
+module _ (links : List Link) (set : ℕ) (neg : Bool) (f : FormulaTree) (groups left crossed : List (List EdgeRef)) (off : List EdgeRef) (are : AreLeft links groups f left)
+    (split : AreGroupsSplit links set neg left off crossed) where
   -- edges off the side meet the condition as they do with the `Fin` taken as true
-  pub found_off : (group : List LiveEdge) → IsCarrier links (Contains off) (taken set neg true f) group → IsCarrier links (InSome groups) f group
+  pub found_off : (group : List EdgeRef) → IsAcceptingComponent links (Contains off) (substituted set neg true f) group → IsAcceptingComponent links (InSome groups) f group
   found_off group carrier = record {
     some = carrier.some;
     kind = λ e here. let some = split.off_some e (carrier.kind e here) in record { group = some.group; listed = are.inside some.group some.listed; here = some.here };
     joined = carrier.joined;
     meets = sym (met-taken (map (marks_of links) group) set neg true f
-        (none_on links group set neg (each_there (λ (e : LiveEdge). on_side set neg (marks_of links e) ≡ false) group (λ e here. split.off_side e (carrier.kind e here))))) ∙ carrier.meets;
+        (none_on links group set neg (each_there (λ (e : EdgeRef). on_side set neg (marks_of links e) ≡ false) group (λ e here. split.off_side e (carrier.kind e here))))) ∙ carrier.meets;
   }
 
   -- edges that meet the condition with the `Fin` taken as false meet it
-  pub found_crossed : (group : List LiveEdge) → IsCarrier links (InSome crossed) (taken set neg false f) group → IsCarrier links (InSome groups) f group
+  pub found_crossed : (group : List EdgeRef) → IsAcceptingComponent links (InSome crossed) (substituted set neg false f) group → IsAcceptingComponent links (InSome groups) f group
   found_crossed group carrier = record {
     some = carrier.some;
     kind = λ e here. let some = carrier.kind e here in record { group = some.group; listed = are.inside some.group (split.inside some.group some.listed); here = some.here };
@@ -80,7 +80,7 @@ module _ (links : List Link) (set : ℕ) (neg : Bool) (f : FormulaTree) (groups 
   }
 
   -- each path is off the side, or passes an edge on it
-  pub none_found : NoneAccepting links (Contains off) (taken set neg true f) → NoneInAny links crossed (taken set neg false f) → NoneInAny links groups f
+  pub none_found : NoneAccepting links (Contains off) (substituted set neg true f) → NoneInAny links crossed (substituted set neg false f) → NoneInAny links groups f
   none_found none_off none_crossed group listed cycle accepting = elim (are.others group listed) [
     | inl there ↦ go there (list_any (on_side set neg) (map (marks_of links) cycle)) refl
     | inr none ↦ none cycle accepting
@@ -107,10 +107,10 @@ module _ (links : List Link) (set : ℕ) (neg : Bool) (f : FormulaTree) (groups 
           })
 
   -- what is found in the groups that have an edge on the side, once nothing is found off it
-  pub finds_of_split : NoneAccepting links (Contains off) (taken set neg true f) → (found : Option (List LiveEdge)) → FindsInAny links crossed (taken set neg false f) found
+  pub finds_of_split : NoneAccepting links (Contains off) (substituted set neg true f) → (found : Option (List EdgeRef)) → FindsInAny links crossed (substituted set neg false f) found
       → FindsInAny links groups f found
   finds_of_split none_off None none = none_found none_off none
   finds_of_split none_off (Some group) carrier = found_crossed group carrier
 
-pub within_all : (P : LiveEdge → Type 0) (groups : List (List LiveEdge)) → All (All P) groups → (group : List LiveEdge) → Contains groups group → (e : LiveEdge) → Contains group e → P e
+pub within_all : (P : EdgeRef → Type 0) (groups : List (List EdgeRef)) → All (All P) groups → (group : List EdgeRef) → Contains groups group → (e : EdgeRef) → Contains group e → P e
 within_all P groups all group listed e here = All-contains P group e (All-contains (All P) groups group all listed) here

@@ -6,11 +6,11 @@ use Rattle.aut_base.specs.declared.formula.Formula.TheVariants.{And, Or}
 use Rattle.aut_base.specs.declared.formula.Formulas.{Formulas}
 use Rattle.aut_base.proofs.trees.FormulaTrees.{formula_tree-And, formula_tree-Or}
 use Rattle.acc_forms.proofs.Parts.{met-And, met-Or}
-use Rattle.acc_forms.specs.Joined.{all_of, some_of}
+use Rattle.acc_forms.specs.Joined.{and_of, some_of}
 use Rattle.lasso_emptiness.specs.declared.verdict.Verdict.{Verdict}
 use Rattle.lasso_emptiness.specs.declared.verdict.Verdict.TheVariants.{Met, Never, Open}
 use Rattle.lasso_emptiness.specs.inner.Judged.{AreAllJudged, IsJudged, IsOneJudged, has_side, some_has_side}
-use Rattle.lasso_emptiness.specs.inner.Taken.{all_taken, taken}
+use Rattle.lasso_emptiness.specs.inner.Taken.{all_taken, substituted}
 
 some_has_side-trees : (set : ℕ) (neg : Bool) (fs : List FormulaTree) → some_has_side set neg (trees fs) ≡ list_any (has_side set neg) fs
 some_has_side-trees set neg [] = refl
@@ -35,19 +35,22 @@ judged-Or cycle p Met parts = met-Or cycle p ∙ parts
 judged-Or cycle p Never parts = λ some within. met-Or some p ∙ parts some within
 judged-Or cycle p (Open side) parts = (has_side-Or side.set side.neg p ∙ parts.0, met-Or cycle p ∙ parts.1)
 
-all_taken-trees : (set : ℕ) (neg value : Bool) (fs : List FormulaTree) → all_taken set neg value (trees fs) ≡ trees (map (taken set neg value) fs)
+all_taken-trees : (set : ℕ) (neg value : Bool) (fs : List FormulaTree) → all_taken set neg value (trees fs) ≡ trees (map (substituted set neg value) fs)
 all_taken-trees set neg value [] = refl
-all_taken-trees set neg value (f ∷ fs) = ap (λ rest. more (taken set neg value f) rest) (all_taken-trees set neg value fs)
+all_taken-trees set neg value (f ∷ fs) = ap (λ rest. more (substituted set neg value f) rest) (all_taken-trees set neg value fs)
 
 -- the condition whose parts have the `Fin` decided
-pub taken-And : (set : ℕ) (neg value : Bool) (p q : Formulas) → formula_list q ≡ map (taken set neg value) (formula_list p) → formula_tree (And q) ≡ taken set neg value (formula_tree (And p))
+pub taken-And : (set : ℕ) (neg value : Bool) (p q : Formulas) → formula_list q ≡ map (substituted set neg value) (formula_list p)
+    → formula_tree (And q) ≡ substituted set neg value (formula_tree (And p))
 taken-And set neg value p q parts =
-    formula_tree-And q ∙ ap all_of parts
-    ∙ sym (ap (taken set neg value) (formula_tree-And p)
-    ∙ ap (λ rest. FormulaTree.And (taken set neg value (formula_parts p).first) (taken set neg value (formula_parts p).second) rest) (all_taken-trees set neg value (formula_parts p).others))
+    formula_tree-And q ∙ ap and_of parts
+    ∙ sym (ap (substituted set neg value) (formula_tree-And p)
+    ∙ ap (λ rest. FormulaTree.And (substituted set neg value (formula_parts p).first) (substituted set neg value (formula_parts p).second) rest)
+    (all_taken-trees set neg value (formula_parts p).others))
 
-pub taken-Or : (set : ℕ) (neg value : Bool) (p q : Formulas) → formula_list q ≡ map (taken set neg value) (formula_list p) → formula_tree (Or q) ≡ taken set neg value (formula_tree (Or p))
+pub taken-Or : (set : ℕ) (neg value : Bool) (p q : Formulas) → formula_list q ≡ map (substituted set neg value) (formula_list p) → formula_tree (Or q) ≡ substituted set neg value (formula_tree (Or p))
 taken-Or set neg value p q parts =
     formula_tree-Or q ∙ ap some_of parts
-    ∙ sym (ap (taken set neg value) (formula_tree-Or p)
-    ∙ ap (λ rest. FormulaTree.Or (taken set neg value (formula_parts p).first) (taken set neg value (formula_parts p).second) rest) (all_taken-trees set neg value (formula_parts p).others))
+    ∙ sym (ap (substituted set neg value) (formula_tree-Or p)
+    ∙ ap (λ rest. FormulaTree.Or (substituted set neg value (formula_parts p).first) (substituted set neg value (formula_parts p).second) rest)
+    (all_taken-trees set neg value (formula_parts p).others))

@@ -13,29 +13,29 @@ use Rattle.aut_base.specs.Acceptance.{Accepts, IsPath}
 use Rattle.aut_base.specs.Formula.{FormulaTree, met}
 use Rattle.aut_base.specs.Word.{IsReduced, NameSet, SpellsSame, copies}
 use Rattle.aut_base.specs.declared.letter.Lasso.{Lasso}
-use Rattle.aut_core.specs.Core.{Core, IsCore, automaton_of}
+use Rattle.aut_core.specs.SymbolicAutomata.{SymbolicAutomaton, IsWellFormedSymbolic, automaton_of}
 use Rattle.aut_core.specs.declared.link.Link.{Link}
 use Rattle.graph_walk.specs.Reach.{ReachedFrom}
 use Rattle.graph_walk.proofs.WalkLemmas.{reach_none, reach_then}
 use Rattle.lasso_emptiness.specs.Emptiness.{AcceptsNothing, IsAcceptedWord}
-use Rattle.lasso_emptiness.specs.declared.live.LiveEdge.{LiveEdge}
-use Rattle.lasso_emptiness.specs.inner.Carriers.{Finds, IsCarrier}
+use Rattle.lasso_emptiness.specs.declared.live.EdgeRef.{EdgeRef}
+use Rattle.lasso_emptiness.specs.inner.AcceptingComponents.{Finds, IsAcceptingComponent}
 use Rattle.lasso_emptiness.specs.inner.Edges.{arc_of}
 use Rattle.lasso_emptiness.specs.inner.Letters.{AreLettersOf, IsOwnWord}
 use Rattle.lasso_emptiness.specs.inner.Live.{ArePassable, AreReachedEdges, IsPassable, IsReachedEdge}
-use Rattle.lasso_emptiness.specs.inner.Tours.{IsStem, edge_at}
+use Rattle.lasso_emptiness.specs.inner.Tours.{IsStem, listed_edge}
 use Rattle.lasso_emptiness.specs.inner.Trails.{IsAccepting, IsTrail, NoneAccepting}
 use Rattle.lasso_emptiness.proofs.trails.Lettered.{letters_long, letters_own, reads_along, trail_of}
 use Rattle.lasso_emptiness.proofs.trails.Trails.{trail_weaker}
 use Rattle.word_syntax.specs.Printing.{HoldsOnly}
 
 -- the first edge of a path begins where the path does
-pub head_from : (Kind : LiveEdge → Type 0) (p q : ℕ) (es : List LiveEdge) → 0 < length es → IsTrail Kind p es q → (edge_at es 0).from ≡ p
+pub head_from : (Kind : EdgeRef → Type 0) (p q : ℕ) (es : List EdgeRef) → 0 < length es → IsTrail Kind p es q → (listed_edge es 0).from ≡ p
 head_from Kind p q [] some trail = absurd (omega arith)
 head_from Kind p q (e ∷ es) some trail = trail.1
 
 -- the word of a stem and a closed path
-pub own_word : (c : Core) (passable stem cycle : List LiveEdge) (state : ℕ) (w : Lasso) → state ≡ (edge_at cycle 0).from → IsStem c.starts passable state stem
+pub own_word : (c : SymbolicAutomaton) (passable stem cycle : List EdgeRef) (state : ℕ) (w : Lasso) → state ≡ (listed_edge cycle 0).from → IsStem c.starts passable state stem
     → IsAccepting c.links (IsPassable c) c.formula cycle → AreLettersOf c stem w.stem → AreLettersOf c cycle w.cycle → IsOwnWord (automaton_of c) w
 own_word c passable stem cycle state w at leads accepting stem_letters cycle_letters =
     let around = accepting.state in
@@ -66,7 +66,7 @@ own_word c passable stem cycle state w at leads accepting stem_letters cycle_let
     }
 
 -- a path from a reached state goes along edges that leave reached states, and its end is reached
-pub reached_on : (starts : List ℕ) (edges reached : List LiveEdge) → AreReachedEdges starts edges reached → (p q : ℕ) (es : List LiveEdge) → ReachedFrom (map arc_of edges) starts p
+pub reached_on : (starts : List ℕ) (edges reached : List EdgeRef) → AreReachedEdges starts edges reached → (p q : ℕ) (es : List EdgeRef) → ReachedFrom (map arc_of edges) starts p
     → IsTrail (Contains edges) p es q → IsTrail (Contains reached) p es q × ReachedFrom (map arc_of edges) starts q
 reached_on starts edges reached are p q [] from trail = (trail, subst (ReachedFrom (map arc_of edges) starts) trail from)
 reached_on starts edges reached are p q (e ∷ es) from trail =
@@ -80,7 +80,7 @@ reached_on starts edges reached are p q (e ∷ es) from trail =
     ((are.added e trail.0 here, trail.1, rest.0), rest.1)
 
 -- where no closed path along reached edges is accepting, nothing is accepted
-pub accepts_nothing : (c : Core) → IsCore c → (passable reached : List LiveEdge) → ArePassable c passable → AreReachedEdges c.starts passable reached
+pub accepts_nothing : (c : SymbolicAutomaton) → IsWellFormedSymbolic c → (passable reached : List EdgeRef) → ArePassable c passable → AreReachedEdges c.starts passable reached
     → NoneAccepting c.links (Contains reached) c.formula → AcceptsNothing (automaton_of c)
 accepts_nothing c is passable reached are picked none u v accepts =
     let way = trail_of c is accepts.start accepts.state (u ++ copies accepts.turns v) accepts.way accepts.leads in
@@ -130,7 +130,7 @@ own_same P u v x y endless endless' same in_stem in_cycle = placed_all P (u ++ v
     grown a b some = let one : 1 ≤ b = omega arith in omega (arith, mul-le-mul_left a one)
 
 -- the reduced word of an accepted one
-pub reduced_word : (c : Core) (w new : Lasso) → 0 < length w.cycle → 0 < length new.cycle → IsOwnWord (automaton_of c) w → SpellsSame new.stem new.cycle w.stem w.cycle
+pub reduced_word : (c : SymbolicAutomaton) (w new : Lasso) → 0 < length w.cycle → 0 < length new.cycle → IsOwnWord (automaton_of c) w → SpellsSame new.stem new.cycle w.stem w.cycle
     → IsReduced new.stem new.cycle → (Accepts (automaton_of c) new.stem new.cycle ↔ Accepts (automaton_of c) w.stem w.cycle) → IsAcceptedWord (automaton_of c) new
 reduced_word c w new endless endless' own same reduced accepts = record {
   reduced = reduced;
@@ -145,13 +145,13 @@ reduced_word c w new endless endless' own same reduced accepts = record {
     back xs ys all = each_there (HoldsOnly c.names) ys (λ x here. All-contains (HoldsOnly c.names) (xs ++ ys) x all (Contains-append_right xs ys x here))
 
 -- the answer of a search, said of the automaton's own parts
-pub finds_in : (links own : List Link) (slice edges : List LiveEdge) (f g : FormulaTree) (found : Option (List LiveEdge)) → links ≡ own → slice ≡ edges → f ≡ g
+pub finds_in : (links own : List Link) (slice edges : List EdgeRef) (f g : FormulaTree) (found : Option (List EdgeRef)) → links ≡ own → slice ≡ edges → f ≡ g
     → Finds links (Contains slice) f found → Finds own (Contains edges) g found
 finds_in links own slice edges f g found links_are edges_are f_is finds =
     subst (λ h. Finds own (Contains edges) h found) f_is (subst (λ es. Finds own (Contains es) f found) edges_are (subst (λ (ls : List Link). Finds ls (Contains slice) f found) links_are finds))
 
 -- an edge that is reached is one of the edges, and leaves a reached state
-pub leaves_reached : (starts : List ℕ) (edges reached : List LiveEdge) → AreReachedEdges starts edges reached → (e : LiveEdge) → Contains reached e
+pub leaves_reached : (starts : List ℕ) (edges reached : List EdgeRef) → AreReachedEdges starts edges reached → (e : EdgeRef) → Contains reached e
     → Contains edges e × ReachedFrom (map arc_of edges) starts e.from
 leaves_reached starts edges reached picked e here = elim (picked.nothing_else e here) [
   | inl old ↦ absurd (none_there e old)
@@ -159,8 +159,9 @@ leaves_reached starts edges reached picked e here = elim (picked.nothing_else e 
 ]
 
 -- what a search among reached edges answers, said of the automaton
-pub component_said : (c : Core) → IsCore c → (passable reached : List LiveEdge) → ArePassable c passable → AreReachedEdges c.starts passable reached → (found : Option (List LiveEdge))
-    → Finds c.links (Contains reached) c.formula found → MatchOption found (AcceptsNothing (automaton_of c)) (IsCarrier c.links (IsReachedEdge c passable) c.formula)
+pub component_said : (c : SymbolicAutomaton) → IsWellFormedSymbolic c → (passable reached : List EdgeRef) → ArePassable c passable → AreReachedEdges c.starts passable reached
+    → (found : Option (List EdgeRef))
+    → Finds c.links (Contains reached) c.formula found → MatchOption found (AcceptsNothing (automaton_of c)) (IsAcceptingComponent c.links (IsReachedEdge c passable) c.formula)
 component_said c is passable reached are picked None none = accepts_nothing c is passable reached are picked none
 component_said c is passable reached are picked (Some group) carrier = record {
   some = carrier.some;

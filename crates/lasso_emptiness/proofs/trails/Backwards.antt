@@ -4,13 +4,13 @@ use Rattle.std.specs.Prelude.{IsTrue}
 use Rattle.std.specs.List.{All, Contains}
 use Rattle.std.proofs.lemmas.List.Elements.{All-map, All-weaker}
 use Rattle.aut_base.proofs.lists.Members.{first_there, from_map, none_there, there_cases, there_map}
-use Rattle.graph_walk.specs.Reach.{AreReached}
+use Rattle.graph_walk.specs.Reach.{AreReachFlags}
 use Rattle.graph_walk.specs.Walk.{IsWalk, Reaches}
 use Rattle.graph_walk.proofs.WalkLemmas.{reach_none, reach_then}
-use Rattle.lasso_emptiness.specs.declared.live.LiveEdge.{LiveEdge}
+use Rattle.lasso_emptiness.specs.declared.live.EdgeRef.{EdgeRef}
 use Rattle.lasso_emptiness.specs.inner.Edges.{arc_of, back_arc_of}
 
-module _ (edges : List LiveEdge) (f g : LiveEdge → ℕ × ℕ) (tails : (e : LiveEdge) → (f e).0 ≡ (g e).1) (heads : (e : LiveEdge) → (f e).1 ≡ (g e).0) where
+module _ (edges : List EdgeRef) (f g : EdgeRef → ℕ × ℕ) (tails : (e : EdgeRef) → (f e).0 ≡ (g e).1) (heads : (e : EdgeRef) → (f e).1 ≡ (g e).0) where
   turned_walk : (p q : ℕ) (walk : List (ℕ × ℕ)) → IsWalk (map f edges) p walk q → Reaches (map g edges) q p
   turned_walk p q [] leads = subst (λ x. Reaches (map g edges) x p) leads (reach_none (map g edges) p)
   turned_walk p q (a ∷ walk) leads =
@@ -23,17 +23,17 @@ module _ (edges : List LiveEdge) (f g : LiveEdge → ℕ × ℕ) (tails : (e : L
   pub turned : (p q : ℕ) → Reaches (map f edges) p q → Reaches (map g edges) q p
   turned p q reaches = turned_walk p q reaches.walk reaches.leads
 
-pub has_nodes_back : (nodes states : ℕ) (arcs : List (ℕ × ℕ)) (edges : List LiveEdge) → nodes ≡ states → arcs ≡ map back_arc_of edges
-    → All (λ (e : LiveEdge). (e.from < states) × (e.to < states)) edges → All (λ (a : ℕ × ℕ). (a.0 < nodes) × (a.1 < nodes)) arcs
+pub has_nodes_back : (nodes states : ℕ) (arcs : List (ℕ × ℕ)) (edges : List EdgeRef) → nodes ≡ states → arcs ≡ map back_arc_of edges
+    → All (λ (e : EdgeRef). (e.from < states) × (e.to < states)) edges → All (λ (a : ℕ × ℕ). (a.0 < nodes) × (a.1 < nodes)) arcs
 has_nodes_back nodes states arcs edges same made ends =
     subst (All (λ (a : ℕ × ℕ). (a.0 < nodes) × (a.1 < nodes))) (sym made)
     (subst (λ n. All (λ (a : ℕ × ℕ). (a.0 < n) × (a.1 < n)) (map back_arc_of edges)) (sym same)
     (All-map (λ (a : ℕ × ℕ). (a.0 < states) × (a.1 < states)) back_arc_of edges
-    (All-weaker (λ (e : LiveEdge). (e.from < states) × (e.to < states)) (λ (e : LiveEdge). (e.to < states) × (e.from < states)) (λ e both. (both.1, both.0)) edges ends)))
+    (All-weaker (λ (e : EdgeRef). (e.from < states) × (e.to < states)) (λ (e : EdgeRef). (e.to < states) × (e.from < states)) (λ e both. (both.1, both.0)) edges ends)))
 
 -- what is reached backwards from a state reaches it
-pub reaching_exact : (nodes states : ℕ) (arcs : List (ℕ × ℕ)) (from : List ℕ) (edges : List LiveEdge) (state : ℕ) → nodes ≡ states → arcs ≡ map back_arc_of edges → from ≡ state ∷ []
-    → (flags : List Bool) → AreReached nodes arcs from flags → (p : ℕ) → p < states → IsTrue (get_or flags p false) ↔ Reaches (map arc_of edges) p state
+pub reaching_exact : (nodes states : ℕ) (arcs : List (ℕ × ℕ)) (from : List ℕ) (edges : List EdgeRef) (state : ℕ) → nodes ≡ states → arcs ≡ map back_arc_of edges → from ≡ state ∷ []
+    → (flags : List Bool) → AreReachFlags nodes arcs from flags → (p : ℕ) → p < states → IsTrue (get_or flags p false) ↔ Reaches (map arc_of edges) p state
 reaching_exact nodes states arcs from edges state nodes_are arcs_are from_is flags are p below = (there, back)
   where
     inside : p < nodes

@@ -9,17 +9,17 @@ use Rattle.aut_base.proofs.numbers.Truth.{same_truth}
 use Rattle.aut_base.proofs.words.SameEdges.{Alike, met_alike}
 use Rattle.aut_base.specs.Formula.{FormulaTree}
 use Rattle.aut_base.specs.Word.{NameSet}
-use Rattle.aut_core.specs.Core.{Core, IsCore, automaton_of}
+use Rattle.aut_core.specs.SymbolicAutomata.{SymbolicAutomaton, IsWellFormedSymbolic, automaton_of}
 use Rattle.aut_core.specs.declared.link.Link.{Link}
 use Rattle.graph_walk.specs.Walk.{IsWalk, Reaches}
 use Rattle.lasso_emptiness.specs.Emptiness.{AcceptsNothing, AcceptsSome}
-use Rattle.lasso_emptiness.specs.declared.live.LiveEdge.{LiveEdge}
-use Rattle.lasso_emptiness.specs.inner.Carriers.{IsCarrier}
+use Rattle.lasso_emptiness.specs.declared.live.EdgeRef.{EdgeRef}
+use Rattle.lasso_emptiness.specs.inner.AcceptingComponents.{IsAcceptingComponent}
 use Rattle.lasso_emptiness.specs.inner.Edges.{arc_of, marks_of}
-use Rattle.lasso_emptiness.specs.inner.Groups.{IsJoined}
+use Rattle.lasso_emptiness.specs.inner.Groups.{IsStronglyConnected}
 use Rattle.lasso_emptiness.specs.inner.Letters.{AreLettersOf, IsOwnWord}
 use Rattle.lasso_emptiness.specs.inner.Live.{ArePassable, IsPassable, IsReachedEdge}
-use Rattle.lasso_emptiness.specs.inner.Tours.{IsTour, edge_at}
+use Rattle.lasso_emptiness.specs.inner.Tours.{IsTour, listed_edge}
 use Rattle.lasso_emptiness.specs.inner.Trails.{IsAccepting, IsTrail}
 use Rattle.lasso_emptiness.proofs.trails.Accepted.{own_word}
 use Rattle.lasso_emptiness.proofs.trails.Lettered.{letter_for, letters_long}
@@ -27,53 +27,53 @@ use Rattle.lasso_emptiness.proofs.trails.Touring.{ToursSoFar, tours_all, tours_m
 use Rattle.lasso_emptiness.proofs.trails.Trails.{trail_kind, trail_weaker}
 
 -- where a walk leads a path does
-path_along : (edges : List LiveEdge) (p q : ℕ) (walk : List (ℕ × ℕ)) → IsWalk (map arc_of edges) p walk q → (way : List LiveEdge) × IsTrail (Contains edges) p way q
+path_along : (edges : List EdgeRef) (p q : ℕ) (walk : List (ℕ × ℕ)) → IsWalk (map arc_of edges) p walk q → (way : List EdgeRef) × IsTrail (Contains edges) p way q
 path_along edges p q [] leads = ([], leads)
 path_along edges p q (arc ∷ walk) leads =
     let edge = from_map arc_of edges arc leads.0 in
     let rest = path_along edges edge.0.to q walk (subst (λ x. IsWalk (map arc_of edges) x walk q) (sym (ap (λ (a : ℕ × ℕ). a.1) edge.2)) leads.2) in
     (edge.0 ∷ rest.0, (edge.1, ap (λ (a : ℕ × ℕ). a.0) edge.2 ∙ leads.1, rest.1))
 
-path_to : (edges : List LiveEdge) (p q : ℕ) → Reaches (map arc_of edges) p q → (way : List LiveEdge) × IsTrail (Contains edges) p way q
+path_to : (edges : List EdgeRef) (p q : ℕ) → Reaches (map arc_of edges) p q → (way : List EdgeRef) × IsTrail (Contains edges) p way q
 path_to edges p q reaches = path_along edges p q reaches.walk reaches.leads
 
 -- a path that passes the first of the edges, as many as this
-record PassesFirst (edges : List LiveEdge) (i first : ℕ) : Type 0 where
-  cycle : List LiveEdge
+record PassesFirst (edges : List EdgeRef) (i first : ℕ) : Type 0 where
+  cycle : List EdgeRef
   at : ℕ
   so_far : ToursSoFar edges (take i edges) cycle first at
 
 -- a closed path that passes all of them
-tour_of_all : (edges : List LiveEdge) → 0 < length edges → IsJoined edges → (cycle : List LiveEdge) × IsTour edges edges cycle
+tour_of_all : (edges : List EdgeRef) → 0 < length edges → IsStronglyConnected edges → (cycle : List EdgeRef) × IsTour edges edges cycle
 tour_of_all edges some joined =
     let whole = passes (length edges) (omega arith) in
-    let back = path_to edges whole.at first (whole.so_far.goes_on (edge_at edges 0) first_here) in (
+    let back = path_to edges whole.at first (whole.so_far.goes_on (listed_edge edges 0) first_here) in (
       whole.cycle ++ back.0,
       tours_all edges edges whole.cycle (whole.cycle ++ back.0) (length edges) first whole.at some (omega arith) whole.so_far
           (record { way = back.0; added = refl; leads = back.1 }),
     )
   where
     first : ℕ
-    first = (edge_at edges 0).from
+    first = (listed_edge edges 0).from
 
-    first_here : Contains edges (edge_at edges 0)
+    first_here : Contains edges (listed_edge edges 0)
     first_here = Contains-get_or edges 0 _ some
 
     inside : All (Contains edges) edges
     inside = All-contains_itself edges
 
     passes : (i : ℕ) → i ≤ length edges → PassesFirst edges i first
-    passes zero most = record { cycle = []; at = first; so_far = tours_none edges (edge_at edges 0) joined first_here }
+    passes zero most = record { cycle = []; at = first; so_far = tours_none edges (listed_edge edges 0) joined first_here }
     passes (suc i) most =
         let within : i < length edges = omega (arith, most) in
         let one_more : i + 1 ≡ suc i = omega arith in
         let before = passes i (omega (arith, most)) in
-        let way = path_to edges before.at (edge_at edges i).from (tours_reaches edges edges joined inside i within before.cycle first before.at before.so_far) in
+        let way = path_to edges before.at (listed_edge edges i).from (tours_reaches edges edges joined inside i within before.cycle first before.at before.so_far) in
         record {
-          cycle = (before.cycle ++ way.0) ++ edge_at edges i ∷ [];
-          at = (edge_at edges i).to;
-          so_far = subst (λ k. ToursSoFar edges (take k edges) ((before.cycle ++ way.0) ++ edge_at edges i ∷ []) first (edge_at edges i).to) one_more
-              (tours_more edges edges joined inside i within before.cycle (before.cycle ++ way.0) ((before.cycle ++ way.0) ++ edge_at edges i ∷ []) first before.at before.so_far
+          cycle = (before.cycle ++ way.0) ++ listed_edge edges i ∷ [];
+          at = (listed_edge edges i).to;
+          so_far = subst (λ k. ToursSoFar edges (take k edges) ((before.cycle ++ way.0) ++ listed_edge edges i ∷ []) first (listed_edge edges i).to) one_more
+              (tours_more edges edges joined inside i within before.cycle (before.cycle ++ way.0) ((before.cycle ++ way.0) ++ listed_edge edges i ∷ []) first before.at before.so_far
               (record { way = way.0; added = refl; leads = way.1 }) refl);
         }
 
@@ -88,12 +88,12 @@ alike_items xs ys to from = record {
 }
 
 -- the closed path through all edges of a carrier is accepting
-carried_path : (links : List Link) (Kind : LiveEdge → Type 0) (f : FormulaTree) (group : List LiveEdge) → IsCarrier links Kind f group
-    → (cycle : List LiveEdge) × IsAccepting links Kind f cycle
+carried_path : (links : List Link) (Kind : EdgeRef → Type 0) (f : FormulaTree) (group : List EdgeRef) → IsAcceptingComponent links Kind f group
+    → (cycle : List EdgeRef) × IsAccepting links Kind f cycle
 carried_path links Kind f group carrier =
     let tour = tour_of_all group carrier.some carrier.joined in
     let cycle = tour.0 in
-    let on : (e : LiveEdge) → Contains cycle e → Contains group e = λ e here. trail_kind (Contains group) tour.1.state tour.1.state cycle e tour.1.closed here in (
+    let on : (e : EdgeRef) → Contains cycle e → Contains group e = λ e here. trail_kind (Contains group) tour.1.state tour.1.state cycle e tour.1.closed here in (
       cycle,
       record {
         some = tour.1.some;
@@ -105,14 +105,14 @@ carried_path links Kind f group carrier =
       },
     )
   where
-    marked : (es ds : List LiveEdge) → ((e : LiveEdge) → Contains es e → Contains ds e) → (marks : List ℕ) → Contains (map (marks_of links) es) marks
+    marked : (es ds : List EdgeRef) → ((e : EdgeRef) → Contains es e → Contains ds e) → (marks : List ℕ) → Contains (map (marks_of links) es) marks
         → Contains (map (marks_of links) ds) marks
     marked es ds inside marks here =
         let edge = from_map (marks_of links) es marks here in
         subst (Contains (map (marks_of links) ds)) edge.2 (there_map (marks_of links) ds edge.0 (inside edge.0 edge.1))
 
 -- letters for edges whose labels are not false
-letters_for : (c : Core) → IsCore c → (es : List LiveEdge) → ((e : LiveEdge) → Contains es e → IsPassable c e) → (letters : List NameSet) × AreLettersOf c es letters
+letters_for : (c : SymbolicAutomaton) → IsWellFormedSymbolic c → (es : List EdgeRef) → ((e : EdgeRef) → Contains es e → IsPassable c e) → (letters : List NameSet) × AreLettersOf c es letters
 letters_for c is [] passable = ([], _)
 letters_for c is (e ∷ es) passable =
     let letter = letter_for c is e (passable e (first_there e es)) in
@@ -120,14 +120,14 @@ letters_for c is (e ∷ es) passable =
     (letter.0 ∷ rest.0, (letter.1, rest.1))
 
 -- where such edges are reached some word is accepted
-pub carrier_accepts : (c : Core) → IsCore c → (edges group : List LiveEdge) → ArePassable c edges → IsCarrier c.links (IsReachedEdge c edges) c.formula group
+pub carrier_accepts : (c : SymbolicAutomaton) → IsWellFormedSymbolic c → (edges group : List EdgeRef) → ArePassable c edges → IsAcceptingComponent c.links (IsReachedEdge c edges) c.formula group
     → AcceptsSome (automaton_of c)
 carrier_accepts c is edges group are carrier =
     let carried = carried_path c.links (IsReachedEdge c edges) c.formula group carrier in
     let cycle = carried.0 in
-    let on : (e : LiveEdge) → Contains cycle e → IsReachedEdge c edges e =
+    let on : (e : EdgeRef) → Contains cycle e → IsReachedEdge c edges e =
     λ e here. trail_kind (IsReachedEdge c edges) carried.1.state carried.1.state cycle e carried.1.closed here in
-    let first = edge_at cycle 0 in
+    let first = listed_edge cycle 0 in
     let reached = (on first (Contains-get_or cycle 0 _ carried.1.some)).reached in
     let way = path_to edges reached.start first.from reached.reached in
     let stem = letters_for c is way.0 (λ e here. are.each e (trail_kind (Contains edges) reached.start first.from way.0 e way.1 here)) in
@@ -144,7 +144,7 @@ carrier_accepts c is edges group are carrier =
     record { stem = stem.0; cycle = loop.0; accepts = own.accepts }
 
 -- what the test for such edges says
-pub some_accepted : (c : Core) → IsCore c → (edges : List LiveEdge) (found : Option (List LiveEdge)) (some : Bool) → ArePassable c edges → some ≡ is_some found
-    → MatchOption found (AcceptsNothing (automaton_of c)) (IsCarrier c.links (IsReachedEdge c edges) c.formula) → IsTrue some ↔ AcceptsSome (automaton_of c)
+pub some_accepted : (c : SymbolicAutomaton) → IsWellFormedSymbolic c → (edges : List EdgeRef) (found : Option (List EdgeRef)) (some : Bool) → ArePassable c edges → some ≡ is_some found
+    → MatchOption found (AcceptsNothing (automaton_of c)) (IsAcceptingComponent c.links (IsReachedEdge c edges) c.formula) → IsTrue some ↔ AcceptsSome (automaton_of c)
 some_accepted c is edges None some are tells none = ((λ holds. absurd (true≢false (sym holds ∙ tells))), (λ word. absurd (none word.stem word.cycle word.accepts)))
 some_accepted c is edges (Some group) some are tells carrier = ((λ holds. carrier_accepts c is edges group are carrier), (λ word. tells))

@@ -9,17 +9,17 @@ use Rattle.aut_base.proofs.lists.Lists.{slice_get-at}
 use Rattle.aut_base.proofs.lists.Members.{first_there, from_map, later_there, none_there, placed_there, there_cases, there_map}
 use Rattle.aut_base.proofs.canonical.ValuationLetters.{letter_of_holds, valuation_at, valuation_at_holds}
 use Rattle.aut_base.specs.Acceptance.{IsPath}
-use Rattle.aut_base.specs.Automaton.{TreeEdge}
+use Rattle.aut_base.specs.Automaton.{LabelledEdge}
 use Rattle.aut_base.specs.Label.{LabelTree, holds_at, truth}
 use Rattle.aut_base.specs.Valuation.{holds_in, letter_of, names_on, truth_on}
 use Rattle.aut_base.specs.Word.{NameSet}
-use Rattle.aut_core.specs.Core.{Core, IsCore, automaton_of, edge_of}
+use Rattle.aut_core.specs.SymbolicAutomata.{SymbolicAutomaton, IsWellFormedSymbolic, automaton_of, edge_of}
 use Rattle.aut_core.specs.declared.link.Link.{Link}
 use Rattle.label_guards.specs.Guards.{IsNeverMet}
 use Rattle.label_guards.specs.Leasts.{IsLeastLetter}
 use Rattle.label_guards.specs.Store.{Store, label_in}
-use Rattle.lasso_emptiness.specs.declared.live.LiveEdge.{LiveEdge}
-use Rattle.lasso_emptiness.specs.inner.Edges.{IsWithin, marks_of}
+use Rattle.lasso_emptiness.specs.declared.live.EdgeRef.{EdgeRef}
+use Rattle.lasso_emptiness.specs.inner.Edges.{IsEdgeInRange, marks_of}
 use Rattle.lasso_emptiness.specs.inner.Letters.{AreLettersOf, IsLetterOf}
 use Rattle.lasso_emptiness.specs.inner.Live.{IsEdgeAt, IsPassable}
 use Rattle.lasso_emptiness.specs.inner.Trails.{IsTrail}
@@ -39,7 +39,8 @@ own_names (n ∷ names) (true ∷ v) name here = elim (there_cases n (names_on n
 ]
 
 -- the letter of a valuation that meets a link's label is one for its edge
-letter_of_valuation : (c : Core) → IsCore c → (e : LiveEdge) (l : Link) → IsEdgeAt c e l → (v : List Bool) → length v ≡ c.store.names → truth_on (label_in c.store l.guard) v ≡ true
+letter_of_valuation : (c : SymbolicAutomaton) → IsWellFormedSymbolic c → (e : EdgeRef) (l : Link) → IsEdgeAt c e l → (v : List Bool) → length v ≡ c.store.names
+    → truth_on (label_in c.store l.guard) v ≡ true
     → IsLetterOf c e (letter_of c.names v)
 letter_of_valuation c is e l at v size met =
     let all : length v ≡ length c.names = size ∙ is.parts.store_names in
@@ -51,7 +52,8 @@ letter_of_valuation c is e l at v size met =
     }
 
 -- the least letter of a link's label is one for its edge
-pub least_letter_of : (c : Core) → IsCore c → (e : LiveEdge) (l : Link) (letter : NameSet) → IsEdgeAt c e l → IsLeastLetter c.store c.names l.guard letter → IsLetterOf c e letter
+pub least_letter_of : (c : SymbolicAutomaton) → IsWellFormedSymbolic c → (e : EdgeRef) (l : Link) (letter : NameSet) → IsEdgeAt c e l → IsLeastLetter c.store c.names l.guard letter
+    → IsLetterOf c e letter
 least_letter_of c is e l letter at least =
     subst (IsLetterOf c e) (sym least.letter_of) (letter_of_valuation c is e l at least.valuation least.least.size least.least.is_true)
 
@@ -80,7 +82,7 @@ some_valuation (suc n) p = elim (some_valuation n (λ v. p (true ∷ v))) [
     each on off (false ∷ v) size = off v (omega (arith, size))
 
 -- a letter for an edge whose label is not false
-pub letter_for : (c : Core) → IsCore c → (e : LiveEdge) → IsPassable c e → (letter : NameSet) × IsLetterOf c e letter
+pub letter_for : (c : SymbolicAutomaton) → IsWellFormedSymbolic c → (e : EdgeRef) → IsPassable c e → (letter : NameSet) × IsLetterOf c e letter
 letter_for c is e passable =
     let l = passable.link in
     elim (some_valuation c.store.names (truth_on (label_in c.store l.guard))) [
@@ -89,14 +91,15 @@ letter_for c is e passable =
     ]
 
 -- a label that some letter meets is not false
-pub met_by_letter : (c : Core) → IsCore c → (l : Link) (letter : NameSet) → truth (holds_at c.names letter) (label_in c.store l.guard) ≡ true → IsNeverMet c.store l.guard → ⊥
+pub met_by_letter : (c : SymbolicAutomaton) → IsWellFormedSymbolic c → (l : Link) (letter : NameSet) → truth (holds_at c.names letter) (label_in c.store l.guard) ≡ true
+    → IsNeverMet c.store l.guard → ⊥
 met_by_letter c is l letter meets never =
     let size : length (valuation_at c.names letter) ≡ c.store.names = length-map c.names _ ∙ sym is.parts.store_names in
     true≢false (sym meets ∙ truth_agrees (holds_at c.names letter) (holds_in (valuation_at c.names letter)) (label_in c.store l.guard) (valuation_at_holds c.names letter)
     ∙ never (valuation_at c.names letter) size)
 
 -- an edge's marks are those of its link
-marks_at : (c : Core) (e : LiveEdge) (l : Link) → IsEdgeAt c e l → l.marks ≡ marks_of c.links e
+marks_at : (c : SymbolicAutomaton) (e : EdgeRef) (l : Link) → IsEdgeAt c e l → l.marks ≡ marks_of c.links e
 marks_at c e l at =
     let within = slice_get_within c.links e.link l at.stands in
     let inside : e.link < length (map (λ (m : Link). m.marks) c.links) = omega (arith, within, length-map c.links (λ (m : Link). m.marks)) in
@@ -104,13 +107,13 @@ marks_at c e l at =
     ∙ ap (λ (m : Link). m.marks) (get_or_from_slice_get c.links e.link l l at.stands))
 
 -- one letter more
-pub letters_push : (c : Core) (es : List LiveEdge) (xs : List NameSet) (e : LiveEdge) (x : NameSet) → AreLettersOf c es xs → IsLetterOf c e x → AreLettersOf c (es ++ e ∷ []) (xs ++ x ∷ [])
+pub letters_push : (c : SymbolicAutomaton) (es : List EdgeRef) (xs : List NameSet) (e : EdgeRef) (x : NameSet) → AreLettersOf c es xs → IsLetterOf c e x → AreLettersOf c (es ++ e ∷ []) (xs ++ x ∷ [])
 letters_push c [] [] e x all one = (one, tt)
 letters_push c [] (y ∷ ys) e x all one = absurd all
 letters_push c (d ∷ ds) [] e x all one = absurd all
 letters_push c (d ∷ ds) (y ∷ ys) e x all one = (all.0, letters_push c ds ys e x all.1 one)
 
-pub letters_own : (c : Core) (es : List LiveEdge) (xs : List NameSet) → AreLettersOf c es xs → (x : NameSet) → Contains xs x → HoldsOnly c.names x
+pub letters_own : (c : SymbolicAutomaton) (es : List EdgeRef) (xs : List NameSet) → AreLettersOf c es xs → (x : NameSet) → Contains xs x → HoldsOnly c.names x
 letters_own c [] [] all x here = absurd (none_there x here)
 letters_own c [] (y ∷ ys) all x here = absurd all
 letters_own c (e ∷ es) [] all x here = absurd all
@@ -119,19 +122,19 @@ letters_own c (e ∷ es) (y ∷ ys) all x here = elim (there_cases y ys x here) 
   | inr rest ↦ letters_own c es ys all.1 x rest
 ]
 
-pub letters_long : (c : Core) (es : List LiveEdge) (xs : List NameSet) → AreLettersOf c es xs → length xs ≡ length es
+pub letters_long : (c : SymbolicAutomaton) (es : List EdgeRef) (xs : List NameSet) → AreLettersOf c es xs → length xs ≡ length es
 letters_long c [] [] all = refl
 letters_long c [] (y ∷ ys) all = absurd all
 letters_long c (e ∷ es) [] all = absurd all
 letters_long c (e ∷ es) (y ∷ ys) all = ap suc (letters_long c es ys all.1)
 
 -- a path of the automaton that reads these letters along these edges
-pub record ReadsAlong (c : Core) (p q : ℕ) (es : List LiveEdge) (xs : List NameSet) : Type 0 where
-  pub trees : List TreeEdge
+pub record ReadsAlong (c : SymbolicAutomaton) (p q : ℕ) (es : List EdgeRef) (xs : List NameSet) : Type 0 where
+  pub trees : List LabelledEdge
   pub path : IsPath (automaton_of c) p xs trees q
-  pub marks : map (λ (t : TreeEdge). t.marks) trees ≡ map (marks_of c.links) es
+  pub marks : map (λ (t : LabelledEdge). t.marks) trees ≡ map (marks_of c.links) es
 
-pub reads_along : (c : Core) (Kind : LiveEdge → Type 0) (p q : ℕ) (es : List LiveEdge) (xs : List NameSet) → IsTrail Kind p es q → AreLettersOf c es xs → ReadsAlong c p q es xs
+pub reads_along : (c : SymbolicAutomaton) (Kind : EdgeRef → Type 0) (p q : ℕ) (es : List EdgeRef) (xs : List NameSet) → IsTrail Kind p es q → AreLettersOf c es xs → ReadsAlong c p q es xs
 reads_along c Kind p q [] [] trail letters = record { trees = []; path = trail; marks = refl }
 reads_along c Kind p q [] (x ∷ xs) trail letters = absurd letters
 reads_along c Kind p q (e ∷ es) [] trail letters = absurd letters
@@ -147,17 +150,17 @@ reads_along c Kind p q (e ∷ es) (x ∷ xs) trail letters =
         letters.0.meets,
         subst (λ x. IsPath (automaton_of c) x xs rest.trees q) at.to rest.path,
       );
-      marks = ap (λ (ms : List ℕ). ms ∷ map (λ (t : TreeEdge). t.marks) rest.trees) (marks_at c e l at) ∙ ap (λ mss. marks_of c.links e ∷ mss) rest.marks;
+      marks = ap (λ (ms : List ℕ). ms ∷ map (λ (t : LabelledEdge). t.marks) rest.trees) (marks_at c e l at) ∙ ap (λ mss. marks_of c.links e ∷ mss) rest.marks;
     }
 
 -- the edges of a path of the automaton
-pub record TrailOf (c : Core) (p q : ℕ) (trees : List TreeEdge) : Type 0 where
-  pub edges : List LiveEdge
+pub record TrailOf (c : SymbolicAutomaton) (p q : ℕ) (trees : List LabelledEdge) : Type 0 where
+  pub edges : List EdgeRef
   pub trail : IsTrail (IsPassable c) p edges q
-  pub marks : map (λ (t : TreeEdge). t.marks) trees ≡ map (marks_of c.links) edges
+  pub marks : map (λ (t : LabelledEdge). t.marks) trees ≡ map (marks_of c.links) edges
   pub long : length edges ≡ length trees
 
-pub trail_of : (c : Core) → IsCore c → (p q : ℕ) (xs : List NameSet) (trees : List TreeEdge) → IsPath (automaton_of c) p xs trees q → TrailOf c p q trees
+pub trail_of : (c : SymbolicAutomaton) → IsWellFormedSymbolic c → (p q : ℕ) (xs : List NameSet) (trees : List LabelledEdge) → IsPath (automaton_of c) p xs trees q → TrailOf c p q trees
 trail_of c is p q [] [] path = record { edges = []; trail = path; marks = refl; long = refl }
 trail_of c is p q [] (t ∷ ts) path = absurd path
 trail_of c is p q (x ∷ xs) [] path = absurd path
@@ -167,21 +170,21 @@ trail_of c is p q (x ∷ xs) (t ∷ ts) path =
     let l = found.0 in
     let place = found.1.0 in
     let stands : slice_get c.links place ≡ Some l = slice_get-at c.links place l found.1.1 (sym found.1.2) in
-    let e : LiveEdge = record { from = l.from; to = l.to; link = place } in
+    let e : EdgeRef = record { from = l.from; to = l.to; link = place } in
     let at : IsEdgeAt c e l = record { stands = stands; from = refl; to = refl } in
-    let from : l.from ≡ t.from = ap (λ (u : TreeEdge). u.from) found.2 in
-    let to : l.to ≡ t.to = ap (λ (u : TreeEdge). u.to) found.2 in
-    let marks : l.marks ≡ t.marks = ap (λ (u : TreeEdge). u.marks) found.2 in
-    let meets : truth (holds_at c.names x) (label_in c.store l.guard) ≡ true = ap (λ (u : TreeEdge). truth (holds_at c.names x) u.label) found.2 ∙ path.2 in
+    let from : l.from ≡ t.from = ap (λ (u : LabelledEdge). u.from) found.2 in
+    let to : l.to ≡ t.to = ap (λ (u : LabelledEdge). u.to) found.2 in
+    let marks : l.marks ≡ t.marks = ap (λ (u : LabelledEdge). u.marks) found.2 in
+    let meets : truth (holds_at c.names x) (label_in c.store l.guard) ≡ true = ap (λ (u : LabelledEdge). truth (holds_at c.names x) u.label) found.2 ∙ path.2 in
     record {
       edges = e ∷ rest.edges;
       trail = (record { link = l; at = at; some = met_by_letter c is l x meets }, from ∙ sym path.0, subst (λ y. IsTrail (IsPassable c) y rest.edges q) (sym to) rest.trail);
-      marks = ap (λ (ms : List ℕ). ms ∷ map (λ (u : TreeEdge). u.marks) ts) (sym marks ∙ marks_at c e l at) ∙ ap (λ mss. marks_of c.links e ∷ mss) rest.marks;
+      marks = ap (λ (ms : List ℕ). ms ∷ map (λ (u : LabelledEdge). u.marks) ts) (sym marks ∙ marks_at c e l at) ∙ ap (λ mss. marks_of c.links e ∷ mss) rest.marks;
       long = ap suc rest.long;
     }
 
 -- the edge of a link is one between states
-pub passable_within : (c : Core) → IsCore c → (e : LiveEdge) → IsPassable c e → IsWithin (length c.links) c.states e
+pub passable_within : (c : SymbolicAutomaton) → IsWellFormedSymbolic c → (e : EdgeRef) → IsPassable c e → IsEdgeInRange (length c.links) c.states e
 passable_within c is e passable =
     let l = passable.link in
     let within = slice_get_within c.links e.link l passable.at.stands in
@@ -193,19 +196,20 @@ passable_within c is e passable =
       to = subst (λ x. x < c.states) (ap (λ (m : Link). m.to) same ∙ sym passable.at.to) link.to;
     }
 
-link_read : (c : Core) (e : LiveEdge) (passable : IsPassable c e) (links : List Link) (l : Link) → links ≡ c.links → l ≡ get_or links e.link l → l ≡ passable.link
+link_read : (c : SymbolicAutomaton) (e : EdgeRef) (passable : IsPassable c e) (links : List Link) (l : Link) → links ≡ c.links → l ≡ get_or links e.link l → l ≡ passable.link
 link_read c e passable links l links_are read =
     read ∙ ap (λ (ls : List Link). get_or ls e.link l) links_are ∙ get_or_from_slice_get c.links e.link passable.link l passable.at.stands
 
 -- what was picked for the guard of an edge's link, from a store and names that are the automaton's
-pub picked_letter : (c : Core) → IsCore c → (e : LiveEdge) → IsPassable c e → (links : List Link) (l : Link) (store : Store) (names : List (List ℕ)) (letter : NameSet) → links ≡ c.links
+pub picked_letter : (c : SymbolicAutomaton) → IsWellFormedSymbolic c → (e : EdgeRef) → IsPassable c e
+    → (links : List Link) (l : Link) (store : Store) (names : List (List ℕ)) (letter : NameSet) → links ≡ c.links
     → l ≡ get_or links e.link l → store ≡ c.store → names ≡ c.names → IsLeastLetter store names l.guard letter → IsLetterOf c e letter
 picked_letter c is e passable links l store names letter links_are read store_is names_are least =
     least_letter_of c is e passable.link letter passable.at
     (subst (λ (m : Link). IsLeastLetter c.store c.names m.guard letter) (link_read c e passable links l links_are read)
     (subst (λ ns. IsLeastLetter c.store ns l.guard letter) names_are (subst (λ (s : Store). IsLeastLetter s names l.guard letter) store_is least)))
 
-pub never_picked : (c : Core) (e : LiveEdge) → IsPassable c e → (links : List Link) (l : Link) (store : Store) → links ≡ c.links → l ≡ get_or links e.link l → store ≡ c.store
+pub never_picked : (c : SymbolicAutomaton) (e : EdgeRef) → IsPassable c e → (links : List Link) (l : Link) (store : Store) → links ≡ c.links → l ≡ get_or links e.link l → store ≡ c.store
     → IsNeverMet store l.guard → ⊥
 never_picked c e passable links l store links_are read store_is never =
     passable.some (subst (λ (m : Link). IsNeverMet c.store m.guard) (link_read c e passable links l links_are read) (subst (λ (s : Store). IsNeverMet s l.guard) store_is never))

@@ -7,51 +7,51 @@ use Rattle.aut_base.proofs.lists.Lists.{take-push}
 use Rattle.aut_base.proofs.lists.Members.{there_map}
 use Rattle.graph_walk.specs.Path.{IsShortest}
 use Rattle.graph_walk.specs.Walk.{IsWalk, Reaches, arc_at}
-use Rattle.lasso_emptiness.specs.declared.live.LiveEdge.{LiveEdge}
+use Rattle.lasso_emptiness.specs.declared.live.EdgeRef.{EdgeRef}
 use Rattle.lasso_emptiness.specs.inner.Edges.{arc_of}
-use Rattle.lasso_emptiness.specs.inner.Groups.{IsJoined}
-use Rattle.lasso_emptiness.specs.inner.Tours.{GoesOn, IsTour, edge_at}
+use Rattle.lasso_emptiness.specs.inner.Groups.{IsStronglyConnected}
+use Rattle.lasso_emptiness.specs.inner.Tours.{ExtendsPath, IsTour, listed_edge}
 use Rattle.lasso_emptiness.specs.inner.Trails.{IsTrail}
 use Rattle.lasso_emptiness.proofs.trails.Trails.{trail_then}
 
 -- the arc at a place is that of the edge there
-arc_there : (edges : List LiveEdge) (place : ℕ) → place < length edges → arc_at (map arc_of edges) place ≡ arc_of (edge_at edges place)
+arc_there : (edges : List EdgeRef) (place : ℕ) → place < length edges → arc_at (map arc_of edges) place ≡ arc_of (listed_edge edges place)
 arc_there edges place within =
     let inside : place < length (map arc_of edges) = omega (arith, within, length-map edges arc_of) in
-    get_or_default (map arc_of edges) place (0, 0) (arc_of (edge_at edges place)) inside ∙ get_or-map arc_of edges place (edge_at edges place) _ within
-    ∙ ap arc_of (sym (get_or_default edges place _ (edge_at edges place) within))
+    get_or_default (map arc_of edges) place (0, 0) (arc_of (listed_edge edges place)) inside ∙ get_or-map arc_of edges place (listed_edge edges place) _ within
+    ∙ ap arc_of (sym (get_or_default edges place _ (listed_edge edges place) within))
 
 -- a walk by places is a path
-trail_at : (edges : List LiveEdge) (p q : ℕ) (places : List ℕ) → All (λ place. place < length edges) places → IsWalk (map arc_of edges) p (map (arc_at (map arc_of edges)) places) q
-    → IsTrail (Contains edges) p (map (edge_at edges) places) q
+trail_at : (edges : List EdgeRef) (p q : ℕ) (places : List ℕ) → All (λ place. place < length edges) places → IsWalk (map arc_of edges) p (map (arc_at (map arc_of edges)) places) q
+    → IsTrail (Contains edges) p (map (listed_edge edges) places) q
 trail_at edges p q [] within walk = walk
 trail_at edges p q (place ∷ places) within walk =
     let here : place < length edges = All-head (λ k. k < length edges) place places within in
     let same = arc_there edges place here in (
       Contains-get_or edges place _ here,
       sym (ap (λ (a : ℕ × ℕ). a.0) same) ∙ walk.1,
-      trail_at edges (edge_at edges place).to q places (All-tail (λ k. k < length edges) place places within)
+      trail_at edges (listed_edge edges place).to q places (All-tail (λ k. k < length edges) place places within)
           (subst (λ x. IsWalk (map arc_of edges) x (map (arc_at (map arc_of edges)) places) q) (ap (λ (a : ℕ × ℕ). a.1) same) walk.2),
     )
 
 -- a shortest path was added
-pub way_added : (edges : List LiveEdge) (arcs : List (ℕ × ℕ)) (found places : List ℕ) (p q : ℕ) (old new : List LiveEdge) → arcs ≡ map arc_of edges → places ≡ found
-    → IsShortest arcs p q found → new ≡ old ++ map (edge_at edges) places → GoesOn (Contains edges) p q old new
+pub way_added : (edges : List EdgeRef) (arcs : List (ℕ × ℕ)) (found places : List ℕ) (p q : ℕ) (old new : List EdgeRef) → arcs ≡ map arc_of edges → places ≡ found
+    → IsShortest arcs p q found → new ≡ old ++ map (listed_edge edges) places → ExtendsPath (Contains edges) p q old new
 way_added edges arcs found places p q old new arcs_are same shortest made =
     let inside : All (λ place. place < length edges) places =
     subst (All (λ place. place < length edges)) (sym same)
     (All-weaker (λ place. place < length arcs) (λ place. place < length edges) (λ place below. let long : length arcs ≡ length edges = ap length arcs_are
     ∙ length-map edges arc_of in omega arith) found shortest.placed) in
     let walk = subst (λ ps. IsWalk (map arc_of edges) p (map (arc_at (map arc_of edges)) ps) q) (sym same) (subst (λ arcs. IsWalk arcs p (map (arc_at arcs) found) q) arcs_are shortest.walks) in
-    record { way = map (edge_at edges) places; added = made; leads = trail_at edges p q places inside walk }
+    record { way = map (listed_edge edges) places; added = made; leads = trail_at edges p q places inside walk }
 
 -- Some of the edges are passed in order, from where the first begins on.
-pub record ToursSoFar (edges done cycle : List LiveEdge) (first at : ℕ) : Type 0 where
+pub record ToursSoFar (edges done cycle : List EdgeRef) (first at : ℕ) : Type 0 where
   pub leads : IsTrail (Contains edges) first cycle at
   pub passes : All (Contains cycle) done
-  pub goes_on : (e : LiveEdge) → Contains edges e → Reaches (map arc_of edges) at e.from
+  pub goes_on : (e : EdgeRef) → Contains edges e → Reaches (map arc_of edges) at e.from
 
-pub tours_none : (edges : List LiveEdge) (e : LiveEdge) → IsJoined edges → Contains edges e → ToursSoFar edges [] [] e.from e.from
+pub tours_none : (edges : List EdgeRef) (e : EdgeRef) → IsStronglyConnected edges → Contains edges e → ToursSoFar edges [] [] e.from e.from
 tours_none edges e joined here = record {
   leads = refl;
   passes = λ k d within. absurd (omega arith);
@@ -60,17 +60,17 @@ tours_none edges e joined here = record {
       record { walk = arc_of e ∷ on.walk; leads = (there_map arc_of edges e here, refl, on.leads) };
 }
 
-module _ (edges needed : List LiveEdge) (joined : IsJoined edges) (inside : All (Contains edges) needed) (i : ℕ) (within : i < length needed) where
-  abbrev next : LiveEdge
-  next = edge_at needed i
+module _ (edges needed : List EdgeRef) (joined : IsStronglyConnected edges) (inside : All (Contains edges) needed) (i : ℕ) (within : i < length needed) where
+  abbrev next : EdgeRef
+  next = listed_edge needed i
 
   next_inside : Contains edges next
   next_inside = All-get_or (Contains edges) needed i _ within inside
 
-  pub tours_reaches : (cycle : List LiveEdge) (first at : ℕ) → ToursSoFar edges (take i needed) cycle first at → Reaches (map arc_of edges) at next.from
+  pub tours_reaches : (cycle : List EdgeRef) (first at : ℕ) → ToursSoFar edges (take i needed) cycle first at → Reaches (map arc_of edges) at next.from
   tours_reaches cycle first at so_far = so_far.goes_on next next_inside
 
-  pub tours_more : (cycle mid new : List LiveEdge) (first at : ℕ) → ToursSoFar edges (take i needed) cycle first at → GoesOn (Contains edges) at next.from cycle mid → new ≡ mid ++ next ∷ []
+  pub tours_more : (cycle mid new : List EdgeRef) (first at : ℕ) → ToursSoFar edges (take i needed) cycle first at → ExtendsPath (Contains edges) at next.from cycle mid → new ≡ mid ++ next ∷ []
       → ToursSoFar edges (take (i + 1) needed) new first next.to
   tours_more cycle mid new first at so_far on made =
       let whole : new ≡ (cycle ++ on.way) ++ next ∷ [] = made ∙ ap (λ es. es ++ next ∷ []) on.added in
@@ -86,8 +86,8 @@ module _ (edges needed : List LiveEdge) (joined : IsJoined edges) (inside : All 
       }))
 
 -- the path is closed
-pub tours_all : (edges needed cycle new : List LiveEdge) (i first at : ℕ) → 0 < length needed → length needed ≤ i → ToursSoFar edges (take i needed) cycle first at
-    → GoesOn (Contains edges) at first cycle new → IsTour edges needed new
+pub tours_all : (edges needed cycle new : List EdgeRef) (i first at : ℕ) → 0 < length needed → length needed ≤ i → ToursSoFar edges (take i needed) cycle first at
+    → ExtendsPath (Contains edges) at first cycle new → IsTour edges needed new
 tours_all edges needed cycle new i first at some all so_far on =
     subst (IsTour edges needed) (sym on.added) (record {
       some = longer needed passes some;
@@ -99,6 +99,6 @@ tours_all edges needed cycle new i first at some all so_far on =
     passes : All (Contains (cycle ++ on.way)) needed
     passes = All-weaker (Contains cycle) (Contains (cycle ++ on.way)) (λ e here. Contains-append_left cycle on.way e here) needed (subst (All (Contains cycle)) (take_all i needed all) so_far.passes)
 
-    longer : (es : List LiveEdge) → All (Contains (cycle ++ on.way)) es → 0 < length es → 0 < length (cycle ++ on.way)
+    longer : (es : List EdgeRef) → All (Contains (cycle ++ on.way)) es → 0 < length es → 0 < length (cycle ++ on.way)
     longer [] passed some = absurd (omega arith)
     longer (e ∷ es) passed some = let here = All-head (Contains (cycle ++ on.way)) e es passed in let below = here.1 in omega arith

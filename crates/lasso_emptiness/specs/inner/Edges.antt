@@ -4,7 +4,7 @@ use Rattle.std.specs.List.{slice_index_or}
 use Rattle.aut_base.specs.Formula.{FormulaTree, met}
 use Rattle.aut_base.specs.Marks.{is_in}
 use Rattle.aut_core.specs.declared.link.Link.{Link}
-use Rattle.lasso_emptiness.specs.declared.live.LiveEdge.{LiveEdge}
+use Rattle.lasso_emptiness.specs.declared.live.EdgeRef.{EdgeRef}
 
 -- Whether an edge with these marks is in the set, or where the set is negated outside of it. `Inf` asks that some edge
 -- of a cycle be on its side, `Fin` that none be.
@@ -13,28 +13,28 @@ on_side set false marks = is_in set marks
 on_side set true marks = not (is_in set marks)
 
 -- the acceptance sets of the edge, which its link has
-abbrev pub marks_of : List Link → LiveEdge → List ℕ
+abbrev pub marks_of : List Link → EdgeRef → List ℕ
 marks_of links e = slice_index_or (map (λ l. l.marks) links) e.link []
 
 -- whether the condition is met by a cycle of these edges
-abbrev pub met_along : List Link → List LiveEdge → FormulaTree → Bool
+abbrev pub met_along : List Link → List EdgeRef → FormulaTree → Bool
 met_along links edges f = met (map (marks_of links) edges) f
 
 -- the edge has a link, and states for its ends
-pub record IsWithin (links : ℕ) (states : ℕ) (e : LiveEdge) : Type 0 where
+pub record IsEdgeInRange (links : ℕ) (states : ℕ) (e : EdgeRef) : Type 0 where
   pub link : e.link < links
   pub from : e.from < states
   pub to : e.to < states
 
 -- the edge as an arc of a graph
-abbrev pub arc_of : LiveEdge → ℕ × ℕ
+abbrev pub arc_of : EdgeRef → ℕ × ℕ
 arc_of e = (e.from, e.to)
 
 -- the same turned around
-abbrev pub back_arc_of : LiveEdge → ℕ × ℕ
+abbrev pub back_arc_of : EdgeRef → ℕ × ℕ
 back_arc_of e = (e.to, e.from)
 
 -- the one or the other
-abbrev pub turned_arc : Bool → LiveEdge → ℕ × ℕ
-turned_arc false = arc_of
-turned_arc true = back_arc_of
+abbrev pub arc_in_direction : Bool → EdgeRef → ℕ × ℕ
+arc_in_direction false = arc_of
+arc_in_direction true = back_arc_of

@@ -25,17 +25,17 @@ abbrev mutual
 
 -- the number of `Fin` in a condition, by which the search ends
 abbrev mutual
-  pub fins : FormulaTree → ℕ
-  fins True = 0
-  fins False = 0
-  fins (Inf set neg) = 0
-  fins (Fin set neg) = 1
-  fins (And a b cs) = fins a + (fins b + all_fins cs)
-  fins (Or a b cs) = fins a + (fins b + all_fins cs)
+  pub fin_count : FormulaTree → ℕ
+  fin_count True = 0
+  fin_count False = 0
+  fin_count (Inf set neg) = 0
+  fin_count (Fin set neg) = 1
+  fin_count (And a b cs) = fin_count a + (fin_count b + all_fins cs)
+  fin_count (Or a b cs) = fin_count a + (fin_count b + all_fins cs)
 
   pub all_fins : FormulaTrees → ℕ
   all_fins none = 0
-  all_fins (more f fs) = fins f + all_fins fs
+  all_fins (more f fs) = fin_count f + all_fins fs
 
 -- no cycle of some of these edges meets the condition
 abbrev pub IsNever : List (List ℕ) → FormulaTree → Type 0

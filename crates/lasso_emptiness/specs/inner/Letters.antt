@@ -5,22 +5,22 @@ use Rattle.aut_base.specs.Automaton.{Automaton}
 use Rattle.aut_base.specs.Label.{holds_at, truth}
 use Rattle.aut_base.specs.Word.{NameSet}
 use Rattle.aut_base.specs.declared.letter.Lasso.{Lasso}
-use Rattle.aut_core.specs.Core.{Core}
+use Rattle.aut_core.specs.SymbolicAutomata.{SymbolicAutomaton}
 use Rattle.aut_core.specs.declared.link.Link.{Link}
 use Rattle.label_guards.specs.Store.{label_in}
-use Rattle.lasso_emptiness.specs.declared.live.LiveEdge.{LiveEdge}
+use Rattle.lasso_emptiness.specs.declared.live.EdgeRef.{EdgeRef}
 use Rattle.lasso_emptiness.specs.inner.Live.{IsEdgeAt}
 use Rattle.word_syntax.specs.Printing.{HoldsOnly}
 
 -- the letter meets the label of the edge, and holds no other names than the automaton's
-pub record IsLetterOf (c : Core) (e : LiveEdge) (letter : NameSet) : Type 0 where
+pub record IsLetterOf (c : SymbolicAutomaton) (e : EdgeRef) (letter : NameSet) : Type 0 where
   pub link : Link
   pub at : IsEdgeAt c e link
   pub meets : truth (holds_at c.names letter) (label_in c.store link.guard) ≡ true
   pub own_names : HoldsOnly c.names letter
 
 -- a letter for each of the edges, in order
-abbrev pub AreLettersOf : Core → List LiveEdge → List NameSet → Type 0
+abbrev pub AreLettersOf : SymbolicAutomaton → List EdgeRef → List NameSet → Type 0
 AreLettersOf c [] [] = Unit {0}
 AreLettersOf c [] (x ∷ xs) = ⊥
 AreLettersOf c (e ∷ es) [] = ⊥

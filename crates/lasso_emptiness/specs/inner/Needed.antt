@@ -3,32 +3,32 @@ use Rattle.std.specs.Prelude.{◌≡◌, ◌⊎◌, ◌++◌, ◌∷◌, [], ℕ
 use Rattle.std.specs.List.{list_all, list_any}
 use Rattle.aut_base.specs.Formula.{FormulaTree, met}
 use Rattle.aut_core.specs.declared.link.Link.{Link}
-use Rattle.lasso_emptiness.specs.declared.live.LiveEdge.{LiveEdge}
+use Rattle.lasso_emptiness.specs.declared.live.EdgeRef.{EdgeRef}
 use Rattle.lasso_emptiness.specs.inner.Edges.{marks_of, on_side}
 
 -- Edges were added, so that each cycle of these edges that has all of them passes the test.
-pub record Suits (links : List Link) (edges : List LiveEdge) (test : List (List ℕ) → Type 0) (old new : List LiveEdge) : Type 0 where
+pub record Suits (links : List Link) (edges : List EdgeRef) (test : List (List ℕ) → Type 0) (old new : List EdgeRef) : Type 0 where
   pub kept : All (Contains new) old
   pub inside : All (Contains edges) new
-  pub enough : (cycle : List LiveEdge) → All (Contains edges) cycle → All (Contains cycle) new → test (map (marks_of links) cycle)
+  pub enough : (cycle : List EdgeRef) → All (Contains edges) cycle → All (Contains cycle) new → test (map (marks_of links) cycle)
 
 -- .. meets the condition
-abbrev pub Serves : List Link → List LiveEdge → FormulaTree → List LiveEdge → List LiveEdge → Type 0
+abbrev pub Serves : List Link → List EdgeRef → FormulaTree → List EdgeRef → List EdgeRef → Type 0
 Serves links edges f = Suits links edges (λ marks. met marks f ≡ true)
 
-abbrev pub ServesAll : List Link → List LiveEdge → List FormulaTree → List LiveEdge → List LiveEdge → Type 0
+abbrev pub ServesAll : List Link → List EdgeRef → List FormulaTree → List EdgeRef → List EdgeRef → Type 0
 ServesAll links edges fs = Suits links edges (λ marks. list_all (met marks) fs ≡ true)
 
 -- one of these parts
-abbrev pub IsPart : List FormulaTree → FormulaTree → Type 0
-IsPart fs f = (place : ℕ) × (slice_get fs place ≡ Some f)
+abbrev pub IsPartOf : List FormulaTree → FormulaTree → Type 0
+IsPartOf fs f = (place : ℕ) × (slice_get fs place ≡ Some f)
 
 -- nothing was added, or no edge was on the side and one was added
-abbrev pub AddsOnce : List Link → ℕ → Bool → List LiveEdge → List LiveEdge → Type 0
-AddsOnce links set neg old new = (new ≡ old) ⊎ (All (λ e. on_side set neg (marks_of links e) ≡ false) old × ((e : LiveEdge) × (new ≡ old ++ e ∷ [])))
+abbrev pub AddsOnce : List Link → ℕ → Bool → List EdgeRef → List EdgeRef → Type 0
+AddsOnce links set neg old new = (new ≡ old) ⊎ (All (λ e. on_side set neg (marks_of links e) ≡ false) old × ((e : EdgeRef) × (new ≡ old ++ e ∷ [])))
 
 -- edges of these, one at least: each cycle of these edges that has all of them meets the condition
-pub record AreNeeded (links : List Link) (edges : List LiveEdge) (f : FormulaTree) (needed : List LiveEdge) : Type 0 where
+pub record AreNeeded (links : List Link) (edges : List EdgeRef) (f : FormulaTree) (needed : List EdgeRef) : Type 0 where
   pub some : 0 < length needed
   pub inside : All (Contains edges) needed
-  pub enough : (cycle : List LiveEdge) → All (Contains edges) cycle → All (Contains cycle) needed → met (map (marks_of links) cycle) f ≡ true
+  pub enough : (cycle : List EdgeRef) → All (Contains edges) cycle → All (Contains cycle) needed → met (map (marks_of links) cycle) f ≡ true

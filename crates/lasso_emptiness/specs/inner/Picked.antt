@@ -1,9 +1,9 @@
 -- Edges picked from a list.
 use Rattle.std.specs.Prelude.{◌⊎◌, List, Contains}
-use Rattle.lasso_emptiness.specs.declared.live.LiveEdge.{LiveEdge}
+use Rattle.lasso_emptiness.specs.declared.live.EdgeRef.{EdgeRef}
 
 -- those of this kind were added, and no others
-pub record Picks (Kind : LiveEdge → Type 0) (edges old new : List LiveEdge) : Type 0 where
-  pub kept : (e : LiveEdge) → Contains old e → Contains new e
-  pub added : (e : LiveEdge) → Contains edges e → Kind e → Contains new e
-  pub nothing_else : (e : LiveEdge) → Contains new e → Contains old e ⊎ (Contains edges e × Kind e)
+pub record Picks (Kind : EdgeRef → Type 0) (edges old new : List EdgeRef) : Type 0 where
+  pub kept : (e : EdgeRef) → Contains old e → Contains new e
+  pub added : (e : EdgeRef) → Contains edges e → Kind e → Contains new e
+  pub nothing_else : (e : EdgeRef) → Contains new e → Contains old e ⊎ (Contains edges e × Kind e)

@@ -1,28 +1,28 @@
 -- Closed paths that pass some edges.
 use Rattle.std.specs.Prelude.{◌≡◌, ◌++◌, ℕ, ◌<◌, List, All, Contains, length}
 use Rattle.std.specs.List.{slice_index_or}
-use Rattle.lasso_emptiness.specs.declared.live.LiveEdge.{LiveEdge}
+use Rattle.lasso_emptiness.specs.declared.live.EdgeRef.{EdgeRef}
 use Rattle.lasso_emptiness.specs.inner.Trails.{IsTrail}
 
 -- the edge at a place
-abbrev pub edge_at : List LiveEdge → ℕ → LiveEdge
-edge_at edges place = slice_index_or edges place (record { from = 0; to = 0; link = 0 })
+abbrev pub listed_edge : List EdgeRef → ℕ → EdgeRef
+listed_edge edges place = slice_index_or edges place (record { from = 0; to = 0; link = 0 })
 
 -- the list goes on with a path
-pub record GoesOn (Kind : LiveEdge → Type 0) (p q : ℕ) (old new : List LiveEdge) : Type 0 where
-  pub way : List LiveEdge
+pub record ExtendsPath (Kind : EdgeRef → Type 0) (p q : ℕ) (old new : List EdgeRef) : Type 0 where
+  pub way : List EdgeRef
   pub added : new ≡ old ++ way
   pub leads : IsTrail Kind p way q
 
 -- a closed path along the edges that has each of some of them
-pub record IsTour (edges needed cycle : List LiveEdge) : Type 0 where
+pub record IsTour (edges needed cycle : List EdgeRef) : Type 0 where
   pub some : 0 < length cycle
   pub state : ℕ
   pub closed : IsTrail (Contains edges) state cycle state
   pub passes : All (Contains cycle) needed
 
 -- a path from a start to the state
-pub record IsStem (starts : List ℕ) (edges : List LiveEdge) (state : ℕ) (stem : List LiveEdge) : Type 0 where
+pub record IsStem (starts : List ℕ) (edges : List EdgeRef) (state : ℕ) (stem : List EdgeRef) : Type 0 where
   pub start : ℕ
   pub is_start : Contains starts start
   pub leads : IsTrail (Contains edges) start stem state

@@ -2,7 +2,7 @@ use Rattle.std.proofs.Common.{◌++◌, subst, sym}
 use Rattle.std.proofs.lemmas.Option.{MatchOption-at_some}
 use Rattle.std.specs.List.{All}
 use Rattle.aut_base.proofs.lists.Members.{all_of_second}
-use Rattle.aut_core.specs.Core.{automaton_of}
+use Rattle.aut_core.specs.SymbolicAutomata.{automaton_of}
 use Rattle.lasso_emptiness.specs.Emptiness.{IsAcceptedWord}
 use Rattle.word_syntax.specs.Printing.{HoldsOnly}
 use Rattle.library_example.proofs.Shows.{shows_word}

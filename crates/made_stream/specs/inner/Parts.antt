@@ -28,21 +28,21 @@ part_back ring part.Edge = codes "\n"
 part_back ring part.Last = if ring % 2 == 1 then codes " {0}\n--END--\n" else codes "\n--END--\n"
 
 -- the bytes of a part
-unfoldable pub part_text : ℕ → ℕ → Part → List ℕ
-part_text ring state p = part_front p ++ (decimal (part_number ring state p) ++ part_back ring p)
+unfoldable pub ring_part_text : ℕ → ℕ → Part → List ℕ
+ring_part_text ring state p = part_front p ++ (decimal (part_number ring state p) ++ part_back ring p)
 
 -- the rest of a ring behind the line of a state, which so many other states follow
 unfoldable pub behind_state : ℕ → ℕ → ℕ → List ℕ
-behind_state ring state zero = part_text ring state part.Last
+behind_state ring state zero = ring_part_text ring state part.Last
 behind_state ring state (suc more) =
-    part_text ring (state + 1) part.Edge
-    ++ (part_text ring (state + 1) part.State ++ behind_state ring (state + 1) more)
+    ring_part_text ring (state + 1) part.Edge
+    ++ (ring_part_text ring (state + 1) part.State ++ behind_state ring (state + 1) more)
 
 -- the rest of a ring behind a part
 unfoldable pub behind_part : ℕ → ℕ → Part → List ℕ
-behind_part ring state part.Head = part_text ring state part.State ++ behind_state ring state (ring - 1 - state)
+behind_part ring state part.Head = ring_part_text ring state part.State ++ behind_state ring state (ring - 1 - state)
 behind_part ring state part.State = behind_state ring state (ring - 1 - state)
-behind_part ring state part.Edge = part_text ring state part.State ++ behind_state ring state (ring - 1 - state)
+behind_part ring state part.Edge = ring_part_text ring state part.State ++ behind_state ring state (ring - 1 - state)
 behind_part ring state part.Last = []
 
 -- the rings behind this one, up to the last

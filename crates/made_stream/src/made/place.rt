@@ -2,7 +2,7 @@
 
 ghost use Rattle.std.specs.Prelude.{◌≡◌, ℕ, ◌≤◌, ◌<◌, ◌++◌, Some, drop, length, slice_get};
 ghost use Rattle.made_stream.specs.declared.made.TheConstants.{MOST_MADE};
-ghost use Rattle.made_stream.specs.inner.Parts.{behind_part, part_back, part_front, part_number, part_text, rings_behind};
+ghost use Rattle.made_stream.specs.inner.Parts.{behind_part, part_back, part_front, part_number, ring_part_text, rings_behind};
 ghost use Rattle.made_stream.specs.Made.{ring_text};
 
 use super::digits::{digit_at, digit_count};
@@ -29,7 +29,7 @@ pub(super) struct Place {
     given: usize,
     ghost few: { ring ≤ MOST_MADE },
     ghost in_ring: { state < ring },
-    ghost within: { given < length (part_text ring state part) },
+    ghost within: { given < length (ring_part_text ring state part) },
 }
 
 impl Place {
@@ -104,7 +104,7 @@ impl Place {
     fn begin(self, state: u32, part: Part) -> Self
         requires { state < self.ring }
         ensures { (count : ℕ) → left_at count (Some result)
-            ≡ part_text self.ring state part ++ (behind_part self.ring state part ++ rings_behind count self.ring) }
+            ≡ ring_part_text self.ring state part ++ (behind_part self.ring state part ++ rings_behind count self.ring) }
     {
         Place {
             ring: self.ring,
@@ -116,7 +116,7 @@ impl Place {
 
     /// The number of bytes of the part.
     fn len(self) -> usize
-        ensures count { result ≡ length (part_text self.ring self.state self.part) }
+        ensures count { result ≡ length (ring_part_text self.ring self.state self.part) }
         ensures few { result ≤ 100 }
     {
         front(self.part).len() + digit_count(self.number()) + back(self.ring, self.part).len()

@@ -1,8 +1,8 @@
 -- What the functions of the construction say to one another.
 use Rattle.std.specs.Prelude.{◌≡◌, ℕ, Bool, List, Some, slice_get}
-use Rattle.aut_base.specs.Automaton.{Automaton, TreeEdge}
-use Rattle.aut_core.specs.Core.{Core, automaton_of}
-use Rattle.exploration.specs.Turns.{Comes, Meets, begin}
+use Rattle.aut_base.specs.Automaton.{Automaton, LabelledEdge}
+use Rattle.aut_core.specs.SymbolicAutomata.{SymbolicAutomaton, automaton_of}
+use Rattle.exploration.specs.Turns.{Comes, LimitMet, begin}
 use Rattle.exploration.specs.declared.fault.Fault.{Fault}
 use Rattle.letter_classes.specs.Taken.{taken_of}
 use Rattle.parity_det.specs.Determinisation.{class_moves, start_tree, tree_classes, tree_rules}
@@ -14,11 +14,11 @@ use Rattle.safra_trees.specs.declared.event.Event.{Event}
 use Rattle.safra_trees.specs.declared.moves.Move.{Move}
 
 -- the moves of those of the edges that are read
-abbrev pub moves_of : (TreeEdge → Bool) → List TreeEdge → List Move
+abbrev pub moves_of : (LabelledEdge → Bool) → List LabelledEdge → List Move
 moves_of = taken_of move_of
 
 -- the event is that of the step for the class of this number
-abbrev pub IsClassEvent : Core → List Node → ℕ → Event → Type 0
+abbrev pub IsClassEvent : SymbolicAutomaton → List Node → ℕ → Event → Type 0
 IsClassEvent c t k event = (v : List Bool) → slice_get (tree_classes (automaton_of c) t) k ≡ Some v → event ≡ event_of c.states (class_moves (automaton_of c) t v) t
 
 -- the mark of the step of an event, among those of trees with at most so many nodes
@@ -27,4 +27,4 @@ mark_of most event = priority_by most event.red event.green
 
 -- the exploration of the trees of b meets this limit first
 abbrev pub MeetsFirst : Automaton → Fault → Type 0
-MeetsFirst b f = Comes (tree_rules b) (begin (start_tree b)) (Meets f)
+MeetsFirst b f = Comes (tree_rules b) (begin (start_tree b)) (LimitMet f)

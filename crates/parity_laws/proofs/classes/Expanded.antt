@@ -6,10 +6,10 @@ use Rattle.std.proofs.lemmas.Option.{none-some, same_Some}
 use Rattle.std.specs.List.{range_with_len}
 use Rattle.aut_base.proofs.order.AllPairsOf.{pairs_map}
 use Rattle.aut_base.proofs.lists.Members.{from_filter, from_map, from_range, there_filter, there_map, there_range_zero}
-use Rattle.aut_base.specs.Automaton.{Automaton, TreeEdge}
+use Rattle.aut_base.specs.Automaton.{Automaton, LabelledEdge}
 use Rattle.aut_base.specs.Label.{LabelTree, True, holds_at, truth}
 use Rattle.aut_base.specs.Word.{NameSet}
-use Rattle.aut_core.specs.Deterministic.{AreApart, GoesOn, is_met}
+use Rattle.aut_core.specs.Deterministic.{AreApart, HasSuccessor, is_met}
 use Rattle.aut_core.specs.Surveys.{AreAllApart, edges_from}
 use Rattle.safra_trees.specs.Step.{IsTree}
 use Rattle.safra_trees.specs.Trees.{Node}
@@ -19,7 +19,7 @@ use Rattle.parity_laws.proofs.classes.RootMoves.{same_root_moves}
 use Rattle.parity_laws.specs.Buchi.{moves_at}
 use Rattle.parity_laws.specs.Classes.{MeetsClass}
 use Rattle.parity_laws.specs.Determinised.{IsStepEdge, tree_at}
-use Rattle.parity_laws.specs.Explored.{IsExpanded, class_edge, root_labels, root_moves}
+use Rattle.parity_laws.specs.Explored.{IsExpanded, tree_class_edge, root_labels, root_moves}
 
 meets_within : (classes : List LabelTree) (on : ℕ → Bool) (k : ℕ) → MeetsClass classes on k → k < length classes
 meets_within [] on k meets = absurd (none-some true meets)
@@ -40,18 +40,18 @@ module _ (b d : Automaton) (trees : List (List Node)) (most i : ℕ) (x : IsExpa
   abbrev t : List Node
   t = tree_at trees i
 
-  abbrev edge_for : ℕ → TreeEdge
-  edge_for k = class_edge b t most i (slice_index_or x.classes k True) (x.to k) (root_moves b t (x.valuation k))
+  abbrev edge_for : ℕ → LabelledEdge
+  edge_for k = tree_class_edge b t most i (slice_index_or x.classes k True) (x.to k) (root_moves b t (x.valuation k))
 
   -- an edge of the state is that of a class
-  record OfClass (e : TreeEdge) : Type 0 where
+  record OfClass (e : LabelledEdge) : Type 0 where
     place : ℕ
     below : place < length x.classes
     is : edge_for place ≡ e
 
-  of_class : (e : TreeEdge) → Contains d.edges e → e.from ≡ i → OfClass e
+  of_class : (e : LabelledEdge) → Contains d.edges e → e.from ≡ i → OfClass e
   of_class e there from =
-      let inside = subst (λ es. Contains es e) x.edges (there_filter (λ (f : TreeEdge). f.from == i) d.edges e there (eq-eqb e.from i from)) in
+      let inside = subst (λ es. Contains es e) x.edges (there_filter (λ (f : LabelledEdge). f.from == i) d.edges e there (eq-eqb e.from i from)) in
       let found = from_map edge_for (range_with_len 0 (length x.classes)) e inside in
       record { place = found.0; below = omega (arith, (from_range 0 (length x.classes) found.0 found.1).1); is = found.2 }
 
@@ -64,7 +64,7 @@ module _ (b d : Automaton) (trees : List (List Node)) (most i : ℕ) (x : IsExpa
       let on = holds_at d.names letter in
       (x.are.alike on on j k (meets_place j within letter one) (meets_place k below letter two)).1 (λ m l less. refl)
 
-  pub goes_on : (letter : NameSet) → GoesOn d i letter
+  pub goes_on : (letter : NameSet) → HasSuccessor d i letter
   goes_on letter =
       let on = holds_at d.names letter in
       let found = x.are.every on in
@@ -73,7 +73,7 @@ module _ (b d : Automaton) (trees : List (List Node)) (most i : ℕ) (x : IsExpa
       let inside = subst (λ es. Contains es (edge_for k)) (sym x.edges) (there_map edge_for (range_with_len 0 (length x.classes)) k (there_range_zero (length x.classes) k within)) in
       record {
         edge = edge_for k;
-        is_edge = (from_filter (λ (f : TreeEdge). f.from == i) d.edges (edge_for k) inside).0;
+        is_edge = (from_filter (λ (f : LabelledEdge). f.from == i) d.edges (edge_for k) inside).0;
         from = refl;
         meets = meets_is x.classes on k found.1;
       }
@@ -104,7 +104,7 @@ module _ (b d : Automaton) (trees : List (List Node)) (most i : ℕ) (x : IsExpa
       let same = root_moves_are_enough b.states most (moves_at b letter) (root_moves b t (x.valuation k)) t tree (same_moves names k below letter meets) in
       record { to = x.below k below; tree = x.tree k below ∙ sym same.0; marks = ap (λ (m : ℕ). m ∷ []) (sym same.1) }
 
-  pub step_edge : d.names ≡ b.names → IsTree t → (e : TreeEdge) → Contains d.edges e → e.from ≡ i → (letter : NameSet) → is_met d.names letter e ≡ true → IsStepEdge b trees most letter e
+  pub step_edge : d.names ≡ b.names → IsTree t → (e : LabelledEdge) → Contains d.edges e → e.from ≡ i → (letter : NameSet) → is_met d.names letter e ≡ true → IsStepEdge b trees most letter e
   step_edge names tree e there from letter meets =
       let c = of_class e there from in
       let here : is_met d.names letter (edge_for c.place) ≡ true = ap (is_met d.names letter) c.is ∙ meets in

@@ -1,20 +1,20 @@
 -- What is explored class by class is determinised.
 use Rattle.std.proofs.Common.{◌<◌, ℕ, true, List, ap, arith, length, refl}
 use Rattle.aut_base.proofs.lists.Members.{each_there}
-use Rattle.aut_base.specs.Automaton.{Automaton, TreeEdge}
+use Rattle.aut_base.specs.Automaton.{Automaton, LabelledEdge}
 use Rattle.aut_core.proofs.Deterministic.{deterministic_if}
 use Rattle.aut_core.specs.Deterministic.{IsComplete, IsDeterministic}
 use Rattle.aut_core.specs.Surveys.{AreAllApart, edges_from}
 use Rattle.safra_trees.specs.Trees.{Node}
 use Rattle.parity_laws.proofs.classes.Expanded.{edges_apart, goes_on, step_edge}
-use Rattle.parity_laws.specs.Explored.{ExploredIsDeterminised, IsExplored}
+use Rattle.parity_laws.specs.Explored.{ExploredIsDeterminised, IsTreeExploration}
 
-module _ (b d : Automaton) (trees : List (List Node)) (most : ℕ) (explored : IsExplored b d trees most) where
+module _ (b d : Automaton) (trees : List (List Node)) (most : ℕ) (explored : IsTreeExploration b d trees most) where
   deterministic : IsDeterministic d
   deterministic =
       let states = explored.states in
       let starts = ap length explored.starts in
-      let within = each_there (λ (e : TreeEdge). e.from < d.states) d.edges (λ e there. omega (arith, states, explored.from e there)) in
+      let within = each_there (λ (e : LabelledEdge). e.from < d.states) d.edges (λ e there. omega (arith, states, explored.from e there)) in
       let apart : (q : ℕ) → q < d.states → AreAllApart d.names (edges_from q d.edges) = λ q less.
       edges_apart b d trees most q (explored.expanded q (omega (arith, states, less))) in
       (deterministic_if d true within (omega (arith, starts)) ((λ is. apart), (λ all. refl))).0 refl

@@ -3,7 +3,7 @@ use Rattle.std.proofs.Common.{◌≡◌, ◌∙◌, ◌&&◌, ℕ, Bool, true, L
 use Rattle.std.proofs.lemmas.List.Elements.{All-contains}
 use Rattle.std.proofs.lemmas.Bool.{and_from, and_parts}
 use Rattle.aut_base.proofs.lists.Members.{from_filter, from_map, there_filter, there_map}
-use Rattle.aut_base.specs.Automaton.{Automaton, TreeEdge}
+use Rattle.aut_base.specs.Automaton.{Automaton, LabelledEdge}
 use Rattle.aut_base.specs.Label.{LabelTree, holds_at, truth}
 use Rattle.aut_base.specs.Word.{NameSet}
 use Rattle.safra_trees.specs.Trees.{Node, holds}
@@ -16,11 +16,11 @@ use Rattle.parity_laws.specs.Explored.{root_labels, root_moves}
 pub same_root_moves : (b : Automaton) (t : List Node) (on : ℕ → Bool) (x : NameSet)
     → All (λ l. truth (holds_at b.names x) l ≡ truth on l) (root_labels b t) → SameRootMoves (moves_at b x) (root_moves b t on) t
 same_root_moves b t on x same m h =
-    let at_root = λ (e : TreeEdge). holds t 0 e.from in
-    let passes = λ (e : TreeEdge). holds t 0 e.from && truth on e.label in
-    let label_there : (e : TreeEdge) → Contains b.edges e → holds t 0 e.from ≡ true → Contains (root_labels b t) e.label = λ e there from.
-    there_map (λ (g : TreeEdge). g.label) (filter at_root b.edges) e (there_filter at_root b.edges e there from) in
-    let each : (e : TreeEdge) → Contains b.edges e → holds t 0 e.from ≡ true → truth (holds_at b.names x) e.label ≡ truth on e.label = λ e there from.
+    let at_root = λ (e : LabelledEdge). holds t 0 e.from in
+    let passes = λ (e : LabelledEdge). holds t 0 e.from && truth on e.label in
+    let label_there : (e : LabelledEdge) → Contains b.edges e → holds t 0 e.from ≡ true → Contains (root_labels b t) e.label = λ e there from.
+    there_map (λ (g : LabelledEdge). g.label) (filter at_root b.edges) e (there_filter at_root b.edges e there from) in
+    let each : (e : LabelledEdge) → Contains b.edges e → holds t 0 e.from ≡ true → truth (holds_at b.names x) e.label ≡ truth on e.label = λ e there from.
     All-contains (λ (l : LabelTree). truth (holds_at b.names x) l ≡ truth on l) (root_labels b t) e.label same (label_there e there from) in (
       (λ there. (
           let e = edge_of b x m there in

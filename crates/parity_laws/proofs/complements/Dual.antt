@@ -7,7 +7,7 @@ use Rattle.aut_base.proofs.runs.LassoRuns.{accepts_of, later, marks_of, run_of}
 use Rattle.aut_base.proofs.runs.OtherEdges.{run_wider}
 use Rattle.aut_base.proofs.runs.Paths.{path_join}
 use Rattle.aut_base.specs.Acceptance.{Accepts, IsPath}
-use Rattle.aut_base.specs.Automaton.{Automaton, IsEdgeOf, TreeEdge}
+use Rattle.aut_base.specs.Automaton.{Automaton, IsEdgeOf, LabelledEdge}
 use Rattle.aut_base.specs.Formula.{FormulaTree, met}
 use Rattle.aut_base.specs.Runs.{LassoRun}
 use Rattle.aut_base.specs.Word.{NameSet, copies}
@@ -16,7 +16,7 @@ use Rattle.acc_forms.specs.Dual.{dual}
 use Rattle.aut_core.specs.Deterministic.{IsDeterministic}
 use Rattle.parity_laws.proofs.runs.OnePath.{one_start, same_path}
 use Rattle.parity_laws.proofs.runs.Runs.{IsClosed, closes, run}
-use Rattle.parity_laws.specs.Complement.{AreComplements, ComplementsOfTheSame, DualIsComplement, dualised}
+use Rattle.parity_laws.specs.Complement.{AreComplementLanguages, ComplementsOfTheSame, DualIsComplement, dualised}
 
 opposite : (cycle : List (List ℕ)) (f : FormulaTree) → met cycle f ≡ true → met cycle (dual f) ≡ true → ⊥
 opposite cycle f one two = true≢false (sym one ∙ not-true (met cycle f) (sym (met-dual cycle f) ∙ two))
@@ -78,7 +78,7 @@ one_of_the_two d size start closed is_start below u v endless =
     ]
 
 pub complements : (a made : Automaton) → ((u v : List NameSet) → 0 < length v → Accepts a u v ⊎ Accepts made u v)
-    → ((u v : List NameSet) → Accepts a u v → Accepts made u v → ⊥) → AreComplements a made
+    → ((u v : List NameSet) → Accepts a u v → Accepts made u v → ⊥) → AreComplementLanguages a made
 complements a made one never = record {
   one = one;
   never_both = never;

@@ -5,9 +5,9 @@ use Rattle.std.proofs.lemmas.List.{length-map, map-append}
 use Rattle.std.proofs.Math.Nat.{mul-pos}
 use Rattle.aut_base.proofs.lists.Copies.{copies-add, copies-copies}
 use Rattle.aut_base.proofs.lists.Members.{none_there, there_cases}
-use Rattle.aut_base.proofs.runs.Paths.{goes_on}
+use Rattle.aut_base.proofs.runs.Paths.{some_edges}
 use Rattle.aut_base.specs.Acceptance.{Accepts, IsPath}
-use Rattle.aut_base.specs.Automaton.{Automaton, TreeEdge}
+use Rattle.aut_base.specs.Automaton.{Automaton, LabelledEdge}
 use Rattle.aut_base.specs.Formula.{met}
 use Rattle.aut_base.specs.Word.{NameSet, copies}
 use Rattle.acc_forms.specs.Parity.{parity_min_odd}
@@ -20,8 +20,8 @@ use Rattle.safra_laws.specs.Rounds.{IsAccepted, IsMovePath, next_tree, tree_afte
 use Rattle.parity_laws.proofs.directions.Trees.{follow, only_start}
 use Rattle.parity_laws.proofs.letters.Moves.{accepting_met, edges_of_path}
 use Rattle.parity_laws.proofs.letters.Priorities.{met_odd, single}
-use Rattle.parity_laws.specs.Buchi.{IsBuchi, moves_at}
-use Rattle.parity_laws.specs.Determinised.{IsDeterminised, tree_at}
+use Rattle.parity_laws.specs.Buchi.{IsBuchiForm, moves_at}
+use Rattle.parity_laws.specs.Determinised.{TracksTrees, tree_at}
 
 map-copies : {X Y : Type 0} (f : X → Y) (k : ℕ) (xs : List X) → copies k (map f xs) ≡ map f (copies k xs)
 map-copies f zero xs = refl
@@ -35,7 +35,7 @@ each_below n most t (ms ∷ w) m there = elim (there_cases (priority n most ms t
 ]
 
 -- what is accepted over the moves of the letters is accepted by the automaton
-accepted_of : (b : Automaton) → IsBuchi b → (u v : List NameSet) (turns rounds : ℕ) → 0 < length v → 0 < rounds
+accepted_of : (b : Automaton) → IsBuchiForm b → (u v : List NameSet) (turns rounds : ℕ) → 0 < length v → 0 < rounds
     → IsAccepted b.starts (map (moves_at b) (u ++ copies turns v)) (map (moves_at b) (copies rounds v)) → Accepts b u v
 accepted_of b buchi u v turns rounds endless positive a =
     let stem = u ++ copies turns v in
@@ -59,7 +59,7 @@ accepted_of b buchi u v turns rounds endless positive a =
       meets = accepting_met second.edges a.cycle b.formula buchi.formula second.is a.accepts;
     }
 
-pub from_trees : (b d : Automaton) (trees : List (List Node)) (most : ℕ) → IsBuchi b → IsDeterminised b d trees most → (u v : List NameSet) → Accepts d u v → Accepts b u v
+pub from_trees : (b d : Automaton) (trees : List (List Node)) (most : ℕ) → IsBuchiForm b → TracksTrees b d trees most → (u v : List NameSet) → Accepts d u v → Accepts b u v
 from_trees b d trees most buchi det u v r =
     let n = b.states in
     let stem = u ++ copies r.turns v in
@@ -75,10 +75,10 @@ from_trees b d trees most buchi det u v r =
     let reached : tree_after n root letters ≡ t = ap (λ s. tree_after n s letters) (sym det.first) ∙ lead.tree in
     let returns : tree_after n (tree_after n root letters) round ≡ tree_after n root letters = ap (λ s. tree_after n s round) reached ∙ (home.tree ∙ sym reached) in
     let meets : met (single all) (parity_min_odd (most + most + 1)) ≡ true =
-    ap (λ ms. met ms (parity_min_odd (most + most + 1))) (sym home.marks) ∙ (ap (met (map (λ (e : TreeEdge). e.marks) r.cycle)) (sym det.formula) ∙ r.meets) in
+    ap (λ ms. met ms (parity_min_odd (most + most + 1))) (sym home.marks) ∙ (ap (met (map (λ (e : LabelledEdge). e.marks) r.cycle)) (sym det.formula) ∙ r.meets) in
     let steps : length r.cycle ≡ length all =
-    sym (length-map r.cycle (λ (e : TreeEdge). e.marks)) ∙ (ap length home.marks ∙ length-map all (λ (m : ℕ). m ∷ [])) in
-    let some : 0 < length all = omega (arith, goes_on d r.state r.state r.rounds v r.cycle r.endless r.positive r.returns, steps) in
+    sym (length-map r.cycle (λ (e : LabelledEdge). e.marks)) ∙ (ap length home.marks ∙ length-map all (λ (m : ℕ). m ∷ [])) in
+    let some : 0 < length all = omega (arith, some_edges d r.state r.state r.rounds v r.cycle r.endless r.positive r.returns, steps) in
     let odd = met_odd most all some (each_below n most t round) meets in
     let accepted = odd_is_accepted n most b.starts letters round returns (subst (λ s. IsOdd (least_priority n most s round)) (sym reached) odd) in
     accepted_of b buchi u v r.turns r.rounds r.endless r.positive accepted

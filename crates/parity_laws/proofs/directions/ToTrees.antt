@@ -8,7 +8,7 @@ use Rattle.aut_base.proofs.lists.Members.{first_there}
 use Rattle.aut_base.proofs.runs.Paths.{path_copies, path_join}
 use Rattle.aut_base.proofs.words.SameEdges.{gone_alike, met_alike}
 use Rattle.aut_base.specs.Acceptance.{Accepts, IsPath}
-use Rattle.aut_base.specs.Automaton.{Automaton, TreeEdge}
+use Rattle.aut_base.specs.Automaton.{Automaton, LabelledEdge}
 use Rattle.aut_base.specs.Formula.{Inf, met}
 use Rattle.aut_base.specs.Word.{NameSet, copies}
 use Rattle.aut_base.proofs.words.Turns.{more_turns}
@@ -21,24 +21,24 @@ use Rattle.safra_laws.proofs.invariant.FirstTree.{first_is_tree}
 use Rattle.safra_laws.proofs.invariant.Root.{root_is_reached}
 use Rattle.safra_laws.proofs.parity.Both.{accepted_is_odd}
 use Rattle.safra_laws.specs.Priorities.{priorities}
-use Rattle.safra_laws.specs.Rounds.{IsReached, tree_after}
+use Rattle.safra_laws.specs.Rounds.{IsReachedByWord, tree_after}
 use Rattle.parity_laws.proofs.directions.Trees.{closed, follow}
 use Rattle.parity_laws.proofs.letters.Moves.{goals_below, met_buchi, moves_of_path}
 use Rattle.parity_laws.proofs.letters.Priorities.{odd_met}
 use Rattle.parity_laws.proofs.runs.Runs.{closes, run}
-use Rattle.parity_laws.specs.Buchi.{IsBuchi, move_of, moves_at}
-use Rattle.parity_laws.specs.Determinised.{IsDeterminised, tree_at}
+use Rattle.parity_laws.specs.Buchi.{IsBuchiForm, move_of, moves_at}
+use Rattle.parity_laws.specs.Determinised.{TracksTrees, tree_at}
 
 -- a cycle that meets the condition, gone more often, has an accepting move
-accepting_copies : (b : Automaton) → IsBuchi b → (k : ℕ) (cycle : List TreeEdge) → 0 < k → met (map (λ e. e.marks) cycle) b.formula ≡ true
+accepting_copies : (b : Automaton) → IsBuchiForm b → (k : ℕ) (cycle : List LabelledEdge) → 0 < k → met (map (λ e. e.marks) cycle) b.formula ≡ true
     → list_any (λ (m : Move). m.accepting) (map move_of (copies k cycle)) ≡ true
 accepting_copies b buchi k cycle positive meets =
-    let marks = λ (es : List TreeEdge). map (λ (e : TreeEdge). e.marks) es in
+    let marks = λ (es : List LabelledEdge). map (λ (e : LabelledEdge). e.marks) es in
     sym (met_buchi (copies k cycle))
-    ∙ (met_alike (marks (copies k cycle)) (marks cycle) (gone_alike (λ (e : TreeEdge). e.marks) k cycle positive) (Inf 0 false)
+    ∙ (met_alike (marks (copies k cycle)) (marks cycle) (gone_alike (λ (e : LabelledEdge). e.marks) k cycle positive) (Inf 0 false)
     ∙ (ap (met (marks cycle)) (sym buchi.formula) ∙ meets))
 
-pub to_trees : (b d : Automaton) (trees : List (List Node)) (most : ℕ) → IsBuchi b → IsDeterminised b d trees most → (u v : List NameSet) → Accepts b u v → Accepts d u v
+pub to_trees : (b d : Automaton) (trees : List (List Node)) (most : ℕ) → IsBuchiForm b → TracksTrees b d trees most → (u v : List NameSet) → Accepts b u v → Accepts d u v
 to_trees b d trees most buchi det u v a =
     let n = b.states in
     let is_closed = closed b d trees most det in
@@ -57,7 +57,7 @@ to_trees b d trees most buchi det u v a =
     let t = tree_at trees c.state in
     let reached : tree_after n root letters ≡ t = ap (λ s. tree_after n s letters) (sym det.first) ∙ lead.tree in
     let tree : IsTree t = subst IsTree reached (after_is_tree n root letters (first_is_tree n b.starts)) in
-    let found : IsReached b.starts letters a.state = record { start = a.start; path = map move_of way; is_start = a.is_start; leads = moves_of_path b a.start a.state prefix way ran } in
+    let found : IsReachedByWord b.starts letters a.state = record { start = a.start; path = map move_of way; is_start = a.is_start; leads = moves_of_path b a.start a.state prefix way ran } in
     let rooted : holds t 0 a.state ≡ true = subst (λ s. holds s 0 a.state ≡ true) reached ((root_is_reached n b.starts letters a.state buchi.starts (goals_below b buchi prefix)).1 found) in
     let round = copies c.more w in
     let edges = copies c.more a.cycle in
@@ -77,6 +77,6 @@ to_trees b d trees most buchi det u v a =
       leads = subst (λ z. IsPath d 0 z (begun.way ++ c.way) c.state) (more_turns a.turns c.before a.rounds u v) whole;
       positive = mul-pos c.positive a.positive;
       returns = subst (λ z. IsPath d c.state z c.cycle c.state) (copies-copies c.more a.rounds v) c.returns;
-      meets = ap (met (map (λ (e : TreeEdge). e.marks) c.cycle)) det.formula
+      meets = ap (met (map (λ (e : LabelledEdge). e.marks) c.cycle)) det.formula
           ∙ (ap (λ ms. met ms (parity_min_odd (most + most + 1))) home.marks ∙ odd_met most (priorities n most t (map (moves_at b) round)) odd);
     }

@@ -5,14 +5,14 @@ use Rattle.std.specs.List.{list_any}
 use Rattle.aut_base.proofs.lists.Lists.{list_any-map}
 use Rattle.aut_base.proofs.lists.Members.{from_filter, from_map, there_filter, there_map}
 use Rattle.aut_base.specs.Acceptance.{IsPath}
-use Rattle.aut_base.specs.Automaton.{Automaton, IsEdgeOf, TreeEdge}
+use Rattle.aut_base.specs.Automaton.{Automaton, IsEdgeOf, LabelledEdge}
 use Rattle.aut_base.specs.Formula.{FormulaTree, Inf, met}
 use Rattle.aut_base.specs.Marks.{is_in}
 use Rattle.aut_base.specs.Word.{NameSet}
 use Rattle.aut_core.specs.Deterministic.{is_met}
 use Rattle.safra_trees.specs.declared.moves.Move.{Move}
 use Rattle.safra_laws.specs.Rounds.{GoalsBelow, IsMovePath}
-use Rattle.parity_laws.specs.Buchi.{IsBuchi, WellFormedIsBuchi, move_of, moves_at}
+use Rattle.parity_laws.specs.Buchi.{IsBuchiForm, WellFormedIsBuchi, move_of, moves_at}
 
 pub well_formed_is_buchi : WellFormedIsBuchi
 well_formed_is_buchi b formed formula = record {
@@ -21,12 +21,12 @@ well_formed_is_buchi b formed formula = record {
   ends = λ e there. (All-contains (IsEdgeOf b) b.edges e formed.edges there).to;
 }
 
-pub move_there : (b : Automaton) (x : NameSet) (e : TreeEdge) → Contains b.edges e → is_met b.names x e ≡ true → Contains (moves_at b x) (move_of e)
+pub move_there : (b : Automaton) (x : NameSet) (e : LabelledEdge) → Contains b.edges e → is_met b.names x e ≡ true → Contains (moves_at b x) (move_of e)
 move_there b x e there meets = there_map move_of (filter (is_met b.names x) b.edges) e (there_filter (is_met b.names x) b.edges e there meets)
 
 -- a move of a letter is an edge that the letter meets
 pub record EdgeOf (b : Automaton) (x : NameSet) (m : Move) : Type 0 where
-  pub edge : TreeEdge
+  pub edge : LabelledEdge
   pub there : Contains b.edges edge
   pub meets : is_met b.names x edge ≡ true
   pub is : move_of edge ≡ m
@@ -37,7 +37,7 @@ edge_of b x m there =
     let parts = from_filter (is_met b.names x) b.edges found.0 found.1 in
     record { edge = found.0; there = parts.0; meets = parts.1; is = found.2 }
 
-pub goals_below : (b : Automaton) → IsBuchi b → (xs : List NameSet) → GoalsBelow b.states (map (moves_at b) xs)
+pub goals_below : (b : Automaton) → IsBuchiForm b → (xs : List NameSet) → GoalsBelow b.states (map (moves_at b) xs)
 goals_below b buchi [] = tt
 goals_below b buchi (x ∷ xs) = (
   (λ m there. (let e = edge_of b x m there in subst (λ (w : Move). w.to < b.states) e.is (buchi.ends e.edge e.there))),
@@ -45,7 +45,7 @@ goals_below b buchi (x ∷ xs) = (
 )
 
 -- a path of edges, as one of moves
-pub moves_of_path : (b : Automaton) (p q : ℕ) (xs : List NameSet) (es : List TreeEdge) → IsPath b p xs es q → IsMovePath p (map (moves_at b) xs) (map move_of es) q
+pub moves_of_path : (b : Automaton) (p q : ℕ) (xs : List NameSet) (es : List LabelledEdge) → IsPath b p xs es q → IsMovePath p (map (moves_at b) xs) (map move_of es) q
 moves_of_path b p q [] [] path = path
 moves_of_path b p q [] (e ∷ es) path = absurd path
 moves_of_path b p q (x ∷ xs) [] path = absurd path
@@ -53,7 +53,7 @@ moves_of_path b p q (x ∷ xs) (e ∷ es) path = (path.0, move_there b x e path.
 
 -- and a path of moves, as one of edges
 pub record EdgePath (b : Automaton) (p q : ℕ) (xs : List NameSet) (ms : List Move) : Type 0 where
-  pub edges : List TreeEdge
+  pub edges : List LabelledEdge
   pub path : IsPath b p xs edges q
   pub is : map move_of edges ≡ ms
 
@@ -73,9 +73,9 @@ edges_of_path b p q (x ∷ xs) (m ∷ ms) path =
     }
 
 -- set 0 is met where a move is accepting
-pub met_buchi : (es : List TreeEdge) → met (map (λ (e : TreeEdge). e.marks) es) (Inf 0 false) ≡ list_any (λ (m : Move). m.accepting) (map move_of es)
-met_buchi es = list_any-map (is_in 0) (λ (e : TreeEdge). e.marks) es ∙ sym (list_any-map (λ (m : Move). m.accepting) move_of es)
+pub met_buchi : (es : List LabelledEdge) → met (map (λ (e : LabelledEdge). e.marks) es) (Inf 0 false) ≡ list_any (λ (m : Move). m.accepting) (map move_of es)
+met_buchi es = list_any-map (is_in 0) (λ (e : LabelledEdge). e.marks) es ∙ sym (list_any-map (λ (m : Move). m.accepting) move_of es)
 
-pub accepting_met : (es : List TreeEdge) (ms : List Move) (f : FormulaTree) → f ≡ Inf 0 false → map move_of es ≡ ms → list_any (λ (m : Move). m.accepting) ms ≡ true
-    → met (map (λ (e : TreeEdge). e.marks) es) f ≡ true
-accepting_met es ms f formula is accepts = ap (met (map (λ (e : TreeEdge). e.marks) es)) formula ∙ (met_buchi es ∙ (ap (list_any (λ (m : Move). m.accepting)) is ∙ accepts))
+pub accepting_met : (es : List LabelledEdge) (ms : List Move) (f : FormulaTree) → f ≡ Inf 0 false → map move_of es ≡ ms → list_any (λ (m : Move). m.accepting) ms ≡ true
+    → met (map (λ (e : LabelledEdge). e.marks) es) f ≡ true
+accepting_met es ms f formula is accepts = ap (met (map (λ (e : LabelledEdge). e.marks) es)) formula ∙ (met_buchi es ∙ (ap (list_any (λ (m : Move). m.accepting)) is ∙ accepts))

@@ -3,20 +3,20 @@ use Rattle.std.proofs.Common.{◌≡◌, ◌∙◌, ◌+◌, ◌-◌, ◌<◌, �
 use Rattle.aut_base.proofs.runs.Paths.{path_join}
 use Rattle.aut_base.proofs.numbers.Pigeonhole.{pigeons}
 use Rattle.aut_base.specs.Acceptance.{IsPath}
-use Rattle.aut_base.specs.Automaton.{Automaton, TreeEdge}
+use Rattle.aut_base.specs.Automaton.{Automaton, LabelledEdge}
 use Rattle.aut_base.specs.Word.{NameSet, copies}
-use Rattle.aut_core.specs.Deterministic.{GoesOn, is_met}
+use Rattle.aut_core.specs.Deterministic.{HasSuccessor, is_met}
 
 -- the states below `size` go on among themselves
 pub record IsClosed (d : Automaton) (size : ℕ) : Type 0 where
-  pub total : (i : ℕ) (x : NameSet) → i < size → GoesOn d i x
-  pub within : (e : TreeEdge) (x : NameSet) → Contains d.edges e → is_met d.names x e ≡ true → e.to < size
+  pub total : (i : ℕ) (x : NameSet) → i < size → HasSuccessor d i x
+  pub within : (e : LabelledEdge) (x : NameSet) → Contains d.edges e → is_met d.names x e ≡ true → e.to < size
 
 module _ (d : Automaton) (size : ℕ) (closed : IsClosed d size) where
   pub record Run (i : ℕ) (xs : List NameSet) : Type 0 where
     pub stop : ℕ
     pub below : stop < size
-    pub way : List TreeEdge
+    pub way : List LabelledEdge
     pub leads : IsPath d i xs way stop
 
   pub run : (i : ℕ) → i < size → (xs : List NameSet) → Run i xs
@@ -39,7 +39,7 @@ module _ (d : Automaton) (size : ℕ) (closed : IsClosed d size) where
   times v (suc k) a = times v k (next v a)
 
   record Gone (v : List NameSet) (k : ℕ) (a c : Within) : Type 0 where
-    way : List TreeEdge
+    way : List LabelledEdge
     leads : IsPath d a.state (copies k v) way c.state
 
   gone : (v : List NameSet) (k : ℕ) (a : Within) → Gone v k a (times v k a)
@@ -62,8 +62,8 @@ module _ (d : Automaton) (size : ℕ) (closed : IsClosed d size) where
     pub positive : 0 < more
     pub state : ℕ
     pub below : state < size
-    pub way : List TreeEdge
-    pub cycle : List TreeEdge
+    pub way : List LabelledEdge
+    pub cycle : List LabelledEdge
     pub leads : IsPath d i (copies before v) way state
     pub returns : IsPath d state (copies more v) cycle state
 

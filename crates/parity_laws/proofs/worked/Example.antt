@@ -9,7 +9,7 @@ use Rattle.std.proofs.Common.{◌∷◌, All, Contains, Some, ap, arith, inl, in
 use Rattle.std.proofs.lemmas.Bool.{cases_Bool, true≢false}
 use Rattle.std.proofs.lemmas.Option.{none-some, same_Some}
 use Rattle.aut_base.proofs.lists.Members.{each_there, first_there, later_there, none_there, placed_there, there_cases}
-use Rattle.aut_base.specs.Automaton.{TreeEdge}
+use Rattle.aut_base.specs.Automaton.{LabelledEdge}
 use Rattle.aut_base.specs.Label.{LabelTree, truth}
 use Rattle.safra_trees.specs.Step.{IsTree}
 use Rattle.safra_trees.specs.declared.moves.Move.{Move}
@@ -20,12 +20,12 @@ use Rattle.safra_laws.proofs.invariant.FirstTree.{first_is_tree}
 use Rattle.safra_laws.specs.Example.{letter_a, tree_of_start}
 use Rattle.parity_laws.proofs.classes.Explored.{explored_is_determinised}
 use Rattle.parity_laws.proofs.directions.Both.{accepts_the_same, determinised_dual}
-use Rattle.parity_laws.specs.Buchi.{IsBuchi}
+use Rattle.parity_laws.specs.Buchi.{IsBuchiForm}
 use Rattle.parity_laws.specs.Classes.{AreClassesOf, MeetsClass}
 use Rattle.parity_laws.specs.Determinised.{tree_at}
 use Rattle.parity_laws.specs.Example.{WorkedDeterminisation, determinised, finitely_often, its_trees, when_a, when_not_a}
 use Rattle.aut_core.specs.Surveys.{edges_from}
-use Rattle.parity_laws.specs.Explored.{IsExpanded, IsExplored, class_edge, root_labels, root_moves}
+use Rattle.parity_laws.specs.Explored.{IsExpanded, IsTreeExploration, tree_class_edge, root_labels, root_moves}
 
 -- it holds of each item
 abbrev EachOf : {X : Type 0} → (X → Type 0) → List X → Type 0
@@ -111,8 +111,8 @@ moves_of_class i k = root_moves finitely_often (tree_at its_trees i) (in_class k
 abbrev TreeOf : ℕ → ℕ → ℕ → Type 0
 TreeOf i state k = tree_at its_trees (leads_to state k) ≡ next_tree 2 (moves_of_class i k) (tree_at its_trees i)
 
-abbrev edges_of : ℕ → ℕ → List TreeEdge
-edges_of i state = map (λ k. class_edge finitely_often (tree_at its_trees i) 2 i (slice_index_or two k LabelTree.True) (leads_to state k) (moves_of_class i k)) (range_with_len 0 2)
+abbrev edges_of : ℕ → ℕ → List LabelledEdge
+edges_of i state = map (λ k. tree_class_edge finitely_often (tree_at its_trees i) 2 i (slice_index_or two k LabelTree.True) (leads_to state k) (moves_of_class i k)) (range_with_len 0 2)
 
 expanded_by : (i state : ℕ) → TellsA (root_labels finitely_often (tree_at its_trees i)) → state < 3 → TreeOf i state 0 → TreeOf i state 1
     → edges_from i determinised.edges ≡ edges_of i state → IsExpanded finitely_often determinised its_trees 2 i
@@ -127,7 +127,7 @@ expanded_by i state tells less first second edges = record {
   edges = edges;
 }
 
-explored : IsExplored finitely_often determinised its_trees 2
+explored : IsTreeExploration finitely_often determinised its_trees 2
 explored = record {
   names = refl;
   states = refl;
@@ -138,7 +138,7 @@ explored = record {
       (after_is_tree 2 tree_of_start (letter_a ∷ []) (first_is_tree 2 (0 ∷ [])))
       (after_is_tree 2 tree_of_start (letter_a ∷ letter_a ∷ []) (first_is_tree 2 (0 ∷ [])));
   few = at_three (λ i. length (tree_at its_trees i) ≤ 2) (omega arith) (omega arith) (omega arith);
-  from = each_of (λ (e : TreeEdge). e.from < 3) determinised.edges (omega arith, (omega arith, (omega arith, (omega arith, (omega arith, (omega arith, tt))))));
+  from = each_of (λ (e : LabelledEdge). e.from < 3) determinised.edges (omega arith, (omega arith, (omega arith, (omega arith, (omega arith, (omega arith, tt))))));
   expanded = at_three (IsExpanded finitely_often determinised its_trees 2)
       (expanded_by 0 1 tells_two (omega arith) refl refl refl)
       (expanded_by 1 2 tells_three (omega arith) refl refl refl)
@@ -146,11 +146,11 @@ explored = record {
   formula = refl;
 }
 
-buchi : IsBuchi finitely_often
+buchi : IsBuchiForm finitely_often
 buchi = record {
   formula = refl;
   starts = each_of (λ s. s < 2) (0 ∷ []) (omega arith, tt);
-  ends = each_of (λ (e : TreeEdge). e.to < 2) finitely_often.edges (omega arith, (omega arith, (omega arith, tt)));
+  ends = each_of (λ (e : LabelledEdge). e.to < 2) finitely_often.edges (omega arith, (omega arith, (omega arith, tt)));
 }
 
 -- by way of the second state to the third, and there round

@@ -20,20 +20,20 @@ use Rattle.parity_det.proofs.ParityLaws.{complement_is_determined, parity_exclud
 use Rattle.parity_det.specs.Complements as det
 use Rattle.parity_det.specs.declared.fault.CompFault.{CompFault}
 use Rattle.parity_det.specs.declared.fault.CompFault.TheVariants as comp
-use Rattle.plan_meaning.specs.Changes.{Bring, Change, Complement, Complete, IsInForm, Makes, MakesAll, MakesWithin, PassesBuchi, PassesDnf}
+use Rattle.plan_meaning.specs.Changes.{Bring, Change, Complement, Complete, IsMadeInForm, Makes, MakesAll, MakesWithin, PassesBuchi, PassesDnf}
 use Rattle.plan_meaning.specs.Changes.{PassesForm, PassesIn, PassesMonitor, PassesWithoutFin, Product, ProductOr, RemoveAp, StopsIn, Sum, Trim}
 use Rattle.plan_meaning.specs.Laws.{ChangesAreDetermined}
-use Rattle.plan_meaning.specs.Limits.{HaveFewNames, HaveManyNames, PassesOfBoth, PassesOfEither, PassesOfSum, PassesParity}
+use Rattle.plan_meaning.specs.Limits.{HaveFewNames, HaveManyNames, PassesOfBoth, PassesOfEither, PassesOfSum, PassesParityLimit}
 
 -- ---- one change
 
-one_deterministic : (a made other : Automaton) → IsInForm form.Deterministic a made → IsInForm form.Deterministic a other → made ≡ other
+one_deterministic : (a made other : Automaton) → IsMadeInForm form.Deterministic a made → IsMadeInForm form.Deterministic a other → made ≡ other
 one_deterministic a made other (inl h) (inl k) = h.1 ∙ sym k.1
 one_deterministic a made other (inl h) (inr k) = absurd (k.0 h.0)
 one_deterministic a made other (inr h) (inl k) = absurd (h.0 k.0)
 one_deterministic a made other (inr h) (inr k) = parity_is_determined a made other h.1 k.1
 
-one_form : (f : Form) (a made other : Automaton) → IsInForm f a made → IsInForm f a other → made ≡ other
+one_form : (f : Form) (a made other : Automaton) → IsMadeInForm f a made → IsMadeInForm f a other → made ≡ other
 one_form form.AsIs a made other h k = absurd h
 one_form form.Deterministic a made other h k = one_deterministic a made other h k
 one_form form.Parity a made other h k = parity_is_determined a made other h k
@@ -84,8 +84,8 @@ one_of_two which other a b (inr h) (inr k) = h.0 ∙ sym k.0
 -- the limit that an exploration of sets meets
 abbrev limit_of : Fault → Limit
 limit_of explored.Classes = limit.Classes
-limit_of explored.Things = limit.Subsets
-limit_of explored.Nodes = limit.Nodes
+limit_of explored.States = limit.Subsets
+limit_of explored.StepFailed = limit.Nodes
 limit_of explored.Memory = limit.Bytes
 
 -- either terms that are needed and too many, or else too many states
@@ -126,7 +126,7 @@ one_of_monitor which other a h k = joined (of_monitor which a h) (of_monitor oth
     of_monitor limit.Terms x p = inl (refl, p)
     of_monitor limit.BuchiStates x p = inr (inl (refl, p.0, p.1))
     of_monitor limit.Classes x p = inr (inr (record { few = p.0; fault = explored.Classes; meets = p.1; shown = refl }))
-    of_monitor limit.Subsets x p = inr (inr (record { few = p.0; fault = explored.Things; meets = p.1; shown = refl }))
+    of_monitor limit.Subsets x p = inr (inr (record { few = p.0; fault = explored.States; meets = p.1; shown = refl }))
     of_monitor _ x p = absurd p
 
     joined : ((which ≡ limit.Terms) × NeedsTooManyTerms a.formula) ⊎ (((which ≡ limit.BuchiStates) × (NeedsTooManyTerms a.formula → ⊥) × (MOST_BUCHI_STATES < buchi_states a)) ⊎ IsOfSubsets which a)
@@ -156,7 +156,7 @@ pub record IsOfParity (which : Limit) (a : Automaton) : Type 0 where
   pub passes : det.PassesParity fault a
   pub shown : which ≡ limit_of_fault fault
 
-pub of_parity : (which : Limit) (a : Automaton) → PassesParity which a → IsOfParity which a
+pub of_parity : (which : Limit) (a : Automaton) → PassesParityLimit which a → IsOfParity which a
 of_parity limit.Terms a h = record { fault = comp.Terms; passes = h; shown = refl }
 of_parity limit.BuchiStates a h = record { fault = comp.BuchiStates; passes = h; shown = refl }
 of_parity limit.Trees a h = record { fault = comp.Trees; passes = h; shown = refl }

@@ -2,7 +2,7 @@
 use Rattle.std.proofs.Common.{◌≡◌, ◌∙◌, ℕ, true, List, [], ◌∷◌, ◌++◌, flat_map, map, refl, subst, sym}
 use Rattle.std.specs.List.{AllByRecursion}
 use Rattle.acc_forms.proofs.TermLaws.{met-of_terms, met-terms}
-use Rattle.acc_forms.specs.Terms.{choices, each_terms, literal_tree, of_terms, pairs, terms}
+use Rattle.acc_forms.specs.Terms.{choices, each_terms, literal_formula, of_terms, pairs, terms}
 use Rattle.acc_forms.specs.declared.literal.Literal.{Literal}
 use Rattle.aut_base.proofs.lists.AllByRecursion.{AllByRecursion-append, AllByRecursion-flat_map, AllByRecursion-map, AllByRecursion-weaker}
 use Rattle.aut_base.proofs.runs.LassoRuns.{marks_of}
@@ -11,7 +11,7 @@ use Rattle.aut_base.specs.Acceptance.{Accepts}
 use Rattle.aut_base.specs.Automaton.{Automaton}
 use Rattle.aut_base.specs.Formula.{And, EachSetsBelow, False, Fin, FormulaTree, FormulaTrees, Inf, Or, SetsBelow, True, met, more, none}
 use Rattle.aut_base.specs.Word.{NameSet}
-use Rattle.aut_core.specs.Core.{Core, IsCore, automaton_of}
+use Rattle.aut_core.specs.SymbolicAutomata.{SymbolicAutomaton, IsWellFormedSymbolic, automaton_of}
 use Rattle.aut_core.specs.OtherNames.{AcceptTheSame}
 use Rattle.fin_removal.proofs.Conditions.{below_parts, of_terms_holds}
 use Rattle.plan_meaning.specs.Changes.{in_disjunctive_form}
@@ -20,7 +20,7 @@ use Rattle.plan_meaning.specs.Changes.{in_disjunctive_form}
 
 module _ (n : ℕ) where
   abbrev TermBelow : List Literal → Type 0
-  TermBelow term = AllByRecursion (λ l. SetsBelow n (literal_tree l)) term
+  TermBelow term = AllByRecursion (λ l. SetsBelow n (literal_formula l)) term
 
   abbrev TermsBelow : List (List Literal) → Type 0
   TermsBelow ts = AllByRecursion TermBelow ts
@@ -30,7 +30,7 @@ module _ (n : ℕ) where
       AllByRecursion-flat_map TermBelow (λ first. map (λ second. first ++ second) us) ts
       (AllByRecursion-weaker TermBelow (λ first. TermsBelow (map (λ second. first ++ second) us)) ts (λ first h.
       AllByRecursion-map TermBelow (λ second. first ++ second) us
-      (AllByRecursion-weaker TermBelow (λ second. TermBelow (first ++ second)) us (λ second k. AllByRecursion-append (λ l. SetsBelow n (literal_tree l)) first second h k) seconds)) firsts)
+      (AllByRecursion-weaker TermBelow (λ second. TermBelow (first ++ second)) us (λ second k. AllByRecursion-append (λ l. SetsBelow n (literal_formula l)) first second h k) seconds)) firsts)
 
   mutual
     pub terms_below : (f : FormulaTree) → SetsBelow n f → TermsBelow (terms f)
@@ -69,13 +69,13 @@ disjunctive_accepts a u v = (
 
 -- ---- its condition
 
-of_own : (c : Core) (f : FormulaTree) (ts : List (List Literal)) → ts ≡ terms c.formula → f ≡ of_terms ts → f ≡ of_terms (terms c.formula)
+of_own : (c : SymbolicAutomaton) (f : FormulaTree) (ts : List (List Literal)) → ts ≡ terms c.formula → f ≡ of_terms ts → f ≡ of_terms (terms c.formula)
 of_own c f ts listed joined = joined ∙ (λ i. of_terms (listed i))
 
-pub disjuncts_below : (c : Core) → IsCore c → (f : FormulaTree) (ts : List (List Literal)) → ts ≡ terms c.formula → f ≡ of_terms ts → SetsBelow c.sets f
+pub disjuncts_below : (c : SymbolicAutomaton) → IsWellFormedSymbolic c → (f : FormulaTree) (ts : List (List Literal)) → ts ≡ terms c.formula → f ≡ of_terms ts → SetsBelow c.sets f
 disjuncts_below c core f ts listed joined =
     subst (SetsBelow c.sets) (sym (of_own c f ts listed joined)) (of_terms_holds (SetsBelow c.sets) (below_parts c.sets) (terms c.formula) (terms_below c.sets c.formula core.parts.formula))
 
-pub same_disjuncts : (c made : Core) (f : FormulaTree) (ts : List (List Literal)) → ts ≡ terms c.formula → f ≡ of_terms ts → made ≡ record c { formula = f }
+pub same_disjuncts : (c made : SymbolicAutomaton) (f : FormulaTree) (ts : List (List Literal)) → ts ≡ terms c.formula → f ≡ of_terms ts → made ≡ record c { formula = f }
     → automaton_of made ≡ in_disjunctive_form (automaton_of c)
 same_disjuncts c made f ts listed joined same = (λ i. automaton_of (same i)) ∙ (λ i. record (automaton_of c) { formula = of_own c f ts listed joined i })

@@ -12,17 +12,17 @@ use Rattle.exploration.specs.declared.fault.Fault.{Fault}
 use Rattle.exploration.specs.declared.fault.Fault.TheVariants as explored
 use Rattle.filter_plan.specs.declared.plan.Form.TheVariants as form
 use Rattle.monitor_form.specs.Prefixes.{AcceptsPrefixes, HasPrefix}
-use Rattle.monitor_form.specs.Subsets.{IsMonitor, MeetsLimit}
+use Rattle.monitor_form.specs.Subsets.{IsMonitorAutomaton, MeetsLimit}
 use Rattle.monitor_form.specs.declared.fault.MonFault.TheVariants as monitor
 use Rattle.plan_meaning.specs.Changes.{Bring, PassesMonitor, SomePrefix}
-use Rattle.plan_meaning.specs.inner.Stepping.{IsMade}
+use Rattle.plan_meaning.specs.inner.Stepping.{IsMadeAsPromised}
 
 module _ (a : Automaton) where
   within : (NeedsTooManyTerms a.formula → ⊥) → buchi_states a ≤ MOST_BUCHI_STATES → ((f : Fault) → MeetsLimit a f → ⊥) → (which : Limit) → PassesMonitor which a → ⊥
   within terms few none limit.Terms h = terms h
   within terms few none limit.BuchiStates h = omega (arith, h.1, few)
   within terms few none limit.Classes h = none explored.Classes h.1
-  within terms few none limit.Subsets h = none explored.Things h.1
+  within terms few none limit.Subsets h = none explored.States h.1
   within terms few none _ h = h
 
   some_prefix : (u v : List NameSet) (n : ℕ) → HasPrefix a u v n → SomePrefix (λ x y. Accepts a x y) u v n
@@ -31,8 +31,8 @@ module _ (a : Automaton) where
   has_prefix : (u v : List NameSet) (n : ℕ) → SomePrefix (λ x y. Accepts a x y) u v n → HasPrefix a u v n
   has_prefix u v n p = record { stem = p.stem; cycle = p.cycle; accepted = p.said; same = p.same }
 
-  pub monitor_made : (made : Automaton) → (NeedsTooManyTerms a.formula → ⊥) → buchi_states a ≤ MOST_BUCHI_STATES → ((f : Fault) → MeetsLimit a f → ⊥) → IsMonitor a made
-      → IsDeterministic made → AcceptsPrefixes made a → IsMade (Bring form.Monitor ∷ []) a made
+  pub monitor_made : (made : Automaton) → (NeedsTooManyTerms a.formula → ⊥) → buchi_states a ≤ MOST_BUCHI_STATES → ((f : Fault) → MeetsLimit a f → ⊥) → IsMonitorAutomaton a made
+      → IsDeterministic made → AcceptsPrefixes made a → IsMadeAsPromised (Bring form.Monitor ∷ []) a made
   monitor_made made terms few none is deterministic accepts = record {
     all = (made, record { within = within terms few none; makes = is }, deterministic, refl);
     says = λ u v some. (

@@ -36,11 +36,11 @@ of_value P c (Some x) holds = record { holds = holds x }
 of_operand : (P : Change → Type 0) (c : Automaton → Change) (o : Option (List ℕ)) (place : ℕ) (ops : List Automaton) → ((b : Automaton) → Contains ops b → P (c b))
     → IfAsked P (option_map c (operand_at o place ops))
 of_operand P c None place ops holds = record { holds = tt }
-of_operand P c (Some name) place ops holds = by (slice_get ops place) refl
+of_operand P c (Some name) place ops holds = by_cases (slice_get ops place) refl
   where
-    by : (found : Option Automaton) → slice_get ops place ≡ found → IfAsked P (option_map c found)
-    by None is = record { holds = tt }
-    by (Some b) is = record { holds = holds b (placed_there ops place b is) }
+    by_cases : (found : Option Automaton) → slice_get ops place ≡ found → IfAsked P (option_map c found)
+    by_cases None is = record { holds = tt }
+    by_cases (Some b) is = record { holds = holds b (placed_there ops place b is) }
 
 of_flag : (P : Change → Type 0) (c : Change) (asked : Bool) → P c → IfAsked P (then_some asked c)
 of_flag P c false holds = record { holds = tt }

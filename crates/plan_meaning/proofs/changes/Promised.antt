@@ -14,8 +14,8 @@ use Rattle.fin_removal.specs.Copies.{copied, without_fin}
 use Rattle.filter_plan.specs.declared.plan.Form.{Form}
 use Rattle.filter_plan.specs.declared.plan.Form.TheVariants as form
 use Rattle.filter_plan.specs.declared.plan.Plan.{Plan}
-use Rattle.monitor_form.specs.Subsets.{IsMonitor}
-use Rattle.plan_meaning.specs.Changes.{Bring, Change, Complete, IsInForm, MakesAll, changes_of, form_change, operation_options}
+use Rattle.monitor_form.specs.Subsets.{IsMonitorAutomaton}
+use Rattle.plan_meaning.specs.Changes.{Bring, Change, Complete, IsMadeInForm, MakesAll, changes_of, form_change, operation_options}
 use Rattle.degeneralise.specs.Buchi.{buchi}
 use Rattle.parity_det.proofs.ParityLaws.{parity_has_few_sets}
 use Rattle.parity_det.specs.Promises.{HasFewSets, IsParityMinOdd}
@@ -27,21 +27,21 @@ use Rattle.plan_meaning.specs.inner.Stepping.{MakesAsPromised, PromisesForm}
 
 -- the sink adds no set under a Büchi condition
 completed_buchi : (a : Automaton) → IsBuchi a → IsBuchi (completed a)
-completed_buchi a is = by (lacks_nothing a)
+completed_buchi a is = by_cases (lacks_nothing a)
   where
     unmet : is_met_unmarked a.formula ≡ false
     unmet = ap is_met_unmarked is.formula
 
-    by : (b : Bool) → IsBuchi (cond b a (with_sink a))
-    by true = is
-    by false = record {
+    by_cases : (b : Bool) → IsBuchi (cond b a (with_sink a))
+    by_cases true = is
+    by_cases false = record {
       sets = ap (λ (b : Bool). cond b (a.sets + 1) a.sets) unmet ∙ is.sets;
       formula = ap (λ (b : Bool). cond b (conj a.formula (Fin a.sets false)) a.formula) unmet ∙ is.formula;
     }
 
 -- a form that speaks of the condition alone
 completed_condition : (f : Form) (P : FormulaTree → Type 0) → ((x : Automaton) → P x.formula → IsOfForm f x) → (a : Automaton) → IsOfForm f a → P a.formula → OrHasSinkSet f true (completed a)
-completed_condition f P of a formed holds = by (lacks_nothing a)
+completed_condition f P of a formed holds = by_cases (lacks_nothing a)
   where
     sink : (u : Bool) → is_met_unmarked a.formula ≡ u → OrHasSinkSet f true (with_sink a)
     sink true e = inr (record {
@@ -52,9 +52,9 @@ completed_condition f P of a formed holds = by (lacks_nothing a)
     })
     sink false e = inl (of (with_sink a) (subst P (sym (ap (λ (b : Bool). cond b (conj a.formula (Fin a.sets false)) a.formula) e)) holds))
 
-    by : (b : Bool) → OrHasSinkSet f true (cond b a (with_sink a))
-    by true = inl formed
-    by false = sink (is_met_unmarked a.formula) refl
+    by_cases : (b : Bool) → OrHasSinkSet f true (cond b a (with_sink a))
+    by_cases true = inl formed
+    by_cases false = sink (is_met_unmarked a.formula) refl
 
 completed_no_fin : (a : Automaton) → has_fin a.formula ≡ false → OrHasSinkSet form.RemoveFin true (completed a)
 completed_no_fin a is = completed_condition form.RemoveFin (λ (f : FormulaTree). has_fin f ≡ false) (λ x h. h) a is is
@@ -64,14 +64,14 @@ completed_disjunctive a is = completed_condition form.Dnf IsDisjunctive (λ x h.
 
 -- a sink is added to a monitor wherever a letter is missing, with its set
 completed_safety : (a : Automaton) → IsDeterministicSafety a → OrHasSinkSet form.Monitor true (completed a)
-completed_safety a is = by (lacks_nothing a)
+completed_safety a is = by_cases (lacks_nothing a)
   where
     met_so : is_met_unmarked a.formula ≡ true
     met_so = ap is_met_unmarked is.formula
 
-    by : (b : Bool) → OrHasSinkSet form.Monitor true (cond b a (with_sink a))
-    by true = inl is
-    by false = inr (record {
+    by_cases : (b : Bool) → OrHasSinkSet form.Monitor true (cond b a (with_sink a))
+    by_cases true = inl is
+    by_cases false = inr (record {
       before = a;
       formed = is;
       sets = ap (λ (b : Bool). cond b (a.sets + 1) a.sets) met_so;
@@ -81,13 +81,13 @@ completed_safety a is = by (lacks_nothing a)
 -- ---- forms
 
 no_fin : (a : Automaton) → has_fin (without_fin a).formula ≡ false
-no_fin a = by (has_fin a.formula) refl
+no_fin a = by_cases (has_fin a.formula) refl
   where
-    by : (b : Bool) → has_fin a.formula ≡ b → has_fin (cond b (copied a) a).formula ≡ false
-    by true is = copied_no_fin a
-    by false is = is
+    by_cases : (b : Bool) → has_fin a.formula ≡ b → has_fin (cond b (copied a) a).formula ≡ false
+    by_cases true is = copied_no_fin a
+    by_cases false is = is
 
-of_monitor : (a made : Automaton) → IsMonitor a made → IsDeterministic made → IsDeterministicSafety made
+of_monitor : (a made : Automaton) → IsMonitorAutomaton a made → IsDeterministic made → IsDeterministicSafety made
 of_monitor a made is deterministic = record {
   deterministic = deterministic;
   sets = ap (λ (x : Automaton). x.sets) is.is.is;
@@ -95,7 +95,7 @@ of_monitor a made is deterministic = record {
 }
 
 -- what a change into a form makes is of that form
-of_form : (f : Form) (a made : Automaton) → IsInForm f a made → PromisesForm f made → IsOfForm f made
+of_form : (f : Form) (a made : Automaton) → IsMadeInForm f a made → PromisesForm f made → IsOfForm f made
 of_form form.AsIs a made h promised = tt
 of_form form.Deterministic a made h promised = promised
 of_form form.Parity a made h promised = promised
@@ -150,19 +150,19 @@ last_made true a made h =
     )
 
 formed : (p : Plan) (a made : Automaton) → MakesAsPromised (those_standing (form_change p.form ∷ then_some p.complete Complete ∷ [])) a made → KeepsPromises p made
-formed p a made h = by p.form h
+formed p a made h = by_cases p.form h
   where
     end : (f : Form) (b : Automaton) → IsOfForm f b → MakesAsPromised (those_standing (then_some p.complete Complete ∷ [])) b made → KeepsForm f p.complete made × (p.complete ≡ true → IsComplete made)
     end f b is k = let last = last_made p.complete b made k in (keeps f p.complete b made is last.0, last.1)
 
-    by : (f : Form) → MakesAsPromised (those_standing (form_change f ∷ then_some p.complete Complete ∷ [])) a made → KeepsForm f p.complete made × (p.complete ≡ true → IsComplete made)
-    by form.AsIs k = end form.AsIs a tt k
-    by form.Deterministic k = end form.Deterministic k.0 (of_form form.Deterministic a k.0 k.1.makes k.2) k.3
-    by form.Parity k = end form.Parity k.0 (of_form form.Parity a k.0 k.1.makes k.2) k.3
-    by form.Buchi k = end form.Buchi k.0 (of_form form.Buchi a k.0 k.1.makes k.2) k.3
-    by form.RemoveFin k = end form.RemoveFin k.0 (of_form form.RemoveFin a k.0 k.1.makes k.2) k.3
-    by form.Dnf k = end form.Dnf k.0 (of_form form.Dnf a k.0 k.1.makes k.2) k.3
-    by form.Monitor k = end form.Monitor k.0 (of_form form.Monitor a k.0 k.1.makes k.2) k.3
+    by_cases : (f : Form) → MakesAsPromised (those_standing (form_change f ∷ then_some p.complete Complete ∷ [])) a made → KeepsForm f p.complete made × (p.complete ≡ true → IsComplete made)
+    by_cases form.AsIs k = end form.AsIs a tt k
+    by_cases form.Deterministic k = end form.Deterministic k.0 (of_form form.Deterministic a k.0 k.1.makes k.2) k.3
+    by_cases form.Parity k = end form.Parity k.0 (of_form form.Parity a k.0 k.1.makes k.2) k.3
+    by_cases form.Buchi k = end form.Buchi k.0 (of_form form.Buchi a k.0 k.1.makes k.2) k.3
+    by_cases form.RemoveFin k = end form.RemoveFin k.0 (of_form form.RemoveFin a k.0 k.1.makes k.2) k.3
+    by_cases form.Dnf k = end form.Dnf k.0 (of_form form.Dnf a k.0 k.1.makes k.2) k.3
+    by_cases form.Monitor k = end form.Monitor k.0 (of_form form.Monitor a k.0 k.1.makes k.2) k.3
 
 pub promises_kept : (p : Plan) (ops : List Automaton) (a made : Automaton) → MakesAsPromised (changes_of p ops) a made → KeepsPromises p made
 promises_kept p ops a made h =

@@ -20,11 +20,11 @@ use Rattle.fin_removal.specs.Copies.{HasTooManyTerms, copied}
 use Rattle.filter_plan.specs.declared.plan.Form.TheVariants as form
 use Rattle.plan_meaning.proofs.changes.Stepping.{changed_once}
 use Rattle.plan_meaning.specs.Changes.{Bring, Complete, PassesForm, Trim, in_disjunctive_form}
-use Rattle.plan_meaning.specs.inner.Stepping.{HasRoom, IsMade, IsOfComplementSize, IsOfSumSize}
+use Rattle.plan_meaning.specs.inner.Stepping.{HasRoom, IsMadeAsPromised, IsOfComplementSize, IsOfSumSize}
 
 -- ---- trimming
 
-pub trim_made : (a made : Automaton) → IsTrimmed a made → AcceptTheSame made a → IsMade (Trim ∷ []) a made
+pub trim_made : (a made : Automaton) → IsTrimmed a made → AcceptTheSame made a → IsMadeAsPromised (Trim ∷ []) a made
 trim_made a made is accepts = changed_once Trim a made (λ which h. h) is tt accepts
 
 pub trim_within : (a made : Automaton) → IsTrimmed a made → IsOfSumSize a → IsOfSumSize made
@@ -39,7 +39,7 @@ fin_within : (a : Automaton) → (has_fin a.formula ≡ true → HasTooManyTerms
 fin_within a few limit.Terms h = few h.0 h.1
 fin_within a few _ h = h
 
-pub fin_itself : (a : Automaton) → has_fin a.formula ≡ false → IsMade (Bring form.RemoveFin ∷ []) a a
+pub fin_itself : (a : Automaton) → has_fin a.formula ≡ false → IsMadeAsPromised (Bring form.RemoveFin ∷ []) a a
 fin_itself a none = changed_once (Bring form.RemoveFin) a a
     (fin_within a (λ some many. false≢true (sym none ∙ some)))
     (sym (ap (λ (b : Bool). cond b (copied a) a) none))
@@ -59,7 +59,7 @@ fin_room a made few is within =
     not_many : (n : ℕ) → (MOST_TERMS < n → ⊥) → n ≤ MOST_TERMS
     not_many n few = omega (arith, few)
 
-pub copies_made : (a made : Automaton) → has_fin a.formula ≡ true → (HasTooManyTerms a → ⊥) → made ≡ copied a → AcceptTheSame made a → IsMade (Bring form.RemoveFin ∷ []) a made
+pub copies_made : (a made : Automaton) → has_fin a.formula ≡ true → (HasTooManyTerms a → ⊥) → made ≡ copied a → AcceptTheSame made a → IsMadeAsPromised (Bring form.RemoveFin ∷ []) a made
 copies_made a made has few is accepts = changed_once (Bring form.RemoveFin) a made (fin_within a (λ some many. few many)) (is ∙ sym (ap (λ (b : Bool). cond b (copied a) a) has)) tt accepts
 
 -- ---- the Büchi form
@@ -69,7 +69,7 @@ buchi_within a terms few limit.Terms h = terms h
 buchi_within a terms few limit.BuchiStates h = omega (arith, h.1, few)
 buchi_within a terms few _ h = h
 
-pub buchi_made : (a made : Automaton) → (NeedsTooManyTerms a.formula → ⊥) → buchi_states a ≤ MOST_BUCHI_STATES → made ≡ buchi a → AcceptTheSame made a → IsMade (Bring form.Buchi ∷ []) a made
+pub buchi_made : (a made : Automaton) → (NeedsTooManyTerms a.formula → ⊥) → buchi_states a ≤ MOST_BUCHI_STATES → made ≡ buchi a → AcceptTheSame made a → IsMadeAsPromised (Bring form.Buchi ∷ []) a made
 buchi_made a made terms few is accepts = changed_once (Bring form.Buchi) a made (buchi_within a terms few) is tt accepts
 
 -- ---- the disjunctive form
@@ -78,14 +78,15 @@ dnf_within : (a : Automaton) → (HasTooManyTerms a → ⊥) → (which : Limit)
 dnf_within a few limit.Terms h = few h
 dnf_within a few _ h = h
 
-pub dnf_made : (a made : Automaton) → (HasTooManyTerms a → ⊥) → made ≡ in_disjunctive_form a → AcceptTheSame made a → IsMade (Bring form.Dnf ∷ []) a made
+pub dnf_made : (a made : Automaton) → (HasTooManyTerms a → ⊥) → made ≡ in_disjunctive_form a → AcceptTheSame made a → IsMadeAsPromised (Bring form.Dnf ∷ []) a made
 dnf_made a made few is accepts = changed_once (Bring form.Dnf) a made (dnf_within a few) is tt accepts
 
 -- ---- completion
 
-pub complete_made : (a made : Automaton) → IsWellFormed a → made ≡ completed a → IsComplete made → (IsDeterministic a → IsDeterministic made) → AcceptTheSame made a → IsMade (Complete ∷ []) a made
+pub complete_made : (a made : Automaton) → IsWellFormed a → made ≡ completed a → IsComplete made → (IsDeterministic a → IsDeterministic made) → AcceptTheSame made a
+    → IsMadeAsPromised (Complete ∷ []) a made
 complete_made a made formed is complete deterministic accepts =
     changed_once Complete a made (λ which h. h) is (complete, deterministic, λ whole. is ∙ completed_same a formed whole) accepts
 
-pub complete_itself : (a : Automaton) → IsWellFormed a → IsComplete a → IsMade (Complete ∷ []) a a
+pub complete_itself : (a : Automaton) → IsWellFormed a → IsComplete a → IsMadeAsPromised (Complete ∷ []) a a
 complete_itself a formed is = changed_once Complete a a (λ which h. h) (sym (completed_same a formed is)) (is, (λ x. x), λ x. refl) (λ u v. ((λ x. x), (λ x. x)))

@@ -25,9 +25,9 @@ use Rattle.filter_plan.specs.declared.plan.Form.TheVariants as form
 use Rattle.fin_removal.specs.Copies.{without_fin}
 use Rattle.parity_det.specs.Complements.{IsWithinParity}
 use Rattle.parity_det.specs.declared.fault.CompFault.TheVariants as comp
-use Rattle.plan_meaning.specs.Changes.{Bring, Change, Complement, Complete, IsInForm, Makes, MakesAll, MakesWithin, PassesForm, PassesIn}
+use Rattle.plan_meaning.specs.Changes.{Bring, Change, Complement, Complete, IsMadeInForm, Makes, MakesAll, MakesWithin, PassesForm, PassesIn}
 use Rattle.plan_meaning.specs.Changes.{Product, ProductOr, RemoveAp, StopsIn, Sum, Trim, changes_of, in_disjunctive_form}
-use Rattle.plan_meaning.specs.Limits.{HaveFewNames, HaveManyNames, PassesParity}
+use Rattle.plan_meaning.specs.Limits.{HaveFewNames, HaveManyNames, PassesParityLimit}
 
 -- ---- one change
 
@@ -37,7 +37,7 @@ few_names a b few = elim (cases_lt MOST_NAMES (length (joined_names a.names b.na
   | inr within ↦ within
 ]
 
-within_parity : (a : Automaton) → ((which : Limit) → PassesParity which a → ⊥) → IsWithinParity a
+within_parity : (a : Automaton) → ((which : Limit) → PassesParityLimit which a → ⊥) → IsWithinParity a
 within_parity a within comp.Terms h = within limit.Terms h
 within_parity a within comp.BuchiStates h = within limit.BuchiStates h
 within_parity a within comp.Trees h = within limit.Trees h
@@ -51,7 +51,7 @@ few_states a within = elim (cases_lt MOST_BUCHI_STATES (buchi_states a)) [
   | inr few ↦ few
 ]
 
-some_form : (f : Form) (a : Automaton) → (f ≡ form.AsIs → ⊥) → ((which : Limit) → PassesForm which f a → ⊥) → ((made : Automaton) → IsInForm f a made → ⊥) → ⊥
+some_form : (f : Form) (a : Automaton) → (f ≡ form.AsIs → ⊥) → ((which : Limit) → PassesForm which f a → ⊥) → ((made : Automaton) → IsMadeInForm f a made → ⊥) → ⊥
 some_form form.AsIs a asked within none = asked refl
 some_form form.Deterministic a asked within none =
     let other : core.IsDeterministic a → ⊥ = λ is. none a (inl (is, refl)) in

@@ -9,7 +9,7 @@ use Rattle.aut_base.specs.Acceptance.{Accepts}
 use Rattle.aut_base.specs.Automaton.{Automaton}
 use Rattle.aut_base.specs.Word.{NameSet}
 use Rattle.aut_base.specs.declared.limit.Limit.{Limit}
-use Rattle.aut_core.specs.Core.{Core, automaton_of}
+use Rattle.aut_core.specs.SymbolicAutomata.{SymbolicAutomaton, automaton_of}
 use Rattle.filter_plan.specs.declared.plan.Form.{Form}
 use Rattle.filter_plan.specs.declared.plan.Form.TheVariants as form
 use Rattle.filter_plan.specs.declared.plan.Hidden.{Hidden}
@@ -17,16 +17,16 @@ use Rattle.plan_meaning.specs.Changes.{Bring, Change, Complement, Complete, Lang
 use Rattle.plan_meaning.specs.Changes.{RemoveAp, StopsIn, Sum, Trim, SomePrefix, said_by, said_by_all, said_in_form}
 use Rattle.plan_meaning.specs.declared.fault.PlanFault.{PlanFault}
 use Rattle.plan_meaning.specs.declared.fault.PlanFault.TheVariants as fault
-use Rattle.plan_meaning.specs.inner.Stepping.{IsMade, MakesAsPromised, Promises, Steps}
+use Rattle.plan_meaning.specs.inner.Stepping.{IsMadeAsPromised, MakesAsPromised, Promises, StepsChanges}
 
 -- ---- one change, and none
 
 pub changed_once : (c : Change) (a made : Automaton) → ((which : Limit) → PassesIn which c a → ⊥) → Makes c a made → Promises c a made
-    → ((u v : List NameSet) → Accepts made u v ↔ said_by c (λ x y. Accepts a x y) u v) → IsMade (c ∷ []) a made
+    → ((u v : List NameSet) → Accepts made u v ↔ said_by c (λ x y. Accepts a x y) u v) → IsMadeAsPromised (c ∷ []) a made
 changed_once c a made within makes promised says = record { all = (made, record { within = within; makes = makes }, promised, refl); says = λ u v some. says u v }
 
 -- one proposition hidden
-pub hidden_made : (h : Hidden) (a made : Automaton) → made ≡ hidden h.how h.name a → AcceptsHidden h.how h.name a made → IsMade (RemoveAp h ∷ []) a made
+pub hidden_made : (h : Hidden) (a made : Automaton) → made ≡ hidden h.how h.name a → AcceptsHidden h.how h.name a made → IsMadeAsPromised (RemoveAp h ∷ []) a made
 hidden_made h a made is accepts = record { all = (made, record { within = λ which x. x; makes = is }, tt, refl); says = accepts }
 
 -- ---- what is accepted
@@ -82,7 +82,7 @@ pub makes_all : (cs : List Change) (a made : Automaton) → MakesAsPromised cs a
 makes_all [] a made h = h
 makes_all (c ∷ cs) a made h = (h.0, h.1, makes_all cs h.0 made h.3)
 
-pub made_then : (cs ds : List Change) (a b made : Automaton) → IsMade cs a b → IsMade ds b made → IsMade (cs ++ ds) a made
+pub made_then : (cs ds : List Change) (a b made : Automaton) → IsMadeAsPromised cs a b → IsMadeAsPromised ds b made → IsMadeAsPromised (cs ++ ds) a made
 made_then cs ds a b made first second = record {
   all = all_then cs ds a b made first.all second.all;
   says = λ u v some.
@@ -101,15 +101,16 @@ stops_behind which [] ds a b made stops = subst (λ (x : Automaton). StopsIn whi
 stops_behind which (c ∷ cs) ds a b made stops = inr (made.0, made.1, stops_behind which cs ds made.0 b made.2 stops)
 
 -- a step behind what was made
-pub steps_then : (cs ds : List Change) (a b : Automaton) (r : Result Core PlanFault) → IsMade cs a b → Steps ds b r → Steps (cs ++ ds) a r
+pub steps_then : (cs ds : List Change) (a b : Automaton) (r : Result SymbolicAutomaton PlanFault) → IsMadeAsPromised cs a b → StepsChanges ds b r → StepsChanges (cs ++ ds) a r
 steps_then cs ds a b (Ok made) first second = made_then cs ds a b (automaton_of made) first second
 steps_then cs ds a b (Err (fault.Limit which)) first second = stops_behind which cs ds a b (makes_all cs a b first.all) second
 steps_then cs ds a b (Err fault.Memory) first second = tt
 
 -- a fault that a step passes on: no step behind it is made
-pub steps_end : (cs ds : List Change) (a : Automaton) (came : PlanFault) (r : Result Core PlanFault) → IsErrAnd r (λ y. y ≡ came) → Steps cs a (Err came) → Steps (cs ++ ds) a r
-steps_end cs ds a came r passed steps = hands_on r came (Steps (cs ++ ds) a) passed (ended came steps)
+pub steps_end : (cs ds : List Change) (a : Automaton) (came : PlanFault) (r : Result SymbolicAutomaton PlanFault) → IsErrAnd r (λ y. y ≡ came) → StepsChanges cs a (Err came)
+    → StepsChanges (cs ++ ds) a r
+steps_end cs ds a came r passed steps = hands_on r came (StepsChanges (cs ++ ds) a) passed (ended came steps)
   where
-    ended : (f : PlanFault) → Steps cs a (Err f) → Steps (cs ++ ds) a (Err f)
+    ended : (f : PlanFault) → StepsChanges cs a (Err f) → StepsChanges (cs ++ ds) a (Err f)
     ended (fault.Limit which) stops = stops_before which cs ds a stops
     ended fault.Memory stops = tt

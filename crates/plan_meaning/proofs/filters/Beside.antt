@@ -18,7 +18,7 @@ use Rattle.parity_det.specs.Complements.{IsRefusal, IsWithinParity}
 use Rattle.parity_det.specs.declared.fault.CompFault.{CompFault}
 use Rattle.parity_det.specs.declared.fault.CompFault.TheVariants as comp
 use Rattle.plan_meaning.proofs.changes.Determinised.{within}
-use Rattle.plan_meaning.specs.Complements.{IsKeptOf}
+use Rattle.plan_meaning.specs.Complements.{IsKeptComplement}
 use Rattle.plan_meaning.specs.Limits.{HaveFewNames, IsIncluded, PassesOfBoth, PassesOfInclusion, PassesUnlessDeterministic}
 use Rattle.plan_meaning.specs.Refutations.{Refutes}
 use Rattle.plan_meaning.specs.inner.Beside.{FindsBeside, IsFoundBeside}
@@ -38,7 +38,7 @@ none_of_both _ a co few pairs h = h
 pub complement_within : (b : Automaton) → ((IsDeterministic b → ⊥) → IsWithinParity b) → (which : Limit) → PassesUnlessDeterministic which b → ⊥
 complement_within b none which h = within b (none h.0) which h.1
 
-module _ (a b co : Automaton) (kept : IsKeptOf b co) where
+module _ (a b co : Automaton) (kept : IsKeptComplement b co) where
   inclusion_within : HaveFewNames a co → (HavePairs a co → ⊥) → (which : Limit) → PassesOfInclusion which a b → ⊥
   inclusion_within few pairs which (inl h) = kept.within which h
   inclusion_within few pairs which (inr h) =

@@ -4,18 +4,18 @@ use Rattle.std.proofs.lemmas.List.{get_or-map, length-map}
 use Rattle.std.proofs.lemmas.List.Elements.{Contains-get_or}
 use Rattle.aut_base.proofs.canonical.CanonicalAutomata.{canonical-twice, canonical_accepts_the_same, labels_below}
 use Rattle.aut_base.proofs.lists.Members.{from_map, there_map}
-use Rattle.aut_base.specs.Automaton.{Automaton, IsWellFormed, TreeEdge}
+use Rattle.aut_base.specs.Automaton.{Automaton, IsWellFormed, LabelledEdge}
 use Rattle.aut_base.specs.CanonicalLabel.{canonical}
 use Rattle.aut_base.specs.LabelLaws.{LabelsBelow}
 use Rattle.aut_base.specs.Word.{NameSet}
 use Rattle.aut_core.specs.Deterministic as core
-use Rattle.aut_core.specs.Deterministic.{GoesOn, is_met}
+use Rattle.aut_core.specs.Deterministic.{HasSuccessor, is_met}
 use Rattle.aut_base.specs.declared.limit.Limit.{Limit}
 use Rattle.filter_plan.specs.declared.plan.Plan.{Plan}
 use Rattle.plan_meaning.proofs.filters.CanonicalEdges.{same_met, settled}
 use Rattle.plan_meaning.proofs.filters.CanonicalRuns.{unambiguous_one, unambiguous_other}
-use Rattle.plan_meaning.specs.Filters.{AcceptsWord, AllHold, Edges, EquivalentTo, FailsAt, Filter, Holds, HoldsWithin, IncludedIn, Intersects}
-use Rattle.plan_meaning.specs.Filters.{IsComplete, IsDeterministic, IsDroppedBy, IsEmpty, IsKeptBy, IsUnambiguous, Judged, LacksWithin, Names, Passes}
+use Rattle.plan_meaning.specs.Filters.{AcceptsWord, AllHold, Edges, EquivalentTo, FailsAtFilter, Filter, Holds, HoldsWithin, IncludedIn, Intersects}
+use Rattle.plan_meaning.specs.Filters.{IsComplete, IsDeterministic, IsDroppedBy, IsEmpty, IsKeptBy, IsUnambiguous, Judged, LacksWithin, Names, PassesLimitOf}
 use Rattle.plan_meaning.specs.Filters.{PassesAt, RejectsWord, Sets, States, filters}
 use Rattle.plan_meaning.specs.Limits.{PassesOfBoth, PassesOfEquivalence, PassesOfInclusion, PassesOfSquare, PassesOfWord}
 use Rattle.plan_meaning.specs.declared.fault.PlanFault.{PlanFault}
@@ -24,7 +24,7 @@ use Rattle.word_syntax.specs.Grammar.{WordPattern}
 use Rattle.word_syntax.specs.Matching.{AcceptTogether, AcceptsPattern}
 
 -- the edge at a place
-same_place : (a : Automaton) (k : ℕ) (d : TreeEdge) → k < length a.edges → get_or (canonical a).edges k d ≡ settled a (get_or a.edges k d)
+same_place : (a : Automaton) (k : ℕ) (d : LabelledEdge) → k < length a.edges → get_or (canonical a).edges k d ≡ settled a (get_or a.edges k d)
 same_place a k d within = get_or-map (settled a) a.edges k d d within
 
 deterministic_one : (a : Automaton) → LabelsBelow a → core.IsDeterministic (canonical a) → core.IsDeterministic a
@@ -36,7 +36,7 @@ deterministic_one a below h = record {
       let met_i = same_met a (get_or a.edges i d) letter below (Contains-get_or a.edges i d (omega (arith, less, within))) in
       let met_j = same_met a (get_or a.edges j d) letter below (Contains-get_or a.edges j d within) in
       h.edges i j d less (omega (arith, within, length-map a.edges (settled a)))
-      (ap (λ (e : TreeEdge). e.from) at_i ∙ same ∙ sym (ap (λ (e : TreeEdge). e.from) at_j))
+      (ap (λ (e : LabelledEdge). e.from) at_i ∙ same ∙ sym (ap (λ (e : LabelledEdge). e.from) at_j))
       letter (ap (is_met a.names letter) at_i ∙ met_i ∙ p) (ap (is_met a.names letter) at_j ∙ met_j ∙ q);
 }
 
@@ -51,21 +51,21 @@ deterministic_other a below h = record {
       let met_i = same_met a (get_or a.edges i d) letter below (Contains-get_or a.edges i d in_i) in
       let met_j = same_met a (get_or a.edges j d) letter below (Contains-get_or a.edges j d in_j) in
       h.edges i j d less in_j
-      (sym (ap (λ (e : TreeEdge). e.from) at_i) ∙ same ∙ ap (λ (e : TreeEdge). e.from) at_j)
+      (sym (ap (λ (e : LabelledEdge). e.from) at_i) ∙ same ∙ ap (λ (e : LabelledEdge). e.from) at_j)
       letter (sym met_i ∙ sym (ap (is_met a.names letter) at_i) ∙ p) (sym met_j ∙ sym (ap (is_met a.names letter) at_j) ∙ q);
 }
 
-goes_one : (a : Automaton) (state : ℕ) (letter : NameSet) → LabelsBelow a → GoesOn (canonical a) state letter → GoesOn a state letter
+goes_one : (a : Automaton) (state : ℕ) (letter : NameSet) → LabelsBelow a → HasSuccessor (canonical a) state letter → HasSuccessor a state letter
 goes_one a state letter below h =
     let x = from_map (settled a) a.edges h.edge h.is_edge in
     record {
       edge = x.0;
       is_edge = x.1;
-      from = ap (λ (e : TreeEdge). e.from) x.2 ∙ h.from;
+      from = ap (λ (e : LabelledEdge). e.from) x.2 ∙ h.from;
       meets = sym (same_met a x.0 letter below x.1) ∙ ap (is_met a.names letter) x.2 ∙ h.meets;
     }
 
-goes_other : (a : Automaton) (state : ℕ) (letter : NameSet) → LabelsBelow a → GoesOn a state letter → GoesOn (canonical a) state letter
+goes_other : (a : Automaton) (state : ℕ) (letter : NameSet) → LabelsBelow a → HasSuccessor a state letter → HasSuccessor (canonical a) state letter
 goes_other a state letter below h =
     record { edge = settled a h.edge; is_edge = there_map (settled a) a.edges h.edge h.is_edge; from = h.from; meets = same_met a h.edge letter below h.is_edge ∙ h.meets }
 
@@ -121,7 +121,7 @@ holds_other (Sets r) a below h = h
 holds_other (Names r) a below h = h
 
 -- limits look at canonical labels anyway
-passes_one : (which : Limit) (f : Filter) (a : Automaton) → Passes which f (canonical a) → Passes which f a
+passes_one : (which : Limit) (f : Filter) (a : Automaton) → PassesLimitOf which f (canonical a) → PassesLimitOf which f a
 passes_one which (AcceptsWord p) a h = subst (λ (x : Automaton). PassesOfWord which x p) (canonical-twice a) h
 passes_one which (RejectsWord p) a h = subst (λ (x : Automaton). PassesOfWord which x p) (canonical-twice a) h
 passes_one which (IncludedIn b) a h = subst (λ (x : Automaton). PassesOfInclusion which x b) (canonical-twice a) h
@@ -130,7 +130,7 @@ passes_one which (Intersects b) a h = subst (λ (x : Automaton). PassesOfBoth wh
 passes_one which IsUnambiguous a h = subst (PassesOfSquare which) (canonical-twice a) h
 passes_one which _ a h = absurd h
 
-passes_other : (which : Limit) (f : Filter) (a : Automaton) → Passes which f a → Passes which f (canonical a)
+passes_other : (which : Limit) (f : Filter) (a : Automaton) → PassesLimitOf which f a → PassesLimitOf which f (canonical a)
 passes_other which (AcceptsWord p) a h = subst (λ (x : Automaton). PassesOfWord which x p) (sym (canonical-twice a)) h
 passes_other which (RejectsWord p) a h = subst (λ (x : Automaton). PassesOfWord which x p) (sym (canonical-twice a)) h
 passes_other which (IncludedIn b) a h = subst (λ (x : Automaton). PassesOfInclusion which x b) (sym (canonical-twice a)) h
@@ -151,7 +151,7 @@ all_hold : (fs : List Filter) (a : Automaton) → LabelsBelow a → AllHold fs (
 all_hold [] a below h = tt
 all_hold (f ∷ fs) a below h = (holds_within f a below h.0, all_hold fs a below h.1)
 
-fails_at : (fs : List Filter) (a : Automaton) → LabelsBelow a → FailsAt fs (canonical a) → FailsAt fs a
+fails_at : (fs : List Filter) (a : Automaton) → LabelsBelow a → FailsAtFilter fs (canonical a) → FailsAtFilter fs a
 fails_at fs a below h = record { before = h.before; filter = h.filter; after = h.after; all = h.all; held = all_hold h.before a below h.held; fails = lacks_within h.filter a below h.fails }
 
 passes_at : (which : Limit) (fs : List Filter) (a : Automaton) → LabelsBelow a → PassesAt which fs (canonical a) → PassesAt which fs a

@@ -4,7 +4,7 @@ use Rattle.std.specs.Option.{option_map, option_map_or}
 use Rattle.std.specs.Prelude.{slice_get}
 use Rattle.std.proofs.lemmas.Option.{slice_get-map}
 use Rattle.aut_base.proofs.lists.Members.{placed_there}
-use Rattle.aut_base.specs.Automaton.{Automaton, TreeEdge}
+use Rattle.aut_base.specs.Automaton.{Automaton, LabelledEdge}
 use Rattle.aut_base.specs.CanonicalLabel.{canonical}
 use Rattle.aut_base.specs.Formula.{met}
 use Rattle.aut_base.specs.LabelLaws.{LabelsBelow}
@@ -12,32 +12,32 @@ use Rattle.aut_base.specs.Word.{NameSet}
 use Rattle.aut_core.specs.Deterministic.{is_met}
 use Rattle.plan_meaning.proofs.filters.CanonicalEdges.{same_met, settled}
 use Rattle.unambiguous.proofs.tracks.SamePlaces.{accepting_too}
-use Rattle.unambiguous.specs.Runs.{AcceptingRun, IsTrack, IsUnambiguous, marks_at}
+use Rattle.unambiguous.specs.Runs.{AcceptingRun, IsEdgePath, IsUnambiguous, edge_marks}
 
 -- the edge at a place, in both
-place_to : (a : Automaton) (m : ℕ) (e : TreeEdge) → slice_get a.edges m ≡ Some e → slice_get (canonical a).edges m ≡ Some (settled a e)
+place_to : (a : Automaton) (m : ℕ) (e : LabelledEdge) → slice_get a.edges m ≡ Some e → slice_get (canonical a).edges m ≡ Some (settled a e)
 place_to a m e there = slice_get-map (settled a) a.edges m ∙ ap (option_map (settled a)) there
 
-place_from : (a : Automaton) (m : ℕ) (f : TreeEdge) → slice_get (canonical a).edges m ≡ Some f → (e : TreeEdge) × (slice_get a.edges m ≡ Some e) × (settled a e ≡ f)
-place_from a m f there = by (slice_get a.edges m) refl
+place_from : (a : Automaton) (m : ℕ) (f : LabelledEdge) → slice_get (canonical a).edges m ≡ Some f → (e : LabelledEdge) × (slice_get a.edges m ≡ Some e) × (settled a e ≡ f)
+place_from a m f there = by_cases (slice_get a.edges m) refl
   where
-    by : (o : Option TreeEdge) → slice_get a.edges m ≡ o → (e : TreeEdge) × (slice_get a.edges m ≡ Some e) × (settled a e ≡ f)
-    by None is = let none : None ≡ Some f = sym (slice_get-map (settled a) a.edges m ∙ ap (option_map (settled a)) is) ∙ there in cc
-    by (Some e) is = let same : Some (settled a e) ≡ Some f = sym (place_to a m e is) ∙ there in (e, is, cc)
+    by_cases : (o : Option LabelledEdge) → slice_get a.edges m ≡ o → (e : LabelledEdge) × (slice_get a.edges m ≡ Some e) × (settled a e ≡ f)
+    by_cases None is = let none : None ≡ Some f = sym (slice_get-map (settled a) a.edges m ∙ ap (option_map (settled a)) is) ∙ there in cc
+    by_cases (Some e) is = let same : Some (settled a e) ≡ Some f = sym (place_to a m e is) ∙ there in (e, is, cc)
 
-same_marks : (a : Automaton) (m : ℕ) → marks_at (canonical a) m ≡ marks_at a m
-same_marks a m = ap (λ (o : Option TreeEdge). option_map_or (λ (e : TreeEdge). e.marks) o []) (slice_get-map (settled a) a.edges m) ∙ by (slice_get a.edges m)
+same_marks : (a : Automaton) (m : ℕ) → edge_marks (canonical a) m ≡ edge_marks a m
+same_marks a m = ap (λ (o : Option LabelledEdge). option_map_or (λ (e : LabelledEdge). e.marks) o []) (slice_get-map (settled a) a.edges m) ∙ by_cases (slice_get a.edges m)
   where
-    by : (o : Option TreeEdge) → option_map_or (λ (e : TreeEdge). e.marks) (option_map (settled a) o) [] ≡ option_map_or (λ (e : TreeEdge). e.marks) o []
-    by None = refl
-    by (Some e) = refl
+    by_cases : (o : Option LabelledEdge) → option_map_or (λ (e : LabelledEdge). e.marks) (option_map (settled a) o) [] ≡ option_map_or (λ (e : LabelledEdge). e.marks) o []
+    by_cases None = refl
+    by_cases (Some e) = refl
 
-all_marks : (a : Automaton) (ms : List ℕ) → map (marks_at (canonical a)) ms ≡ map (marks_at a) ms
+all_marks : (a : Automaton) (ms : List ℕ) → map (edge_marks (canonical a)) ms ≡ map (edge_marks a) ms
 all_marks a [] = refl
 all_marks a (m ∷ ms) = λ i. same_marks a m i ∷ all_marks a ms i
 
 module _ (a : Automaton) (below : LabelsBelow a) where
-  track_to : (p q : ℕ) (xs : List NameSet) (ms : List ℕ) → IsTrack a p xs ms q → IsTrack (canonical a) p xs ms q
+  track_to : (p q : ℕ) (xs : List NameSet) (ms : List ℕ) → IsEdgePath a p xs ms q → IsEdgePath (canonical a) p xs ms q
   track_to p q [] [] h = h
   track_to p q [] (m ∷ ms) h = h
   track_to p q (x ∷ xs) [] h = h
@@ -49,7 +49,7 @@ module _ (a : Automaton) (below : LabelsBelow a) where
     track_to h.0.to q xs ms h.4,
   )
 
-  track_from : (p q : ℕ) (xs : List NameSet) (ms : List ℕ) → IsTrack (canonical a) p xs ms q → IsTrack a p xs ms q
+  track_from : (p q : ℕ) (xs : List NameSet) (ms : List ℕ) → IsEdgePath (canonical a) p xs ms q → IsEdgePath a p xs ms q
   track_from p q [] [] h = h
   track_from p q [] (m ∷ ms) h = h
   track_from p q (x ∷ xs) [] h = h
@@ -57,9 +57,9 @@ module _ (a : Automaton) (below : LabelsBelow a) where
       let was = place_from a m h.0 h.1 in (
         was.0,
         was.1,
-        h.2 ∙ sym (ap (λ (e : TreeEdge). e.from) was.2),
+        h.2 ∙ sym (ap (λ (e : LabelledEdge). e.from) was.2),
         sym (same_met a was.0 x below (placed_there a.edges m was.0 was.1)) ∙ (ap (is_met a.names x) was.2 ∙ h.3),
-        subst (λ (r : ℕ). IsTrack a r xs ms q) (sym (ap (λ (e : TreeEdge). e.to) was.2)) (track_from h.0.to q xs ms h.4),
+        subst (λ (r : ℕ). IsEdgePath a r xs ms q) (sym (ap (λ (e : LabelledEdge). e.to) was.2)) (track_from h.0.to q xs ms h.4),
       )
 
   -- the same places make a run of both

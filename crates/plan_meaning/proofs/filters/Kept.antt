@@ -4,28 +4,28 @@ use Rattle.std.specs.Option.{option_map}
 use Rattle.std.specs.List.{AllByRecursion}
 use Rattle.std.proofs.lemmas.List.Elements.{All-cons, All-nil}
 use Rattle.aut_base.specs.Automaton.{Automaton}
-use Rattle.aut_core.specs.Core.{Core}
+use Rattle.aut_core.specs.SymbolicAutomata.{SymbolicAutomaton}
 use Rattle.filter_plan.specs.declared.plan.Plan.{Plan}
-use Rattle.plan_meaning.specs.Complements.{AreKept, KeepsOf, StayKept, StaysKept}
+use Rattle.plan_meaning.specs.Complements.{AreComplementsKept, KeepsComplement, StayKept, StaysKept}
 use Rattle.plan_meaning.specs.declared.complements.Complements.{Complements}
 use Rattle.plan_meaning.specs.declared.judging.filter.Filter as coded
 use Rattle.plan_meaning.specs.declared.judging.filter.Filter.TheVariants as code
-use Rattle.plan_meaning.specs.inner.Judging.{AreFrom, IsFrom, IsReady, LeavesOthers}
+use Rattle.plan_meaning.specs.inner.Judging.{AreFrom, IsFrom, IsFilterReady, LeavesOthers}
 
 -- of the operand at a place, and back
-kept_of : (o : Option Automaton) (b : Automaton) (slot : Option Core) → o ≡ Some b → IfSome o (λ x. KeepsOf x slot) → KeepsOf b slot
-kept_of o b slot is h = subst (λ (x : Option Automaton). IfSome x (λ y. KeepsOf y slot)) is h
+kept_of : (o : Option Automaton) (b : Automaton) (slot : Option SymbolicAutomaton) → o ≡ Some b → IfSome o (λ x. KeepsComplement x slot) → KeepsComplement b slot
+kept_of o b slot is h = subst (λ (x : Option Automaton). IfSome x (λ y. KeepsComplement y slot)) is h
 
-keeps_on : (o : Option Automaton) (b : Automaton) (slot : Option Core) → o ≡ Some b → KeepsOf b slot → IfSome o (λ x. KeepsOf x slot)
-keeps_on o b slot is h = subst (λ (x : Option Automaton). IfSome x (λ y. KeepsOf y slot)) (sym is) h
+keeps_on : (o : Option Automaton) (b : Automaton) (slot : Option SymbolicAutomaton) → o ≡ Some b → KeepsComplement b slot → IfSome o (λ x. KeepsComplement x slot)
+keeps_on o b slot is h = subst (λ (x : Option Automaton). IfSome x (λ y. KeepsComplement y slot)) (sym is) h
 
-stays : (o : Option Automaton) (old new : Option Core) → new ≡ old → IfSome o (λ x. KeepsOf x old) → IfSome o (λ x. KeepsOf x new)
-stays o old new same h = subst (λ (slot : Option Core). IfSome o (λ x. KeepsOf x slot)) (sym same) h
+stays : (o : Option Automaton) (old new : Option SymbolicAutomaton) → new ≡ old → IfSome o (λ x. KeepsComplement x old) → IfSome o (λ x. KeepsComplement x new)
+stays o old new same h = subst (λ (slot : Option SymbolicAutomaton). IfSome o (λ x. KeepsComplement x slot)) (sym same) h
 
 -- ---- what is kept stays, over one call and the next
 
-stays_kept_on : (x y z : Option Core) → StaysKept x y → StaysKept y z → StaysKept x z
-stays_kept_on x y z first next some = next (subst (λ (s : Option Core). is_some s ≡ true) (sym (first some)) some) ∙ first some
+stays_kept_on : (x y z : Option SymbolicAutomaton) → StaysKept x y → StaysKept y z → StaysKept x z
+stays_kept_on x y z first next some = next (subst (λ (s : Option SymbolicAutomaton). is_some s ≡ true) (sym (first some)) some) ∙ first some
 
 pub stay_kept_on : {a b c : Complements} → StayKept a b → StayKept b c → StayKept a c
 stay_kept_on first next = record {
@@ -35,13 +35,13 @@ stay_kept_on first next = record {
 }
 
 module _ (p : Plan) (ops : List Automaton) where
-  pub ready : (f : coded.Filter) (cs : Complements) → IsFrom p ops f → AreKept p ops cs → IsReady f cs
+  pub ready : (f : coded.Filter) (cs : Complements) → IsFrom p ops f → AreComplementsKept p ops cs → IsFilterReady f cs
   ready (code.IncludedIn other) cs from kept = (from.0, kept_of _ _ cs.included_in from.1 kept.included_in)
   ready (code.EquivalentTo other) cs from kept = (from.0, kept_of _ _ cs.equivalent_to from.1 kept.equivalent_to)
   ready (code.Intersects other) cs from kept = from
   ready _ cs from kept = tt
 
-  pub kept_on : (f : coded.Filter) (old new : Complements) → IsFrom p ops f → AreKept p ops old → IsReady f new → LeavesOthers f old new → AreKept p ops new
+  pub kept_on : (f : coded.Filter) (old new : Complements) → IsFrom p ops f → AreComplementsKept p ops old → IsFilterReady f new → LeavesOthers f old new → AreComplementsKept p ops new
   kept_on (code.IncludedIn other) old new from kept now others = record {
     included_in = keeps_on _ _ new.included_in from.1 now.1;
     equivalent_to = stays _ old.equivalent_to new.equivalent_to others.0 kept.equivalent_to;
@@ -52,7 +52,7 @@ module _ (p : Plan) (ops : List Automaton) where
     equivalent_to = keeps_on _ _ new.equivalent_to from.1 now.1;
     refuted = stays _ old.refuted new.refuted others.1 kept.refuted;
   }
-  kept_on _ old new from kept now others = subst (AreKept p ops) (sym others) kept
+  kept_on _ old new from kept now others = subst (AreComplementsKept p ops) (sym others) kept
 
   -- a filter of a list
   pub from_at : (xs : List (Option coded.Filter)) (i : ℕ) (d : Option coded.Filter) (f : coded.Filter) → AreFrom p ops xs → i < length xs → get_or xs i d ≡ Some f → IsFrom p ops f

@@ -13,7 +13,7 @@ use Rattle.plan_meaning.specs.Filters.{AcceptsWord, Intersects, IsEmpty}
 use Rattle.plan_meaning.specs.Limits.{HaveFewNames, PassesOfBoth, PassesOfWord}
 use Rattle.plan_meaning.specs.declared.fault.PlanFault.{PlanFault}
 use Rattle.plan_meaning.specs.declared.fault.PlanFault.TheVariants as fault
-use Rattle.plan_meaning.specs.inner.Judging.{Examines}
+use Rattle.plan_meaning.specs.inner.Judging.{ExaminesFilter}
 use Rattle.word_syntax.specs.Grammar.{WordPattern}
 use Rattle.word_syntax.specs.Matching.{AcceptTogether, AcceptsPattern, word_automaton}
 
@@ -29,7 +29,7 @@ none_passed a b names few _ other = other
 
 -- whether some word is accepted by both
 pub examines_both : (a b : Automaton) (some : Bool) → canonical a ≡ a → HaveFewNames a b → (HasMorePairs MOST_PAIRS (over_both a b a) (over_both a b b) → ⊥)
-    → IsTrue some ↔ AcceptTogether a b → Examines (Ok some) (Intersects b) a
+    → IsTrue some ↔ AcceptTogether a b → ExaminesFilter (Ok some) (Intersects b) a
 examines_both a b true settled names few said = record {
   within = λ which passed. none_passed a b names few which (subst (λ (x : Automaton). PassesOfBoth which x b) settled passed);
   holds = said.0 refl;
@@ -40,7 +40,7 @@ examines_both a b false settled names few said = record {
 }
 
 -- whether none is accepted
-pub examines_empty : (a : Automaton) (some : Bool) → IsTrue some ↔ AcceptsSome a → Examines (Ok (not some)) IsEmpty a
+pub examines_empty : (a : Automaton) (some : Bool) → IsTrue some ↔ AcceptsSome a → ExaminesFilter (Ok (not some)) IsEmpty a
 examines_empty a true said =
     let word = said.0 refl in
     record { within = λ which passed. passed; fails = λ empty. empty word.stem word.cycle word.accepts }
@@ -64,7 +64,7 @@ module _ (p : WordPattern) (word a : Automaton) (accepts : (b : Automaton) → A
   within_word within which (inr passed) = within which (subst (λ (x : Automaton). PassesOfBoth which (canonical a) x) (sym is) passed.1)
 
   -- what is found of the automaton of a pattern is found of the pattern
-  pub examines_word : (r : Result Bool PlanFault) → Examines r (Intersects word) a → Examines r (AcceptsWord p) a
+  pub examines_word : (r : Result Bool PlanFault) → ExaminesFilter r (Intersects word) a → ExaminesFilter r (AcceptsWord p) a
   examines_word (Ok true) h = record { within = within_word h.within; holds = (accepts a).0 (swapped a word h.holds) }
   examines_word (Ok false) h = record { within = within_word h.within; fails = λ found. h.fails (swapped word a ((accepts a).1 found)) }
   examines_word (Err (fault.Limit which)) h = passed_by_word which h

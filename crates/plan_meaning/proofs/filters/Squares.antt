@@ -11,7 +11,7 @@ use Rattle.aut_ops.specs.Products.{HasMorePairs}
 use Rattle.plan_meaning.specs.Filters as filter
 use Rattle.plan_meaning.specs.Limits.{PassesOfSquare}
 use Rattle.plan_meaning.specs.inner.Faults.{fault_of_square}
-use Rattle.plan_meaning.specs.inner.Judging.{Examines}
+use Rattle.plan_meaning.specs.inner.Judging.{ExaminesFilter}
 use Rattle.unambiguous.specs.Runs.{IsUnambiguous}
 use Rattle.unambiguous.specs.declared.fault.SquareFault.{SquareFault}
 use Rattle.unambiguous.specs.declared.fault.SquareFault.TheVariants as square
@@ -21,11 +21,11 @@ few_within a few limit.Pairs h = few h
 few_within a few _ h = h
 
 -- the automaton has canonical labels
-pub examined : (b : Bool) (a : Automaton) → canonical a ≡ a → (HasMorePairs MOST_PAIRS a a → ⊥) → (IsTrue b ↔ IsUnambiguous a) → Examines (Ok b) filter.IsUnambiguous a
+pub examined : (b : Bool) (a : Automaton) → canonical a ≡ a → (HasMorePairs MOST_PAIRS a a → ⊥) → (IsTrue b ↔ IsUnambiguous a) → ExaminesFilter (Ok b) filter.IsUnambiguous a
 examined true a settled few is = record { within = λ which h. few_within a few which (subst (PassesOfSquare which) settled h); holds = is.0 refl }
 examined false a settled few is = record { within = λ which h. few_within a few which (subst (PassesOfSquare which) settled h); fails = λ h. false≢true (is.1 h) }
 
 -- a refusal of the search in it
-pub refused : (f : SquareFault) (a : Automaton) → canonical a ≡ a → (f ≡ square.Pairs → HasMorePairs MOST_PAIRS a a) → Examines (Err (fault_of_square f)) filter.IsUnambiguous a
+pub refused : (f : SquareFault) (a : Automaton) → canonical a ≡ a → (f ≡ square.Pairs → HasMorePairs MOST_PAIRS a a) → ExaminesFilter (Err (fault_of_square f)) filter.IsUnambiguous a
 refused square.Pairs a settled many = subst (PassesOfSquare limit.Pairs) (sym settled) (many refl)
 refused square.Memory a settled many = tt

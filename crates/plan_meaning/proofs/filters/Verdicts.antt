@@ -6,9 +6,9 @@ use Rattle.aut_base.specs.declared.limit.Limit.{Limit}
 use Rattle.aut_base.specs.declared.limit.Limit.TheVariants as limit
 use Rattle.parity_det.proofs.ParityLaws.{complement_is_determined}
 use Rattle.plan_meaning.proofs.changes.ChangeLaws.{of_parity, one_of_parity}
-use Rattle.plan_meaning.specs.Filters.{AcceptsWord, AllHold, EquivalentTo, FailsAt, Filter, HoldsWithin, IncludedIn, Intersects, IsDroppedBy}
-use Rattle.plan_meaning.specs.Filters.{IsKeptBy, IsUnambiguous, LacksWithin, Passes, PassesAt, RejectsWord, filters}
-use Rattle.plan_meaning.specs.Laws.{Dropped, Kept, OneLimitOfInclusion, OneVerdict, Over, SomeVerdict}
+use Rattle.plan_meaning.specs.Filters.{AcceptsWord, AllHold, EquivalentTo, FailsAtFilter, Filter, HoldsWithin, IncludedIn, Intersects, IsDroppedBy}
+use Rattle.plan_meaning.specs.Filters.{IsKeptBy, IsUnambiguous, LacksWithin, PassesLimitOf, PassesAt, RejectsWord, filters}
+use Rattle.plan_meaning.specs.Laws.{Dropped, Kept, OneLimitOfInclusion, VerdictIsOne, Over, AVerdictExists}
 use Rattle.plan_meaning.specs.Limits.{HaveFewNames, HaveManyNames, PassesOfBoth, PassesOfEquivalence, PassesOfSquare, PassesOfWord}
 use Rattle.word_syntax.specs.Grammar.{WordPattern}
 use Rattle.word_syntax.specs.Matching.{word_automaton}
@@ -58,7 +58,7 @@ one_of_equivalence which other a b (inl x) (inr y) = absurd (y.0 which x)
 one_of_equivalence which other a b (inr x) (inl y) = absurd (x.0 other y)
 one_of_equivalence which other a b (inr x) (inr y) = one_of_inclusion which other b a x.2 y.2
 
-one_limit : (f : Filter) (which other : Limit) (a : Automaton) → Passes which f a → Passes other f a → which ≡ other
+one_limit : (f : Filter) (which other : Limit) (a : Automaton) → PassesLimitOf which f a → PassesLimitOf other f a → which ≡ other
 one_limit (AcceptsWord p) which other a h k = one_of_word which other (canonical a) p h k
 one_limit (RejectsWord p) which other a h k = one_of_word which other (canonical a) p h k
 one_limit (IncludedIn b) which other a h k = one_of_inclusion which other (canonical a) b h k
@@ -78,11 +78,11 @@ ends_in : (So : Filter → Type 0) (before : List Filter) (f : Filter) (after : 
 ends_in So [] f after a held so = inl so
 ends_in So (g ∷ before) f after a held so = inr (held.0, ends_in So before f after a held.1 so)
 
-fails_in : (fs : List Filter) (a : Automaton) → FailsAt fs a → EndsIn (λ f. LacksWithin f a) fs a
+fails_in : (fs : List Filter) (a : Automaton) → FailsAtFilter fs a → EndsIn (λ f. LacksWithin f a) fs a
 fails_in fs a h = subst (λ (gs : List Filter). EndsIn (λ f. LacksWithin f a) gs a) (sym h.all) (ends_in (λ f. LacksWithin f a) h.before h.filter h.after a h.held h.fails)
 
-passes_in : (which : Limit) (fs : List Filter) (a : Automaton) → PassesAt which fs a → EndsIn (λ f. Passes which f a) fs a
-passes_in which fs a h = subst (λ (gs : List Filter). EndsIn (λ f. Passes which f a) gs a) (sym h.all) (ends_in (λ f. Passes which f a) h.before h.filter h.after a h.held h.passes)
+passes_in : (which : Limit) (fs : List Filter) (a : Automaton) → PassesAt which fs a → EndsIn (λ f. PassesLimitOf which f a) fs a
+passes_in which fs a h = subst (λ (gs : List Filter). EndsIn (λ f. PassesLimitOf which f a) gs a) (sym h.all) (ends_in (λ f. PassesLimitOf which f a) h.before h.filter h.after a h.held h.passes)
 
 -- where all hold they end nowhere
 no_end : (So : Filter → Type 0) (fs : List Filter) (a : Automaton) → ((f : Filter) → HoldsWithin f a → So f → ⊥) → AllHold fs a → EndsIn So fs a → ⊥
@@ -103,21 +103,22 @@ module _ (fs : List Filter) (a : Automaton) where
   lacks_apart : (f : Filter) → HoldsWithin f a → LacksWithin f a → ⊥
   lacks_apart f h k = k.fails h.holds
 
-  passes_apart : (which : Limit) (f : Filter) → HoldsWithin f a → Passes which f a → ⊥
+  passes_apart : (which : Limit) (f : Filter) → HoldsWithin f a → PassesLimitOf which f a → ⊥
   passes_apart which f h k = h.within which k
 
-  all_or_fails : AllHold fs a → FailsAt fs a → ⊥
+  all_or_fails : AllHold fs a → FailsAtFilter fs a → ⊥
   all_or_fails all h = no_end (λ f. LacksWithin f a) fs a lacks_apart all (fails_in fs a h)
 
   all_or_passes : (which : Limit) → AllHold fs a → PassesAt which fs a → ⊥
-  all_or_passes which all h = no_end (λ f. Passes which f a) fs a (passes_apart which) all (passes_in which fs a h)
+  all_or_passes which all h = no_end (λ f. PassesLimitOf which f a) fs a (passes_apart which) all (passes_in which fs a h)
 
-  fails_or_passes : (which : Limit) → FailsAt fs a → PassesAt which fs a → ⊥
-  fails_or_passes which h k = one_end (λ f. LacksWithin f a) (λ f. Passes which f a) fs a lacks_apart (passes_apart which) (λ f lacks passed. lacks.within which passed) (fails_in fs a h)
+  fails_or_passes : (which : Limit) → FailsAtFilter fs a → PassesAt which fs a → ⊥
+  fails_or_passes which h k = one_end (λ f. LacksWithin f a) (λ f. PassesLimitOf which f a) fs a lacks_apart (passes_apart which) (λ f lacks passed. lacks.within which passed) (fails_in fs a h)
       (passes_in which fs a k)
 
   passes_one : (which other : Limit) → PassesAt which fs a → PassesAt other fs a → which ≡ other
-  passes_one which other h k = one_end (λ f. Passes which f a) (λ f. Passes other f a) fs a (passes_apart which) (passes_apart other) (λ f passed also. one_limit f which other a passed also)
+  passes_one which other h k = one_end (λ f. PassesLimitOf which f a) (λ f. PassesLimitOf other f a) fs a (passes_apart which) (passes_apart other)
+      (λ f passed also. one_limit f which other a passed also)
       (passes_in which fs a h) (passes_in other fs a k)
 
   -- ---- one verdict
@@ -134,31 +135,31 @@ module _ (fs : List Filter) (a : Automaton) where
   dropped_or_over false which h k = fails_or_passes which h k
   dropped_or_over true which h k = all_or_passes which h k
 
-pub one_verdict : OneVerdict
-one_verdict p ops a Kept Kept h k = refl
-one_verdict p ops a Kept Dropped h k = absurd (kept_or_dropped (filters p ops) a p.invert h k)
-one_verdict p ops a Kept (Over which) h k = absurd (kept_or_over (filters p ops) a p.invert which h k)
-one_verdict p ops a Dropped Kept h k = absurd (kept_or_dropped (filters p ops) a p.invert k h)
-one_verdict p ops a Dropped Dropped h k = refl
-one_verdict p ops a Dropped (Over which) h k = absurd (dropped_or_over (filters p ops) a p.invert which h k)
-one_verdict p ops a (Over which) Kept h k = absurd (kept_or_over (filters p ops) a p.invert which k h)
-one_verdict p ops a (Over which) Dropped h k = absurd (dropped_or_over (filters p ops) a p.invert which k h)
-one_verdict p ops a (Over which) (Over other) h k = let same : which ≡ other = passes_one (filters p ops) a which other h k in cc
+pub verdict_is_one : VerdictIsOne
+verdict_is_one p ops a Kept Kept h k = refl
+verdict_is_one p ops a Kept Dropped h k = absurd (kept_or_dropped (filters p ops) a p.invert h k)
+verdict_is_one p ops a Kept (Over which) h k = absurd (kept_or_over (filters p ops) a p.invert which h k)
+verdict_is_one p ops a Dropped Kept h k = absurd (kept_or_dropped (filters p ops) a p.invert k h)
+verdict_is_one p ops a Dropped Dropped h k = refl
+verdict_is_one p ops a Dropped (Over which) h k = absurd (dropped_or_over (filters p ops) a p.invert which h k)
+verdict_is_one p ops a (Over which) Kept h k = absurd (kept_or_over (filters p ops) a p.invert which k h)
+verdict_is_one p ops a (Over which) Dropped h k = absurd (dropped_or_over (filters p ops) a p.invert which k h)
+verdict_is_one p ops a (Over which) (Over other) h k = let same : which ≡ other = passes_one (filters p ops) a which other h k in cc
 
 -- ---- some verdict
 
 -- it isn't so that a filter neither holds nor fails within limits, nor passes one
-settled : (f : Filter) (a : Automaton) → (HoldsWithin f a → ⊥) → (LacksWithin f a → ⊥) → ((which : Limit) → Passes which f a → ⊥) → ⊥
+settled : (f : Filter) (a : Automaton) → (HoldsWithin f a → ⊥) → (LacksWithin f a → ⊥) → ((which : Limit) → PassesLimitOf which f a → ⊥) → ⊥
 settled f a holds lacks within = lacks (record { within = within; fails = λ h. holds (record { within = within; holds = h }) })
 
 -- behind a filter that holds
-fails_behind : (f : Filter) (fs : List Filter) (a : Automaton) → HoldsWithin f a → FailsAt fs a → FailsAt (f ∷ fs) a
+fails_behind : (f : Filter) (fs : List Filter) (a : Automaton) → HoldsWithin f a → FailsAtFilter fs a → FailsAtFilter (f ∷ fs) a
 fails_behind f fs a holds h = record { before = f ∷ h.before; filter = h.filter; after = h.after; all = (λ i. f ∷ h.all i); held = (holds, h.held); fails = h.fails }
 
 passes_behind : (which : Limit) (f : Filter) (fs : List Filter) (a : Automaton) → HoldsWithin f a → PassesAt which fs a → PassesAt which (f ∷ fs) a
 passes_behind which f fs a holds h = record { before = f ∷ h.before; filter = h.filter; after = h.after; all = (λ i. f ∷ h.all i); held = (holds, h.held); passes = h.passes }
 
-some_end : (fs : List Filter) (a : Automaton) → (AllHold fs a → ⊥) → (FailsAt fs a → ⊥) → ((which : Limit) → PassesAt which fs a → ⊥) → ⊥
+some_end : (fs : List Filter) (a : Automaton) → (AllHold fs a → ⊥) → (FailsAtFilter fs a → ⊥) → ((which : Limit) → PassesAt which fs a → ⊥) → ⊥
 some_end [] a all fails passes = all tt
 some_end (f ∷ fs) a all fails passes =
     settled f a
@@ -170,5 +171,5 @@ some_by : (inverts : Bool) (fs : List Filter) (a : Automaton) → (IsKeptBy inve
 some_by false fs a kept dropped over = some_end fs a kept dropped over
 some_by true fs a kept dropped over = some_end fs a dropped kept over
 
-pub some_verdict : SomeVerdict
-some_verdict p ops a none = some_by p.invert (filters p ops) a (none Kept) (none Dropped) (λ which. none (Over which))
+pub a_verdict_exists : AVerdictExists
+a_verdict_exists p ops a none = some_by p.invert (filters p ops) a (none Kept) (none Dropped) (λ which. none (Over which))

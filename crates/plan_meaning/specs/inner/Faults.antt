@@ -34,10 +34,10 @@ abbrev pub fault_of_form : FormFault → PlanFault
 fault_of_form form.Terms = fault.Limit limit.Terms
 fault_of_form form.Memory = fault.Memory
 
-abbrev pub fault_of_buchi : BuchiFault → PlanFault
-fault_of_buchi buchi.Terms = fault.Limit limit.Terms
-fault_of_buchi buchi.BuchiStates = fault.Limit limit.BuchiStates
-fault_of_buchi buchi.Memory = fault.Memory
+abbrev pub plan_fault_of_buchi : BuchiFault → PlanFault
+plan_fault_of_buchi buchi.Terms = fault.Limit limit.Terms
+plan_fault_of_buchi buchi.BuchiStates = fault.Limit limit.BuchiStates
+plan_fault_of_buchi buchi.Memory = fault.Memory
 
 abbrev pub fault_of_parity : CompFault → PlanFault
 fault_of_parity comp.Terms = fault.Limit limit.Terms

@@ -2,11 +2,11 @@
 use Rattle.std.specs.Prelude.{◌≡◌, Bool, true, false, List, All, filter_map, Option, Some, IfSome, Result, Ok, Err}
 use Rattle.std.specs.Option.{option_map}
 use Rattle.aut_base.specs.Automaton.{Automaton}
-use Rattle.aut_core.specs.Core.{automaton_of}
+use Rattle.aut_core.specs.SymbolicAutomata.{automaton_of}
 use Rattle.filter_plan.specs.declared.plan.Plan.{Plan}
-use Rattle.plan_meaning.specs.Complements.{KeepsOf}
-use Rattle.plan_meaning.specs.Filters.{AcceptsWord, AllHold, Edges, EquivalentTo, FailsAt, Filter, HoldsWithin, IncludedIn, Intersects, IsComplete}
-use Rattle.plan_meaning.specs.Filters.{IsDeterministic, IsEmpty, IsUnambiguous, LacksWithin, Names, Passes, PassesAt, RejectsWord, Sets, States}
+use Rattle.plan_meaning.specs.Complements.{KeepsComplement}
+use Rattle.plan_meaning.specs.Filters.{AcceptsWord, AllHold, Edges, EquivalentTo, FailsAtFilter, Filter, HoldsWithin, IncludedIn, Intersects, IsComplete}
+use Rattle.plan_meaning.specs.Filters.{IsDeterministic, IsEmpty, IsUnambiguous, LacksWithin, Names, PassesLimitOf, PassesAt, RejectsWord, Sets, States}
 use Rattle.plan_meaning.specs.Limits.{IsIncluded, IsWithinInclusion, PassesOfInclusion}
 use Rattle.plan_meaning.specs.Operands.{IsOfReadSize, operand_at, place_of_equivalent_to, place_of_included_in}
 use Rattle.plan_meaning.specs.declared.complements.Complements.{Complements}
@@ -19,7 +19,7 @@ use Rattle.word_syntax.specs.Writing.{word_pattern}
 -- all of these filters hold, or one doesn't
 abbrev pub Judges : Bool → List Filter → Automaton → Type 0
 Judges true fs a = AllHold fs a
-Judges false fs a = FailsAt fs a
+Judges false fs a = FailsAtFilter fs a
 
 -- or one passes a limit before
 abbrev pub JudgesWithin : Result Bool PlanFault → List Filter → Automaton → Type 0
@@ -28,11 +28,11 @@ JudgesWithin (Err (fault.Limit which)) fs a = PassesAt which fs a
 JudgesWithin (Err fault.Memory) fs a = Unit {0}
 
 -- this filter holds, or doesn't, or passes a limit
-abbrev pub Examines : Result Bool PlanFault → Filter → Automaton → Type 0
-Examines (Ok true) f a = HoldsWithin f a
-Examines (Ok false) f a = LacksWithin f a
-Examines (Err (fault.Limit which)) f a = Passes which f a
-Examines (Err fault.Memory) f a = Unit {0}
+abbrev pub ExaminesFilter : Result Bool PlanFault → Filter → Automaton → Type 0
+ExaminesFilter (Ok true) f a = HoldsWithin f a
+ExaminesFilter (Ok false) f a = LacksWithin f a
+ExaminesFilter (Err (fault.Limit which)) f a = PassesLimitOf which f a
+ExaminesFilter (Err fault.Memory) f a = Unit {0}
 
 -- the one is included in the other, or isn't, or a limit is passed
 abbrev pub ComparesInclusion : Result Bool PlanFault → Automaton → Automaton → Type 0
@@ -82,20 +82,20 @@ abbrev pub AreFrom : Plan → List Automaton → List (Option coded.Filter) → 
 AreFrom p ops filters = All (λ filter. IfSome filter (IsFrom p ops)) filters
 
 -- what it compares automata with is of the size of one that is read, and what is kept for it is the complement of that
-abbrev pub IsReady : coded.Filter → Complements → Type 0
-IsReady (code.AcceptsWord pattern) cs = Unit {0}
-IsReady (code.RejectsWord pattern) cs = Unit {0}
-IsReady code.IsEmpty cs = Unit {0}
-IsReady (code.IncludedIn other) cs = IsOfReadSize (automaton_of other.now) × KeepsOf (automaton_of other.now) cs.included_in
-IsReady (code.EquivalentTo other) cs = IsOfReadSize (automaton_of other.now) × KeepsOf (automaton_of other.now) cs.equivalent_to
-IsReady (code.Intersects other) cs = IsOfReadSize (automaton_of other.now)
-IsReady code.IsDeterministic cs = Unit {0}
-IsReady code.IsComplete cs = Unit {0}
-IsReady code.IsUnambiguous cs = Unit {0}
-IsReady (code.States range) cs = Unit {0}
-IsReady (code.Edges range) cs = Unit {0}
-IsReady (code.Sets range) cs = Unit {0}
-IsReady (code.Names range) cs = Unit {0}
+abbrev pub IsFilterReady : coded.Filter → Complements → Type 0
+IsFilterReady (code.AcceptsWord pattern) cs = Unit {0}
+IsFilterReady (code.RejectsWord pattern) cs = Unit {0}
+IsFilterReady code.IsEmpty cs = Unit {0}
+IsFilterReady (code.IncludedIn other) cs = IsOfReadSize (automaton_of other.now) × KeepsComplement (automaton_of other.now) cs.included_in
+IsFilterReady (code.EquivalentTo other) cs = IsOfReadSize (automaton_of other.now) × KeepsComplement (automaton_of other.now) cs.equivalent_to
+IsFilterReady (code.Intersects other) cs = IsOfReadSize (automaton_of other.now)
+IsFilterReady code.IsDeterministic cs = Unit {0}
+IsFilterReady code.IsComplete cs = Unit {0}
+IsFilterReady code.IsUnambiguous cs = Unit {0}
+IsFilterReady (code.States range) cs = Unit {0}
+IsFilterReady (code.Edges range) cs = Unit {0}
+IsFilterReady (code.Sets range) cs = Unit {0}
+IsFilterReady (code.Names range) cs = Unit {0}
 
 -- nothing changes of what is kept but for this filter
 abbrev pub LeavesOthers : coded.Filter → Complements → Complements → Type 0

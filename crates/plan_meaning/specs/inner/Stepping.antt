@@ -5,7 +5,7 @@ use Rattle.ap_project.specs.Laws.{SayTheSame}
 use Rattle.aut_base.specs.Acceptance.{Accepts}
 use Rattle.aut_base.specs.Automaton.{Automaton}
 use Rattle.aut_base.specs.declared.limit.TheConstants.{MOST_NODES, MOST_PAIRS, MOST_SETS, MOST_STATES, MOST_TREES}
-use Rattle.aut_core.specs.Core.{Core, automaton_of}
+use Rattle.aut_core.specs.SymbolicAutomata.{SymbolicAutomaton, automaton_of}
 use Rattle.aut_core.specs.Deterministic.{IsComplete, IsDeterministic}
 use Rattle.filter_plan.specs.declared.plan.Form.{Form}
 use Rattle.filter_plan.specs.declared.plan.Form.TheVariants as form
@@ -43,42 +43,42 @@ MakesAsPromised [] a made = made ≡ a
 MakesAsPromised (c ∷ cs) a made = (next : Automaton) × MakesWithin c a next × Promises c a next × MakesAsPromised cs next made
 
 -- the changes make this of the automaton, and of what it accepts what is accepted then
-pub record IsMade (cs : List Change) (a made : Automaton) : Type 0 where
+pub record IsMadeAsPromised (cs : List Change) (a made : Automaton) : Type 0 where
   pub all : MakesAsPromised cs a made
   pub says : SayTheSame (λ u v. Accepts made u v) (said_by_all cs (λ u v. Accepts a u v))
 
 -- what a step answers that is to make these changes
-abbrev pub Steps : List Change → Automaton → Result Core PlanFault → Type 0
-Steps cs a (Ok made) = IsMade cs a (automaton_of made)
-Steps cs a (Err (fault.Limit which)) = StopsIn which cs a
-Steps cs a (Err fault.Memory) = Unit {0}
+abbrev pub StepsChanges : List Change → Automaton → Result SymbolicAutomaton PlanFault → Type 0
+StepsChanges cs a (Ok made) = IsMadeAsPromised cs a (automaton_of made)
+StepsChanges cs a (Err (fault.Limit which)) = StopsIn which cs a
+StepsChanges cs a (Err fault.Memory) = Unit {0}
 
 -- ---- sizes
 
 -- no more states and sets than these
-pub record IsWithin (most_states most_sets : ℕ) (a : Automaton) : Type 0 where
+pub record IsSizeWithin (most_states most_sets : ℕ) (a : Automaton) : Type 0 where
   pub states : a.states ≤ most_states
   pub sets : a.sets ≤ most_sets
 
 -- of what is made by a product of automata that were read, by a product-or of that and one that was read, by a sum of that
 -- and one that was read, by a complement of that, and by a form of that, beside which there is room for one more of each
 abbrev pub IsOfProductSize : Automaton → Type 0
-IsOfProductSize = IsWithin MOST_PAIRS (MOST_SETS + MOST_SETS)
+IsOfProductSize = IsSizeWithin MOST_PAIRS (MOST_SETS + MOST_SETS)
 
 abbrev pub IsOfProductOrSize : Automaton → Type 0
-IsOfProductOrSize = IsWithin MOST_PAIRS (MOST_SETS + MOST_SETS + 1 + (MOST_SETS + 1))
+IsOfProductOrSize = IsSizeWithin MOST_PAIRS (MOST_SETS + MOST_SETS + 1 + (MOST_SETS + 1))
 
 abbrev pub IsOfSumSize : Automaton → Type 0
-IsOfSumSize = IsWithin (MOST_PAIRS + MOST_STATES) (MOST_SETS + MOST_SETS + 1 + (MOST_SETS + 1) + MOST_SETS + 1)
+IsOfSumSize = IsSizeWithin (MOST_PAIRS + MOST_STATES) (MOST_SETS + MOST_SETS + 1 + (MOST_SETS + 1) + MOST_SETS + 1)
 
 abbrev pub IsOfComplementSize : Automaton → Type 0
-IsOfComplementSize = IsWithin (MOST_PAIRS + MOST_STATES + MOST_TREES) (MOST_SETS + MOST_SETS + 1 + (MOST_SETS + 1) + MOST_SETS + 1 + (2 * MOST_NODES + 1))
+IsOfComplementSize = IsSizeWithin (MOST_PAIRS + MOST_STATES + MOST_TREES) (MOST_SETS + MOST_SETS + 1 + (MOST_SETS + 1) + MOST_SETS + 1 + (2 * MOST_NODES + 1))
 
 abbrev pub HasRoom : Automaton → Type 0
-HasRoom = IsWithin (2 ^ 32 - 2) (2 ^ 32 - 2)
+HasRoom = IsSizeWithin (2 ^ 32 - 2) (2 ^ 32 - 2)
 
 abbrev pub IsOfLastSize : Automaton → Type 0
-IsOfLastSize = IsWithin (2 ^ 32 - 1) (2 ^ 32 - 1)
+IsOfLastSize = IsSizeWithin (2 ^ 32 - 1) (2 ^ 32 - 1)
 
 -- what a change takes from a plan can be made
 abbrev pub IsPossible : Change → Type 0

@@ -1,11 +1,11 @@
 //! What needs determinism: complements, deterministic automata and parity automata.
 
 ghost use Rattle.std.specs.Prelude.{[], ◌∷◌, IfOk};
-ghost use Rattle.aut_core.specs.Core.{automaton_of};
+ghost use Rattle.aut_core.specs.SymbolicAutomata.{automaton_of};
 ghost use Rattle.aut_core.specs.Deterministic.{IsDeterministic};
 ghost use Rattle.filter_plan.specs.declared.plan.Form.{Form};
 ghost use Rattle.plan_meaning.specs.Changes.{Bring, Complement};
-ghost use Rattle.plan_meaning.specs.inner.Stepping.{HasRoom, IsOfComplementSize, IsOfSumSize, Steps};
+ghost use Rattle.plan_meaning.specs.inner.Stepping.{HasRoom, IsOfComplementSize, IsOfSumSize, StepsChanges};
 
 use crate::fault::PlanFault;
 use aut_core::Automaton;
@@ -14,7 +14,7 @@ use std::alloc::Global;
 
 pub(crate) fn complemented(alloc: Global, a: &Automaton) -> Result<Automaton, PlanFault>
     requires size { IsOfSumSize (automaton_of a.now) }
-    ensures steps { Steps (Complement ∷ []) (automaton_of a.now) result }
+    ensures steps { StepsChanges (Complement ∷ []) (automaton_of a.now) result }
     ensures size { IfOk result (λ made. IsOfComplementSize (automaton_of made)) }
 {
     Ok(complement(alloc, a)?)
@@ -23,7 +23,7 @@ pub(crate) fn complemented(alloc: Global, a: &Automaton) -> Result<Automaton, Pl
 /// One that is deterministic is handed on.
 pub(crate) fn deterministic(alloc: Global, a: Automaton) -> Result<Automaton, PlanFault>
     requires size { IsOfComplementSize (automaton_of a) }
-    ensures steps { Steps (Bring Form.Deterministic ∷ []) (automaton_of a) result }
+    ensures steps { StepsChanges (Bring Form.Deterministic ∷ []) (automaton_of a) result }
     ensures size { IfOk result (λ made. HasRoom (automaton_of made)) }
 {
     if a.is_deterministic() {
@@ -34,14 +34,14 @@ pub(crate) fn deterministic(alloc: Global, a: Automaton) -> Result<Automaton, Pl
 
 fn determinised(alloc: Global, a: &Automaton) -> Result<Automaton, PlanFault>
     requires other { IsDeterministic (automaton_of a.now) → ⊥ }
-    ensures steps { Steps (Bring Form.Deterministic ∷ []) (automaton_of a.now) result }
+    ensures steps { StepsChanges (Bring Form.Deterministic ∷ []) (automaton_of a.now) result }
     ensures size { IfOk result (λ made. HasRoom (automaton_of made)) }
 {
     Ok(parity(alloc, a)?)
 }
 
 pub(crate) fn parity_of(alloc: Global, a: &Automaton) -> Result<Automaton, PlanFault>
-    ensures steps { Steps (Bring Form.Parity ∷ []) (automaton_of a.now) result }
+    ensures steps { StepsChanges (Bring Form.Parity ∷ []) (automaton_of a.now) result }
     ensures size { IfOk result (λ made. HasRoom (automaton_of made)) }
 {
     Ok(parity(alloc, a)?)

@@ -2,7 +2,7 @@
 
 ghost use Rattle.std.specs.Prelude.{◌≡◌, Err, IfOk};
 ghost use Rattle.acc_forms.specs.declared.fault.FormFault.{FormFault};
-ghost use Rattle.aut_core.specs.Core.{automaton_of};
+ghost use Rattle.aut_core.specs.SymbolicAutomata.{automaton_of};
 ghost use Rattle.aut_core.specs.OtherNames.{AcceptTheSame};
 ghost use Rattle.fin_removal.specs.Copies.{HasTooManyTerms};
 ghost use Rattle.plan_meaning.specs.Changes.{in_disjunctive_form};
@@ -18,7 +18,7 @@ pub(crate) fn with_disjuncts(alloc: Global, a: Automaton) -> Result<Automaton, F
     ensures passed { HasTooManyTerms (automaton_of a) → result ≡ Err FormFault.Terms }
     ensures only_passed { result ≡ Err FormFault.Terms → HasTooManyTerms (automaton_of a) }
 {
-    a.whole();
+    a.well_formed();
     let terms = disjuncts(alloc, a.formula())?;
     let formula = of_terms(alloc, &terms)?;
     Ok(a.with_formula(formula))

@@ -3,11 +3,11 @@
 ghost use Rattle.std.specs.Prelude.{◌≡◌, [], ◌∷◌, IfOk, map};
 ghost use Rattle.std.specs.Bool.{then_some};
 ghost use Rattle.std.specs.Option.{option_map};
-ghost use Rattle.aut_core.specs.Core.{automaton_of};
+ghost use Rattle.aut_core.specs.SymbolicAutomata.{automaton_of};
 ghost use Rattle.plan_meaning.specs.Changes as asked;
 ghost use Rattle.plan_meaning.specs.Changes.{changes_of, form_change};
 ghost use Rattle.plan_meaning.specs.Operands.{AreOperands, operand_at, place_of_product, place_of_product_or, place_of_sum};
-ghost use Rattle.plan_meaning.specs.inner.Stepping.{IsOfSizeBefore, IsOfSizeBehind, IsPossible, Steps, change_of, changes_asked};
+ghost use Rattle.plan_meaning.specs.inner.Stepping.{IsOfSizeBefore, IsOfSizeBehind, IsPossible, StepsChanges, change_of, changes_asked};
 
 use super::combining::{product_or_with, product_with, sum_with};
 use super::determinising::complemented;
@@ -135,7 +135,7 @@ fn complete_change<'a>(plan: &Plan) -> Option<Change<'a>>
 pub(crate) fn make(alloc: Global, change: &Change, a: Automaton) -> Result<Automaton, PlanFault>
     requires size { IsOfSizeBefore (change_of change.now) (automaton_of a) }
     requires possible { IsPossible (change_of change.now) }
-    ensures steps { Steps (change_of change.now ∷ []) (automaton_of a) result }
+    ensures steps { StepsChanges (change_of change.now ∷ []) (automaton_of a) result }
     ensures size { IfOk result (λ made. IsOfSizeBehind (change_of change.now) (automaton_of made)) }
 {
     match change {

@@ -4,10 +4,10 @@
 
 ghost use Rattle.std.specs.Prelude.{◌≡◌, ◌≢◌, [], ◌∷◌, IfOk, true};
 ghost use Rattle.acc_forms.specs.Atoms.{has_fin};
-ghost use Rattle.aut_core.specs.Core.{automaton_of};
+ghost use Rattle.aut_core.specs.SymbolicAutomata.{automaton_of};
 ghost use Rattle.filter_plan.specs.declared.plan.Form.{Form};
 ghost use Rattle.plan_meaning.specs.Changes.{Bring, Complete, RemoveAp, Trim};
-ghost use Rattle.plan_meaning.specs.inner.Stepping.{HasRoom, IsOfComplementSize, IsOfLastSize, IsOfSumSize, Steps};
+ghost use Rattle.plan_meaning.specs.inner.Stepping.{HasRoom, IsOfComplementSize, IsOfLastSize, IsOfSumSize, StepsChanges};
 
 use super::determinising::{deterministic, parity_of};
 use super::disjunctive::with_disjuncts;
@@ -25,7 +25,7 @@ use std::alloc::Global;
 /// The automaton with this proposition hidden.
 pub(crate) fn hide(alloc: Global, a: &Automaton, hidden: &Hidden) -> Result<Automaton, PlanFault>
     requires size { IsOfSumSize (automaton_of a.now) }
-    ensures steps { Steps (RemoveAp hidden.now ∷ []) (automaton_of a.now) result }
+    ensures steps { StepsChanges (RemoveAp hidden.now ∷ []) (automaton_of a.now) result }
     ensures size { IfOk result (λ made. IsOfSumSize (automaton_of made)) }
 {
     Ok(remove_ap(alloc, a, &hidden.name, hidden.how)?)
@@ -33,7 +33,7 @@ pub(crate) fn hide(alloc: Global, a: &Automaton, hidden: &Hidden) -> Result<Auto
 
 pub(crate) fn trimmed(alloc: Global, a: &Automaton) -> Result<Automaton, PlanFault>
     requires size { IsOfSumSize (automaton_of a.now) }
-    ensures steps { Steps (Trim ∷ []) (automaton_of a.now) result }
+    ensures steps { StepsChanges (Trim ∷ []) (automaton_of a.now) result }
     ensures size { IfOk result (λ made. IsOfSumSize (automaton_of made)) }
 {
     Ok(trim(alloc, a)?)
@@ -43,7 +43,7 @@ pub(crate) fn trimmed(alloc: Global, a: &Automaton) -> Result<Automaton, PlanFau
 pub(crate) fn bring(alloc: Global, form: Form, a: Automaton) -> Result<Automaton, PlanFault>
     requires size { IsOfComplementSize (automaton_of a) }
     requires asked { form ≢ Form.AsIs }
-    ensures steps { Steps (Bring form ∷ []) (automaton_of a) result }
+    ensures steps { StepsChanges (Bring form ∷ []) (automaton_of a) result }
     ensures size { IfOk result (λ made. HasRoom (automaton_of made)) }
 {
     match form {
@@ -58,14 +58,14 @@ pub(crate) fn bring(alloc: Global, form: Form, a: Automaton) -> Result<Automaton
 }
 
 fn buchi(alloc: Global, a: &Automaton) -> Result<Automaton, PlanFault>
-    ensures steps { Steps (Bring Form.Buchi ∷ []) (automaton_of a.now) result }
+    ensures steps { StepsChanges (Bring Form.Buchi ∷ []) (automaton_of a.now) result }
     ensures size { IfOk result (λ made. HasRoom (automaton_of made)) }
 {
     Ok(to_buchi(alloc, a)?)
 }
 
 fn monitored(alloc: Global, a: &Automaton) -> Result<Automaton, PlanFault>
-    ensures steps { Steps (Bring Form.Monitor ∷ []) (automaton_of a.now) result }
+    ensures steps { StepsChanges (Bring Form.Monitor ∷ []) (automaton_of a.now) result }
     ensures size { IfOk result (λ made. HasRoom (automaton_of made)) }
 {
     Ok(monitor(alloc, a)?)
@@ -74,7 +74,7 @@ fn monitored(alloc: Global, a: &Automaton) -> Result<Automaton, PlanFault>
 /// One without Fin is handed on.
 fn without_fin(alloc: Global, a: Automaton) -> Result<Automaton, PlanFault>
     requires size { IsOfComplementSize (automaton_of a) }
-    ensures steps { Steps (Bring Form.RemoveFin ∷ []) (automaton_of a) result }
+    ensures steps { StepsChanges (Bring Form.RemoveFin ∷ []) (automaton_of a) result }
     ensures size { IfOk result (λ made. HasRoom (automaton_of made)) }
 {
     if !has_fin(a.formula()) {
@@ -86,7 +86,7 @@ fn without_fin(alloc: Global, a: Automaton) -> Result<Automaton, PlanFault>
 fn with_copies(alloc: Global, a: &Automaton) -> Result<Automaton, PlanFault>
     requires size { IsOfComplementSize (automaton_of a.now) }
     requires fin { has_fin a.now.formula ≡ true }
-    ensures steps { Steps (Bring Form.RemoveFin ∷ []) (automaton_of a.now) result }
+    ensures steps { StepsChanges (Bring Form.RemoveFin ∷ []) (automaton_of a.now) result }
     ensures size { IfOk result (λ made. HasRoom (automaton_of made)) }
 {
     Ok(copies(alloc, a)?)
@@ -94,7 +94,7 @@ fn with_copies(alloc: Global, a: &Automaton) -> Result<Automaton, PlanFault>
 
 fn disjunctive(alloc: Global, a: Automaton) -> Result<Automaton, PlanFault>
     requires size { IsOfComplementSize (automaton_of a) }
-    ensures steps { Steps (Bring Form.Dnf ∷ []) (automaton_of a) result }
+    ensures steps { StepsChanges (Bring Form.Dnf ∷ []) (automaton_of a) result }
     ensures size { IfOk result (λ made. HasRoom (automaton_of made)) }
 {
     Ok(with_disjuncts(alloc, a)?)
@@ -103,10 +103,10 @@ fn disjunctive(alloc: Global, a: Automaton) -> Result<Automaton, PlanFault>
 /// One that is complete is handed on.
 pub(crate) fn complete(alloc: Global, a: Automaton) -> Result<Automaton, PlanFault>
     requires size { HasRoom (automaton_of a) }
-    ensures steps { Steps (Complete ∷ []) (automaton_of a) result }
+    ensures steps { StepsChanges (Complete ∷ []) (automaton_of a) result }
     ensures size { IfOk result (λ made. IsOfLastSize (automaton_of made)) }
 {
-    a.whole();
+    a.well_formed();
     if a.is_complete() {
         return Ok(a);
     }
@@ -115,9 +115,9 @@ pub(crate) fn complete(alloc: Global, a: Automaton) -> Result<Automaton, PlanFau
 
 fn completed(alloc: Global, a: &Automaton) -> Result<Automaton, PlanFault>
     requires size { HasRoom (automaton_of a.now) }
-    ensures steps { Steps (Complete ∷ []) (automaton_of a.now) result }
+    ensures steps { StepsChanges (Complete ∷ []) (automaton_of a.now) result }
     ensures size { IfOk result (λ made. IsOfLastSize (automaton_of made)) }
 {
-    a.whole();
+    a.well_formed();
     Ok(aut_ops::complete(alloc, a)?)
 }

@@ -1,10 +1,10 @@
 //! Whether an automaton is included in another, or accepts the same.
 
-ghost use Rattle.aut_core.specs.Core.{automaton_of};
-ghost use Rattle.plan_meaning.specs.Complements.{KeepsOf, StaysKept};
+ghost use Rattle.aut_core.specs.SymbolicAutomata.{automaton_of};
+ghost use Rattle.plan_meaning.specs.Complements.{KeepsComplement, StaysKept};
 ghost use Rattle.plan_meaning.specs.Filters as asked;
 ghost use Rattle.plan_meaning.specs.Operands.{IsOfReadSize};
-ghost use Rattle.plan_meaning.specs.inner.Judging.{ComparesInclusion, Examines};
+ghost use Rattle.plan_meaning.specs.inner.Judging.{ComparesInclusion, ExaminesFilter};
 
 use crate::complements::keep_complement;
 use crate::fault::PlanFault;
@@ -21,12 +21,12 @@ pub(crate) fn is_included(
 ) -> Result<bool, PlanFault>
     requires size { IsOfReadSize (automaton_of a.now) }
     requires other_size { IsOfReadSize (automaton_of other.now) }
-    requires kept { KeepsOf (automaton_of other.now) kept.old }
-    ensures examines { Examines result (asked.IncludedIn (automaton_of other.now)) (automaton_of a.now) }
-    ensures kept { KeepsOf (automaton_of other.now) kept.new }
+    requires kept { KeepsComplement (automaton_of other.now) kept.old }
+    ensures examines { ExaminesFilter result (asked.IncludedIn (automaton_of other.now)) (automaton_of a.now) }
+    ensures kept { KeepsComplement (automaton_of other.now) kept.new }
     ensures stays { StaysKept kept.old kept.new }
 {
-    a.whole();
+    a.well_formed();
     has_no_word_beside(alloc, a, other, kept)
 }
 
@@ -40,12 +40,12 @@ pub(crate) fn is_equivalent(
 ) -> Result<bool, PlanFault>
     requires size { IsOfReadSize (automaton_of a.now) }
     requires other_size { IsOfReadSize (automaton_of other.now) }
-    requires kept { KeepsOf (automaton_of other.now) kept.old }
-    ensures examines { Examines result (asked.EquivalentTo (automaton_of other.now)) (automaton_of a.now) }
-    ensures kept { KeepsOf (automaton_of other.now) kept.new }
+    requires kept { KeepsComplement (automaton_of other.now) kept.old }
+    ensures examines { ExaminesFilter result (asked.EquivalentTo (automaton_of other.now)) (automaton_of a.now) }
+    ensures kept { KeepsComplement (automaton_of other.now) kept.new }
     ensures stays { StaysKept kept.old kept.new }
 {
-    a.whole();
+    a.well_formed();
     let is_included = has_no_word_beside(alloc, a, other, kept)?;
     if !is_included {
         return Ok(false);
@@ -64,9 +64,9 @@ fn has_no_word_beside(
 ) -> Result<bool, PlanFault>
     requires size { IsOfReadSize (automaton_of a.now) }
     requires other_size { IsOfReadSize (automaton_of b.now) }
-    requires kept { KeepsOf (automaton_of b.now) kept.old }
+    requires kept { KeepsComplement (automaton_of b.now) kept.old }
     ensures compares { ComparesInclusion result (automaton_of a.now) (automaton_of b.now) }
-    ensures kept { KeepsOf (automaton_of b.now) kept.new }
+    ensures kept { KeepsComplement (automaton_of b.now) kept.new }
     ensures stays { StaysKept kept.old kept.new }
 {
     keep_complement(alloc, b, kept)?;

@@ -1,11 +1,11 @@
 //! The filters of a plan, as a list, and one of them examined.
 
 ghost use Rattle.std.specs.Prelude.{◌≡◌, map};
-ghost use Rattle.aut_core.specs.Core.{automaton_of};
+ghost use Rattle.aut_core.specs.SymbolicAutomata.{automaton_of};
 ghost use Rattle.plan_meaning.specs.Complements.{StayKept};
 ghost use Rattle.plan_meaning.specs.Filters.{filters};
 ghost use Rattle.plan_meaning.specs.Operands.{AreOperands, IsOfReadSize};
-ghost use Rattle.plan_meaning.specs.inner.Judging.{AreFrom, Examines, IsReady, LeavesOthers, asked_for, filter_of};
+ghost use Rattle.plan_meaning.specs.inner.Judging.{AreFrom, ExaminesFilter, IsFilterReady, LeavesOthers, asked_for, filter_of};
 
 use super::comparing::{is_equivalent, is_included};
 use super::meeting::{accepts_nothing, accepts_word, intersects, rejects_word};
@@ -72,9 +72,9 @@ pub(crate) fn holds(
     a: &Automaton,
 ) -> Result<bool, PlanFault>
     requires size { IsOfReadSize (automaton_of a.now) }
-    requires ready { IsReady filter.now complements.old }
-    ensures examines { Examines result (filter_of filter.now) (automaton_of a.now) }
-    ensures ready { IsReady filter.now complements.new }
+    requires ready { IsFilterReady filter.now complements.old }
+    ensures examines { ExaminesFilter result (filter_of filter.now) (automaton_of a.now) }
+    ensures ready { IsFilterReady filter.now complements.new }
     ensures others { LeavesOthers filter.now complements.old complements.new }
     ensures stay { StayKept complements.old complements.new }
 {

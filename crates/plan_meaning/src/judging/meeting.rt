@@ -1,10 +1,10 @@
 //! Whether an automaton accepts some word, or one of a pattern or of another automaton.
 
 ghost use Rattle.std.specs.Prelude.{◌+◌, ◌<◌, ◌^◌};
-ghost use Rattle.aut_core.specs.Core.{automaton_of};
+ghost use Rattle.aut_core.specs.SymbolicAutomata.{automaton_of};
 ghost use Rattle.plan_meaning.specs.Filters as asked;
 ghost use Rattle.plan_meaning.specs.Operands.{IsOfReadSize};
-ghost use Rattle.plan_meaning.specs.inner.Judging.{Examines};
+ghost use Rattle.plan_meaning.specs.inner.Judging.{ExaminesFilter};
 ghost use Rattle.word_syntax.specs.Writing.{word_pattern};
 
 use crate::fault::PlanFault;
@@ -21,7 +21,7 @@ pub(crate) fn rejects_word(
     a: &Automaton,
 ) -> Result<bool, PlanFault>
     requires size { IsOfReadSize (automaton_of a.now) }
-    ensures { Examines result (asked.RejectsWord (word_pattern pattern.now)) (automaton_of a.now) }
+    ensures { ExaminesFilter result (asked.RejectsWord (word_pattern pattern.now)) (automaton_of a.now) }
 {
     let accepts = accepts_word(alloc, pattern, a)?;
     Ok(!accepts)
@@ -34,7 +34,7 @@ pub(crate) fn accepts_word(
     a: &Automaton,
 ) -> Result<bool, PlanFault>
     requires size { IsOfReadSize (automaton_of a.now) }
-    ensures { Examines result (asked.AcceptsWord (word_pattern pattern.now)) (automaton_of a.now) }
+    ensures { ExaminesFilter result (asked.AcceptsWord (word_pattern pattern.now)) (automaton_of a.now) }
 {
     let word = pattern_automaton(alloc, pattern)?;
     meets(alloc, a, &word)
@@ -44,7 +44,7 @@ pub(crate) fn accepts_word(
 pub(crate) fn intersects(alloc: Global, a: &Automaton, other: &Automaton) -> Result<bool, PlanFault>
     requires size { IsOfReadSize (automaton_of a.now) }
     requires other_size { IsOfReadSize (automaton_of other.now) }
-    ensures { Examines result (asked.Intersects (automaton_of other.now)) (automaton_of a.now) }
+    ensures { ExaminesFilter result (asked.Intersects (automaton_of other.now)) (automaton_of a.now) }
 {
     meets(alloc, a, other)
 }
@@ -52,16 +52,16 @@ pub(crate) fn intersects(alloc: Global, a: &Automaton, other: &Automaton) -> Res
 /// Whether both accept some word.
 fn meets(alloc: Global, a: &Automaton, other: &Automaton) -> Result<bool, PlanFault>
     requires { a.now.sets + other.now.sets < 2 ^ 32 }
-    ensures { Examines result (asked.Intersects (automaton_of other.now)) (automaton_of a.now) }
+    ensures { ExaminesFilter result (asked.Intersects (automaton_of other.now)) (automaton_of a.now) }
 {
-    a.whole();
+    a.well_formed();
     let some = accept_together(alloc, a, other)?;
     Ok(some)
 }
 
 /// Whether it accepts no word.
 pub(crate) fn accepts_nothing(alloc: Global, a: &Automaton) -> Result<bool, PlanFault>
-    ensures { Examines result asked.IsEmpty (automaton_of a.now) }
+    ensures { ExaminesFilter result asked.IsEmpty (automaton_of a.now) }
 {
     let some = accepts_some(alloc, a)?;
     Ok(!some)

@@ -13,7 +13,7 @@ use Rattle.safra_laws.proofs.backward.Cycles.{green_has_cycle}
 use Rattle.safra_laws.proofs.backward.Starts.{first_reached, reached_along}
 use Rattle.safra_laws.proofs.invariant.FirstTree.{first_is_tree}
 use Rattle.safra_laws.specs.Language.{GreenIsAccepted}
-use Rattle.safra_laws.specs.Rounds.{IsAccepted, IsMovePath, IsReached, tree_after}
+use Rattle.safra_laws.specs.Rounds.{IsAccepted, IsMovePath, IsReachedByWord, tree_after}
 
 copies_rotated : {A : Type 0} (k : ℕ) (v z : List A) → copies k (v ++ z) ++ v ≡ v ++ copies k (z ++ v)
 copies_rotated zero v z = sym (append-nil v)
@@ -32,7 +32,7 @@ rotated_accepts es fs gs parts h = elim (or_cases (list_any accepting_of es) (li
 -- A cycle over the round begun at z of v and z, from a state that a path from a start leads to, is one over the round of z
 -- and v: it is begun where v ends.
 rotated_some : (starts : List ℕ) (stem z v : List (List Move)) (k q : ℕ) (es : List Move)
-    → IsReached starts (stem ++ z) q → IsMovePath q (copies (suc k) (v ++ z)) es q → list_any accepting_of es ≡ true → IsAccepted starts stem (z ++ v)
+    → IsReachedByWord starts (stem ++ z) q → IsMovePath q (copies (suc k) (v ++ z)) es q → list_any accepting_of es ≡ true → IsAccepted starts stem (z ++ v)
 rotated_some starts stem z v k q es begun cycle accepts =
     let split = path_split q q v (z ++ copies k (v ++ z)) es (subst (λ w. IsMovePath q w es q) (append_assoc v z (copies k (v ++ z))) cycle) in
     let way = path_join begun.start q split.middle (stem ++ z) v begun.path split.front begun.leads split.first in
@@ -53,7 +53,7 @@ rotated_some starts stem z v k q es begun cycle accepts =
     }
 
 rotated : (starts : List ℕ) (stem z v : List (List Move)) (r q : ℕ) (es : List Move) → 0 < r
-    → IsReached starts (stem ++ z) q → IsMovePath q (copies r (v ++ z)) es q → list_any accepting_of es ≡ true → IsAccepted starts stem (z ++ v)
+    → IsReachedByWord starts (stem ++ z) q → IsMovePath q (copies r (v ++ z)) es q → list_any accepting_of es ≡ true → IsAccepted starts stem (z ++ v)
 rotated starts stem z v zero q es some begun cycle accepts = absurd (omega (arith, some))
 rotated starts stem z v (suc k) q es some begun cycle accepts = rotated_some starts stem z v k q es begun cycle accepts
 

@@ -7,7 +7,7 @@ use Rattle.aut_base.proofs.lists.Members.{any_found}
 use Rattle.safra_trees.proofs.list_step.Forests.{keeps_holds}
 use Rattle.safra_trees.proofs.list_step.Pruned.{goes_too, has_parts, new_holds, old_holds, pruned_length, pruned_parts}
 use Rattle.safra_trees.proofs.list_step.Ranks.{rank_back}
-use Rattle.safra_trees.specs.Step.{grown, pruned, stays}
+use Rattle.safra_trees.specs.Step.{grown, pruned, survives}
 use Rattle.safra_trees.specs.Trees.{Node, first_tree, has, holds}
 use Rattle.safra_trees.specs.declared.moves.Move.{Move}
 use Rattle.safra_laws.proofs.MovePaths.{path_push}
@@ -15,10 +15,10 @@ use Rattle.safra_laws.proofs.TreesAfter.{holds_within}
 use Rattle.safra_laws.proofs.backward.Steps.{enters_found}
 use Rattle.safra_laws.proofs.backward.Traces.{Enters}
 use Rattle.safra_laws.proofs.invariant.FirstTree.{tree_if}
-use Rattle.safra_laws.specs.Rounds.{IsReached, next_tree, tree_after}
+use Rattle.safra_laws.specs.Rounds.{IsReachedByWord, next_tree, tree_after}
 
 abbrev pub AllReached : List ℕ → List (List Move) → List Node → Type 0
-AllReached starts w t = (x q : ℕ) → holds t x q ≡ true → IsReached starts w q
+AllReached starts w t = (x q : ℕ) → holds t x q ≡ true → IsReachedByWord starts w q
 
 -- a name with a state from which a move leads to q
 record Source (ms : List Move) (t : List Node) (q : ℕ) : Type 0 where
@@ -29,7 +29,7 @@ source : (n : ℕ) (ms : List Move) (t : List Node) (x q : ℕ) → holds (next_
 source n ms t x q here =
     let f = grown n ms t in
     let within = holds_within (next_tree n ms t) x q here in
-    let at = rank_back (stays f) f.size x (omega (arith, within, pruned_length f)) in
+    let at = rank_back (survives f) f.size x (omega (arith, within, pruned_length f)) in
     let held = keeps_holds f at.name q (pruned_parts f at.name q at.below at.stays (subst (λ y. holds (pruned f) y q ≡ true) (sym at.is) here)).0 in
     elim (cases_lt at.name (length t)) [
       | inl old ↦ record { name = at.name; enters = enters_found ms t at.name q (sym (old_holds n ms t at.name q old) ∙ held) }

@@ -6,7 +6,7 @@ use Rattle.aut_base.proofs.lists.Members.{any_found, each_is, from_filter, from_
 use Rattle.safra_trees.proofs.list_step.Forests.{ancestors_of, keeps_holds, stays_free, stays_some, stays_up}
 use Rattle.safra_trees.proofs.list_step.Pruned.{grown_forest, new_holds, new_parent, old_holds, old_parent, pruned_length, pruned_parent, pruned_parts, pruned_within, rank_zero}
 use Rattle.safra_trees.proofs.list_step.Ranks.{rank_all, rank_back, rank_same}
-use Rattle.safra_trees.specs.Step.{Forest, IsTree, ancestors, covered, goes, goes_well, greens, grown, is_child, keeps, pruned, rank, reds, stays}
+use Rattle.safra_trees.specs.Step.{Forest, IsTree, ancestors, covered, goes, goes_accepting, greens, grown, is_child, retains, pruned, rank, reds, survives}
 use Rattle.safra_trees.specs.Trees.{Node, holds, node_at}
 use Rattle.safra_trees.specs.declared.moves.Move.{Move}
 use Rattle.safra_laws.proofs.TreesAfter.{steps_keep_trees}
@@ -19,7 +19,7 @@ enters_found ms t x q h =
     let parts = and_parts (holds t x found.0.from) (found.0.to == q) found.2 in
     record { move = found.0; there = found.1; from = parts.0; to = eqb-true found.0.to q parts.1 }
 
-pub enters_accepting_found : (ms : List Move) (t : List Node) (x q : ℕ) → goes_well ms t x q ≡ true → EntersAccepting ms (holds t x) q
+pub enters_accepting_found : (ms : List Move) (t : List Node) (x q : ℕ) → goes_accepting ms t x q ≡ true → EntersAccepting ms (holds t x) q
 enters_accepting_found ms t x q h =
     let found = any_found (λ (m : Move). m.accepting && (holds t x m.from && (m.to == q))) ms h in
     let parts = and_parts found.0.accepting (holds t x found.0.from && (found.0.to == q)) found.2 in
@@ -40,16 +40,16 @@ grown_enters n ms t g y q more less parent held = elim (cases_lt y (length t)) [
 
 -- the names up to g stay
 abbrev pub AllStay : ℕ → List Move → List Node → ℕ → Type 0
-AllStay n ms t g = (f : ℕ) → f ≤ g → stays (grown n ms t) f ≡ true
+AllStay n ms t g = (f : ℕ) → f ≤ g → survives (grown n ms t) f ≡ true
 
-same_name : (n : ℕ) (ms : List Move) (t : List Node) (g : ℕ) → AllStay n ms t g → rank (stays (grown n ms t)) g ≡ g
-same_name n ms t g on = rank_all (stays (grown n ms t)) g (λ f less. on f (omega (arith, less)))
+same_name : (n : ℕ) (ms : List Move) (t : List Node) (g : ℕ) → AllStay n ms t g → rank (survives (grown n ms t)) g ≡ g
+same_name n ms t g on = rank_all (survives (grown n ms t)) g (λ f less. on f (omega (arith, less)))
 
 pub stays_below : (n : ℕ) (ms : List Move) (t : List Node) (g : ℕ) → g < length t → AllStay n ms t g → g < length (next_tree n ms t)
 stays_below n ms t g below on = omega (arith, pruned_within (grown n ms t) g (omega (arith, below)) (on g (omega arith)), same_name n ms t g on)
 
 -- what the name holds behind the step it kept
-kept_here : (n : ℕ) (ms : List Move) (t : List Node) (g q : ℕ) → g < length t → AllStay n ms t g → holds (next_tree n ms t) g q ≡ true → (keeps (grown n ms t) g q ≡ true) × (q < n)
+kept_here : (n : ℕ) (ms : List Move) (t : List Node) (g q : ℕ) → g < length t → AllStay n ms t g → holds (next_tree n ms t) g q ≡ true → (retains (grown n ms t) g q ≡ true) × (q < n)
 kept_here n ms t g q below on here =
     pruned_parts (grown n ms t) g q (omega (arith, below)) (on g (omega arith)) (subst (λ x. holds (next_tree n ms t) x q ≡ true) (sym (same_name n ms t g on)) here)
 
@@ -58,16 +58,16 @@ record WasChild (n : ℕ) (ms : List Move) (t : List Node) (g c : ℕ) : Type 0 
   name : ℕ
   some : 0 < name
   below : name < length t + length t
-  on : stays (grown n ms t) name ≡ true
-  is : rank (stays (grown n ms t)) name ≡ c
+  on : survives (grown n ms t) name ≡ true
+  is : rank (survives (grown n ms t)) name ≡ c
   parent : (grown n ms t).parent name ≡ g
 
 former : (n : ℕ) (ms : List Move) (t : List Node) (g c : ℕ) → IsTree t → AllStay n ms t g → IsChild (next_tree n ms t) g c → WasChild n ms t g c
 former n ms t g c tree on is =
     let f = grown n ms t in
-    let at = rank_back (stays f) f.size c (omega (arith, is.below, pruned_length f)) in
-    let over = rank_zero (stays f) at.name (omega (arith, is.some, at.is)) in
-    let ranks : rank (stays f) (f.parent at.name) ≡ rank (stays f) g =
+    let at = rank_back (survives f) f.size c (omega (arith, is.below, pruned_length f)) in
+    let over = rank_zero (survives f) at.name (omega (arith, is.some, at.is)) in
+    let ranks : rank (survives f) (f.parent at.name) ≡ rank (survives f) g =
     sym (pruned_parent f at.name at.below at.stays) ∙ (ap (λ x. (node_at (pruned f) x).parent) at.is ∙ (is.parent ∙ sym (same_name n ms t g on))) in
     record {
       name = at.name;
@@ -75,7 +75,7 @@ former n ms t g c tree on is =
       below = at.below;
       on = at.stays;
       is = at.is;
-      parent = rank_same (stays f) (f.parent at.name) g (stays_up f (grown_forest n ms t tree) at.name over at.below at.stays) (on g (omega arith)) ranks;
+      parent = rank_same (survives f) (f.parent at.name) g (stays_up f (grown_forest n ms t tree) at.name over at.below at.stays) (on g (omega arith)) ranks;
     }
 
 pub step_keeps : (n : ℕ) (ms : List Move) (t : List Node) (g : ℕ) → IsTree t → g < length t → AllStay n ms t g → KeepsName ms t (next_tree n ms t) g
@@ -93,14 +93,14 @@ record ChildWith (f : Forest) (g q : ℕ) : Type 0 where
   some : 0 < name
   below : name < f.size
   parent : f.parent name ≡ g
-  keeps_it : keeps f name q ≡ true
+  keeps_it : retains f name q ≡ true
 
-child_with : (f : Forest) (g q : ℕ) → covered f g ≡ true → q < f.bound → keeps f g q ≡ true → ChildWith f g q
+child_with : (f : Forest) (g q : ℕ) → covered f g ≡ true → q < f.bound → retains f g q ≡ true → ChildWith f g q
 child_with f g q bare less held =
-    let there = there_filter (keeps f g) (range_with_len 0 f.bound) q (there_range_zero f.bound q less) held in
-    let inside = each_is (λ s. list_any (λ z. is_child f g z && keeps f z s) (range_with_len 0 f.size)) (filter (keeps f g) (range_with_len 0 f.bound)) q bare there in
-    let found = any_found (λ z. is_child f g z && keeps f z q) (range_with_len 0 f.size) inside in
-    let parts = and_parts (is_child f g found.0) (keeps f found.0 q) found.2 in
+    let there = there_filter (retains f g) (range_with_len 0 f.bound) q (there_range_zero f.bound q less) held in
+    let inside = each_is (λ s. list_any (λ z. is_child f g z && retains f z s) (range_with_len 0 f.size)) (filter (retains f g) (range_with_len 0 f.bound)) q bare there in
+    let found = any_found (λ z. is_child f g z && retains f z q) (range_with_len 0 f.size) inside in
+    let parts = and_parts (is_child f g found.0) (retains f found.0 q) found.2 in
     let ones = and_parts (nat_lt 0 found.0) (f.parent found.0 == g) parts.0 in
     record {
       name = found.0;
@@ -131,7 +131,7 @@ step_turns_green n ms t g tree below on bare = record {
 
 -- what a green name is
 pub record GreenFacts (n : ℕ) (ms : List Move) (t : List Node) (g : ℕ) : Type 0 where
-  pub on : stays (grown n ms t) g ≡ true
+  pub on : survives (grown n ms t) g ≡ true
   pub bare : covered (grown n ms t) g ≡ true
   pub below : g < length t
 
@@ -139,8 +139,8 @@ pub record GreenFacts (n : ℕ) (ms : List Move) (t : List Node) (g : ℕ) : Typ
 pub green_facts : (n : ℕ) (ms : List Move) (t : List Node) (g : ℕ) → IsTree t → Contains (greens (grown n ms t)) g → GreenFacts n ms t g
 green_facts n ms t g tree there =
     let f = grown n ms t in
-    let parts = and_parts (stays f g) (covered f g) (from_filter (λ y. stays f y && covered f y) (range_with_len 0 f.size) g there).1 in
-    let some = any_found (keeps f g) (range_with_len 0 n) (stays_some f g parts.0) in
+    let parts = and_parts (survives f g) (covered f g) (from_filter (λ y. survives f y && covered f y) (range_with_len 0 f.size) g there).1 in
+    let some = any_found (retains f g) (range_with_len 0 n) (stays_some f g parts.0) in
     let c = child_with f g some.0 parts.1 (omega (arith, (from_range 0 n some.0 some.1).1)) some.2 in
     record {
       on = parts.0;
@@ -156,11 +156,11 @@ abbrev pub NoneRed : ℕ → ℕ → List Node → List Move → Type 0
 NoneRed n g t ms = (f : ℕ) → f ≤ g → Contains (reds (grown n ms t) (length t)) f → ⊥
 
 pub not_red_stays : (n : ℕ) (ms : List Move) (t : List Node) (g : ℕ) → g < length t → NoneRed n g t ms → AllStay n ms t g
-not_red_stays n ms t g below none_red f upto = elim (cases_Bool (stays (grown n ms t) f)) [
+not_red_stays n ms t g below none_red f upto = elim (cases_Bool (survives (grown n ms t) f)) [
   | inl on ↦ on
   | inr off ↦ absurd (
       let within = there_range_zero (length t) f (omega (arith, upto, below)) in
-      none_red f upto (there_filter (λ y. not (stays (grown n ms t) y)) (range_with_len 0 (length t)) f within (not_from_false (stays (grown n ms t) f) off)))
+      none_red f upto (there_filter (λ y. not (survives (grown n ms t) y)) (range_with_len 0 (length t)) f within (not_from_false (survives (grown n ms t) f) off)))
 ]
 
 pub never_red_below : (n g : ℕ) (t : List Node) (w : List (List Move)) → g < length t → NeverRed n g t w → g < length (tree_after n t w)

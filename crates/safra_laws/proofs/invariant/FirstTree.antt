@@ -4,13 +4,13 @@ use Rattle.std.proofs.lemmas.Bool.{eq-eqb}
 use Rattle.std.specs.List.{list_any, range_with_len}
 use Rattle.aut_base.proofs.lists.Members.{any_found, any_from, from_range, there_range_zero}
 use Rattle.safra_trees.proofs.list_step.Pruned.{has_from}
-use Rattle.safra_trees.specs.Step.{IsTree, Own, names}
+use Rattle.safra_trees.specs.Step.{IsTree, Own, names_where}
 use Rattle.safra_trees.specs.Trees.{Node, first_tree, has, holds}
 use Rattle.safra_laws.specs.Trees.{FirstIsTree}
 
 -- the tree of the starts, where it is known whether there are any
 abbrev pub tree_if : ℕ → List ℕ → Bool → List Node
-tree_if n starts b = cond b (record { parent = 0; states = names (has starts) n } ∷ []) []
+tree_if n starts b = cond b (record { parent = 0; states = names_where (has starts) n } ∷ []) []
 
 is_tree_if : (n : ℕ) (starts : List ℕ) (b : Bool) → list_any (has starts) (range_with_len 0 n) ≡ b → IsTree (tree_if n starts b)
 is_tree_if n starts false e = record {

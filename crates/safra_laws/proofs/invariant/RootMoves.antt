@@ -4,7 +4,7 @@ use Rattle.std.proofs.Math.Path.{fun_ext}
 use Rattle.std.proofs.lemmas.Bool.{and_parts}
 use Rattle.aut_base.proofs.lists.Members.{any_found, any_from}
 use Rattle.aut_base.proofs.numbers.Truth.{same_truth}
-use Rattle.safra_trees.specs.Step.{Forest, IsTree, goes, goes_well, greens, grown, pruned, reds}
+use Rattle.safra_trees.specs.Step.{Forest, IsTree, goes, goes_accepting, greens, grown, pruned, reds}
 use Rattle.safra_trees.specs.Trees.{Node, holds, node_at}
 use Rattle.safra_trees.specs.declared.moves.Move.{Move}
 use Rattle.safra_laws.proofs.TreesAfter.{holds_within}
@@ -29,7 +29,7 @@ goes_alike ms ns t tree more x s h =
     let parts = and_parts (holds t x found.0.from) (found.0.to == s) found.2 in
     any_from (λ (m : Move). holds t x m.from && (m.to == s)) ns found.0 (more found.0 (root_holds t tree x x found.0.from (omega arith) parts.0) found.1) found.2
 
-goes_well_alike : (ms ns : List Move) (t : List Node) → IsTree t → RootMovesIn ms ns t → (x s : ℕ) → goes_well ms t x s ≡ true → goes_well ns t x s ≡ true
+goes_well_alike : (ms ns : List Move) (t : List Node) → IsTree t → RootMovesIn ms ns t → (x s : ℕ) → goes_accepting ms t x s ≡ true → goes_accepting ns t x s ≡ true
 goes_well_alike ms ns t tree more x s h =
     let found = any_found (λ (m : Move). m.accepting && (holds t x m.from && (m.to == s))) ms h in
     let parts = and_parts (holds t x found.0.from) (found.0.to == s) (and_parts found.0.accepting (holds t x found.0.from && (found.0.to == s)) found.2).1 in
@@ -51,9 +51,9 @@ grown_alike n ms ns t tree same =
     let back : RootMovesIn ns ms t = λ m h. (same m h).1 in
     let all : goes ms t ≡ goes ns t =
     fun_ext (λ x. fun_ext (λ s. same_truth (goes ms t x s) (goes ns t x s) (goes_alike ms ns t tree there x s) (goes_alike ns ms t tree back x s))) in
-    let well : goes_well ms t ≡ goes_well ns t =
-    fun_ext (λ x. fun_ext (λ s. same_truth (goes_well ms t x s) (goes_well ns t x s) (goes_well_alike ms ns t tree there x s) (goes_well_alike ns ms t tree back x s))) in
-    ap (λ (g : ℕ → ℕ → Bool). with_goals n t g (goes_well ms t)) all ∙ ap (with_goals n t (goes ns t)) well
+    let well : goes_accepting ms t ≡ goes_accepting ns t =
+    fun_ext (λ x. fun_ext (λ s. same_truth (goes_accepting ms t x s) (goes_accepting ns t x s) (goes_well_alike ms ns t tree there x s) (goes_well_alike ns ms t tree back x s))) in
+    ap (λ (g : ℕ → ℕ → Bool). with_goals n t g (goes_accepting ms t)) all ∙ ap (with_goals n t (goes ns t)) well
 
 pub root_moves_are_enough : RootMovesAreEnough
 root_moves_are_enough n most ms ns t tree same =

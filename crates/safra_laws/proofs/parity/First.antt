@@ -7,7 +7,7 @@ use Rattle.std.proofs.lemmas.List.Kept.{AllPairs-filter}
 use Rattle.std.specs.List.{range_with_len}
 use Rattle.aut_base.proofs.order.AllPairsOf.{pairs_first}
 use Rattle.aut_base.proofs.lists.Members.{first_there, from_filter, from_map, from_range, none_there, there_cases, there_map}
-use Rattle.safra_trees.specs.Step.{covered, greens, grown, names, reds, stays}
+use Rattle.safra_trees.specs.Step.{covered, greens, grown, names_where, reds, survives}
 use Rattle.safra_laws.proofs.backward.Steps.{green_facts}
 use Rattle.safra_laws.proofs.parity.Least.{lowest_is, lowest_low}
 use Rattle.safra_laws.specs.Priorities.{PriorityByFirst, lowest, priority_by}
@@ -20,7 +20,7 @@ range_rises k i j d less within =
     let long : j < k = omega (arith, within, length-range_with_len 0 k) in
     omega (arith, less, get_or-range_with_len 0 k i d (omega (arith, less, long)), get_or-range_with_len 0 k j d long)
 
-names_rise : (p : ℕ → Bool) (k : ℕ) → Rises (names p k)
+names_rise : (p : ℕ → Bool) (k : ℕ) → Rises (names_where p k)
 names_rise p k = AllPairs-filter (λ x y. x < y) p (range_with_len 0 k) (range_rises k)
 
 first_low : (x : ℕ) (xs : List ℕ) → Rises (x ∷ xs) → (y : ℕ) → Contains (x ∷ xs) y → x ≤ y
@@ -83,10 +83,10 @@ priority_by_first n most ms t tree few =
     let f = grown n ms t in
     least_by_first most (reds f (length t)) (greens f)
     (record {
-      rises = names_rise (λ y. not (stays f y)) (length t);
-      each = λ x there. (let within = from_range 0 (length t) x (from_filter (λ y. not (stays f y)) (range_with_len 0 (length t)) x there).0 in omega (arith, within.1, few));
+      rises = names_rise (λ y. not (survives f y)) (length t);
+      each = λ x there. (let within = from_range 0 (length t) x (from_filter (λ y. not (survives f y)) (range_with_len 0 (length t)) x there).0 in omega (arith, within.1, few));
     })
     (record {
-      rises = names_rise (λ y. stays f y && covered f y) f.size;
+      rises = names_rise (λ y. survives f y && covered f y) f.size;
       each = λ x there. omega (arith, (green_facts n ms t x tree there).below, few);
     })

@@ -12,18 +12,18 @@ at_read (y ∷ xs) zero x less is = sym is
 at_read (y ∷ xs) (suc i) x less is = at_read xs i x (omega (arith, less)) is
 
 pub first_of_low : (order : List ℕ) (c d most : ℕ) → c ≤ most → d ≤ most → first_of order c d ≤ most
-first_of_low order c d most one other = by (nat_lt (key order d) (key order c))
+first_of_low order c d most one other = by_cases (nat_lt (key order d) (key order c))
   where
-    by : (b : Bool) → cond b d c ≤ most
-    by true = other
-    by false = one
+    by_cases : (b : Bool) → cond b d c ≤ most
+    by_cases true = other
+    by_cases false = one
 
 pub claimant_low : (m x : ℕ) (e : Move) → x < m → claimant m x e ≤ m + m
-claimant_low m x e less = by e.accepting
+claimant_low m x e less = by_cases e.accepting
   where
-    by : (b : Bool) → cond b (m + x) x ≤ m + m
-    by true = omega (arith, less)
-    by false = omega (arith, less)
+    by_cases : (b : Bool) → cond b (m + x) x ≤ m + m
+    by_cases true = omega (arith, less)
+    by_cases false = omega (arith, less)
 
 pub set_low : (xs : List ℕ) (i v most : ℕ) → All (λ c. c ≤ most) xs → v ≤ most → All (λ c. c ≤ most) (slice_set xs i v)
 set_low xs i v most all low k d within = elim (cases_eq k i) [

@@ -11,7 +11,7 @@ use Rattle.safra_trees.proofs.list_step.Ranks.{names_below}
 use Rattle.safra_trees.proofs.flat_step.Placed.{placed_all, stored_root}
 use Rattle.safra_trees.proofs.list_step.Over.{over_self}
 use Rattle.safra_trees.specs.Flat.{IsStored, at, is_over, nodes_of, placed}
-use Rattle.safra_trees.specs.Step.{names}
+use Rattle.safra_trees.specs.Step.{names_where}
 use Rattle.safra_trees.specs.Trees.{Node, first_tree, has, root_states}
 
 abbrev first_parents : List ℕ → List ℕ
@@ -84,7 +84,7 @@ nodes_first p xs (s ∷ found) is =
 
 -- the starts in their order are those of the states below n that are starts
 pub started_names : (n : ℕ) (starts found : List ℕ) → IsStrictlyIncreasing found → ((q : ℕ) → Contains starts q → Contains found q) → ((q : ℕ) → Contains found q → Contains starts q)
-    → All (λ s. s < n) starts → found ≡ names (has starts) n
+    → All (λ s. s < n) starts → found ≡ names_where (has starts) n
 started_names n starts found rises keeps adds_none all = kept_of_range (has starts) n found rises
     (λ q there. (
     let start = adds_none q there in
@@ -100,12 +100,12 @@ started_stored found parents places rises one other =
     let first = subst (λ xs. IsStored xs found (zeros found)) (sym (one ∙ parents_are found)) made in
     subst (λ xs. IsStored parents found xs) (sym (other ∙ zeros_are found)) first
 
-pub started_tree : (n : ℕ) (starts found parents places : List ℕ) → found ≡ names (has starts) n → parents ≡ replicate (min (length found) 1) 0 → places ≡ replicate (length found) 0
+pub started_tree : (n : ℕ) (starts found parents places : List ℕ) → found ≡ names_where (has starts) n → parents ≡ replicate (min (length found) 1) 0 → places ≡ replicate (length found) 0
     → nodes_of parents found places ≡ first_tree n starts
 started_tree n starts found parents places is one other =
     ap (λ xs. nodes_of xs found places) (one ∙ parents_are found)
     ∙ (ap (nodes_of (first_parents found) found) (other ∙ zeros_are found) ∙ nodes_first (has starts) (range_with_len 0 n) found is)
 
-pub started_below : (n : ℕ) (starts found parents places : List ℕ) → IsStored parents found places → found ≡ names (has starts) n → All (λ s. s < n) (root_states (nodes_of parents found places))
+pub started_below : (n : ℕ) (starts found parents places : List ℕ) → IsStored parents found places → found ≡ names_where (has starts) n → All (λ s. s < n) (root_states (nodes_of parents found places))
 started_below n starts found parents places stored is =
     subst (λ xs. All (λ s. s < n) xs) (sym (stored_root parents found places stored ∙ is)) (names_below (has starts) n)

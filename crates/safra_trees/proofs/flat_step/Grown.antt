@@ -6,14 +6,14 @@ use Rattle.safra_trees.proofs.flat_step.Claimed.{IsClaim, claim_is}
 use Rattle.safra_trees.proofs.flat_step.Orders.{IsFirst, IsGrown, first_alike, key_end, key_fresh, key_old, key_order, order_over, place_first}
 use Rattle.safra_trees.proofs.flat_step.Placed.{nodes_length, stored_found, stored_node, stored_there}
 use Rattle.safra_trees.proofs.list_step.Forests.{IsForest}
-use Rattle.safra_trees.specs.inner.Free.{place}
+use Rattle.safra_trees.specs.inner.Free.{owner_below}
 use Rattle.safra_trees.proofs.list_step.Over.{IsLower, over_self, over_parent}
 use Rattle.safra_trees.proofs.list_step.Pruned.{goes_more, goes_too, new_holds, new_parent, old_holds, old_parent}
 use Rattle.safra_trees.specs.Flat.{IsStored, at, nodes_of}
-use Rattle.safra_trees.specs.Step.{goes, goes_well, grown}
+use Rattle.safra_trees.specs.Step.{goes, goes_accepting, grown}
 use Rattle.safra_trees.specs.Trees.{Node, holds, node_at}
 use Rattle.safra_trees.specs.declared.moves.Move.{Move}
-use Rattle.safra_trees.specs.inner.Claims.{claim, claimant, grown_parent, key, leads, place_of}
+use Rattle.safra_trees.specs.inner.Claims.{claim, claimant, grown_parent, key, leads, owner_in}
 use Rattle.safra_trees.specs.inner.Order.{IsOrder}
 
 -- in a stored tree each node holds what its children hold
@@ -22,7 +22,7 @@ pub stored_inside : (parents states places : List ℕ) → IsStored parents stat
 stored_inside parents states places is y s more less held =
     let found = stored_found parents states places is y s held in
     stored_there parents states places is (at parents y) s (omega (arith, is.lower y more less, less))
-    (record { below = found.below; passes = over_parent (at parents) (length parents) is.lower y (place_of (length parents) states places s) more less found.below found.passes })
+    (record { below = found.below; passes = over_parent (at parents) (length parents) is.lower y (owner_in (length parents) states places s) more less found.below found.passes })
 
 pub stored_parent : (parents states places : List ℕ) (y : ℕ) → y < length parents → (node_at (nodes_of parents states places) y).parent ≡ at parents y
 stored_parent parents states places y less = ap (λ (d : Node). d.parent) (stored_node parents states places y less)
@@ -67,8 +67,8 @@ grown_same n ms parents states places =
     }
 
 -- what a move needs to let a name claim its goal
-leads_from : (m : ℕ) (place : ℕ → ℕ) (s : ℕ) (e : Move) → place e.from < m → (e.to == s) ≡ true → leads m place s e ≡ true
-leads_from m place s e less to = and_from (nat_lt (place e.from) m) (e.to == s) (lt-ltb (place e.from) m less) to
+leads_from : (m : ℕ) (owner_below : ℕ → ℕ) (s : ℕ) (e : Move) → owner_below e.from < m → (e.to == s) ≡ true → leads m owner_below s e ≡ true
+leads_from m owner_below s e less to = and_from (nat_lt (owner_below e.from) m) (e.to == s) (lt-ltb (owner_below e.from) m less) to
 
 claimant_well : (m x : ℕ) (e : Move) → e.accepting ≡ true → claimant m x e ≡ m + x
 claimant_well m x e well = cond-true e.accepting (m + x) x well
@@ -97,33 +97,33 @@ claimant_fresh order x e less well =
 
 -- The claim on a state is the first of the nodes that hold it.
 pub claim_first : (n : ℕ) (ms : List Move) (parents states places order : List ℕ) → IsStored parents states places → length order ≡ length parents → IsOrder (length parents) (at parents) (at order)
-    → (s c : ℕ) → IsClaim order (place_of (length parents) states places) s ms (length order + length order) c
+    → (s c : ℕ) → IsClaim order (owner_in (length parents) states places) s ms (length order + length order) c
     → IsFirst (grown n ms (nodes_of parents states places)) (key order) (length order + length order) s c
 claim_first n ms parents states places order is size ordered s c claimed =
     let t = nodes_of parents states places in
-    let place : ℕ → ℕ = place_of (length parents) states places in
+    let owner_below : ℕ → ℕ = owner_in (length parents) states places in
     let many : length t ≡ length order = nodes_length parents states places ∙ sym size in
     record {
       from = elim claimed.from [
         | inl none ↦ inl (omega (arith, none, many))
         | inr lets ↦ (
             let e = lets.move in
-            let parts = and_parts (nat_lt (place e.from) (length order)) (e.to == s) lets.leads_on in
-            let less : place e.from < length order = ltb-true (place e.from) (length order) parts.0 in
-            let small : place e.from < length parents = omega (arith, less, size) in
-            let held : holds t (place e.from) e.from ≡ true = stored_there parents states places is (place e.from) e.from small
-            (record { below = small; passes = over_self (at parents) (place e.from) }) in
-            let both : (holds t (place e.from) e.from && (e.to == s)) ≡ true = and_from (holds t (place e.from) e.from) (e.to == s) held parts.1 in
+            let parts = and_parts (nat_lt (owner_below e.from) (length order)) (e.to == s) lets.leads_on in
+            let less : owner_below e.from < length order = ltb-true (owner_below e.from) (length order) parts.0 in
+            let small : owner_below e.from < length parents = omega (arith, less, size) in
+            let held : holds t (owner_below e.from) e.from ≡ true = stored_there parents states places is (owner_below e.from) e.from small
+            (record { below = small; passes = over_self (at parents) (owner_below e.from) }) in
+            let both : (holds t (owner_below e.from) e.from && (e.to == s)) ≡ true = and_from (holds t (owner_below e.from) e.from) (e.to == s) held parts.1 in
             elim (cases_Bool e.accepting) [
               | inl well ↦ (
-                  let is_fresh : c ≡ length order + place e.from = lets.is ∙ claimant_well (length order) (place e.from) e well in
-                  let back : c - length t ≡ place e.from = omega (arith, is_fresh, many) in
-                  let goes_on : goes_well ms t (place e.from) s ≡ true = any_from (λ (v : Move). v.accepting && (holds t (place e.from) v.from && (v.to == s))) ms e lets.there
-                  (and_from e.accepting (holds t (place e.from) e.from && (e.to == s)) well both) in
-                  inr (omega (arith, is_fresh, less), new_holds n ms t c s (omega (arith, is_fresh, many)) ∙ (ap (λ x. goes_well ms t x s) back ∙ goes_on)))
+                  let is_fresh : c ≡ length order + owner_below e.from = lets.is ∙ claimant_well (length order) (owner_below e.from) e well in
+                  let back : c - length t ≡ owner_below e.from = omega (arith, is_fresh, many) in
+                  let goes_on : goes_accepting ms t (owner_below e.from) s ≡ true = any_from (λ (v : Move). v.accepting && (holds t (owner_below e.from) v.from && (v.to == s))) ms e lets.there
+                  (and_from e.accepting (holds t (owner_below e.from) e.from && (e.to == s)) well both) in
+                  inr (omega (arith, is_fresh, less), new_holds n ms t c s (omega (arith, is_fresh, many)) ∙ (ap (λ x. goes_accepting ms t x s) back ∙ goes_on)))
               | inr other ↦ (
-                  let is_old : c ≡ place e.from = lets.is ∙ claimant_else (length order) (place e.from) e other in
-                  let goes_on : goes ms t (place e.from) s ≡ true = any_from (λ (v : Move). holds t (place e.from) v.from && (v.to == s)) ms e lets.there both in
+                  let is_old : c ≡ owner_below e.from = lets.is ∙ claimant_else (length order) (owner_below e.from) e other in
+                  let goes_on : goes ms t (owner_below e.from) s ≡ true = any_from (λ (v : Move). holds t (owner_below e.from) v.from && (v.to == s)) ms e lets.there both in
                   inr (omega (arith, is_old, less), old_holds n ms t c s (omega (arith, is_old, less, many)) ∙ (ap (λ x. goes ms t x s) is_old ∙ goes_on)))
             ])
       ];
@@ -133,28 +133,28 @@ claim_first n ms parents states places order is size ordered s c claimed =
             let e = found.0 in
             let parts = and_parts (holds t y e.from) (e.to == s) found.2 in
             let under = stored_found parents states places is y e.from parts.0 in
-            let small : place e.from < length order = omega (arith, under.below, size) in
-            let ahead = claimed.first e found.1 (leads_from (length order) place s e small parts.1) in
-            let climbs = order_over (length parents) (at parents) (at order) is.lower ordered y (place e.from) under.below under.passes in
-            omega (arith, ahead, climbs, claimant_key order (place e.from) e small, key_old order y (omega (arith, old, many))))
+            let small : owner_below e.from < length order = omega (arith, under.below, size) in
+            let ahead = claimed.first e found.1 (leads_from (length order) owner_below s e small parts.1) in
+            let climbs = order_over (length parents) (at parents) (at order) is.lower ordered y (owner_below e.from) under.below under.passes in
+            omega (arith, ahead, climbs, claimant_key order (owner_below e.from) e small, key_old order y (omega (arith, old, many))))
         | inr fresh ↦ (
             let found = any_found (λ (v : Move). v.accepting && (holds t (y - length t) v.from && (v.to == s))) ms (sym (new_holds n ms t y s fresh) ∙ held) in
             let e = found.0 in
             let outer = and_parts e.accepting (holds t (y - length t) e.from && (e.to == s)) found.2 in
             let parts = and_parts (holds t (y - length t) e.from) (e.to == s) outer.1 in
             let under = stored_found parents states places is (y - length t) e.from parts.0 in
-            let small : place e.from < length order = omega (arith, under.below, size) in
-            let ahead = claimed.first e found.1 (leads_from (length order) place s e small parts.1) in
-            let climbs = order_over (length parents) (at parents) (at order) is.lower ordered (y - length t) (place e.from) under.below under.passes in
+            let small : owner_below e.from < length order = omega (arith, under.below, size) in
+            let ahead = claimed.first e found.1 (leads_from (length order) owner_below s e small parts.1) in
+            let climbs = order_over (length parents) (at parents) (at order) is.lower ordered (y - length t) (owner_below e.from) under.below under.passes in
             let back : at order (y - length order) ≡ at order (y - length t) = ap (λ m. at order (y - m)) (sym many) in
-            omega (arith, ahead, climbs, back, claimant_fresh order (place e.from) e small outer.0, key_fresh order y (omega (arith, fresh, many)) less))
+            omega (arith, ahead, climbs, back, claimant_fresh order (owner_below e.from) e small outer.0, key_fresh order y (omega (arith, fresh, many)) less))
       ];
     }
 
 -- and so its place in the grown forest
 pub claim_place : (n : ℕ) (ms : List Move) (parents states places order : List ℕ) → IsStored parents states places → length order ≡ length parents → IsOrder (length parents) (at parents)
     (at order) → (s : ℕ)
-    → claim order (place_of (length parents) states places) s ms (length order + length order) ≡ place (grown n ms (nodes_of parents states places)) (length order + length order) s
+    → claim order (owner_in (length parents) states places) s ms (length order + length order) ≡ owner_below (grown n ms (nodes_of parents states places)) (length order + length order) s
 claim_place n ms parents states places order is size ordered s =
     let g = grown n ms (nodes_of parents states places) in
     let many : g.size ≡ length order + length order = omega (arith, nodes_length parents states places, size) in
@@ -163,8 +163,8 @@ claim_place n ms parents states places order is size ordered s =
     let by : IsOrder (length order) (at parents) (at order) = subst (λ m. IsOrder m (at parents) (at order)) (sym size) ordered in
     let keyed : IsOrder g.size g.parent (key order) = subst (λ m. IsOrder m g.parent (key order)) (sym many) (key_order order (at parents) g.parent lower by grows) in
     let last : key order g.size ≡ g.size = ap (key order) many ∙ (key_end order ∙ sym many) in
-    let one : IsFirst g (key order) g.size s (claim order (place_of (length parents) states places) s ms (length order + length order)) =
-    subst (λ k. IsFirst g (key order) k s (claim order (place_of (length parents) states places) s ms (length order + length order))) (sym many)
-    (claim_first n ms parents states places order is size ordered s _ (claim_is order (place_of (length parents) states places) s ms (length order + length order))) in
-    let other : IsFirst g (key order) g.size s (place g g.size s) = place_first g (grown_forest_of n ms parents states places is) (key order) keyed last s g.size (omega arith) in
-    first_alike g (key order) keyed last s _ _ one other ∙ ap (λ k. place g k s) many
+    let one : IsFirst g (key order) g.size s (claim order (owner_in (length parents) states places) s ms (length order + length order)) =
+    subst (λ k. IsFirst g (key order) k s (claim order (owner_in (length parents) states places) s ms (length order + length order))) (sym many)
+    (claim_first n ms parents states places order is size ordered s _ (claim_is order (owner_in (length parents) states places) s ms (length order + length order))) in
+    let other : IsFirst g (key order) g.size s (owner_below g g.size s) = place_first g (grown_forest_of n ms parents states places is) (key order) keyed last s g.size (omega arith) in
+    first_alike g (key order) keyed last s _ _ one other ∙ ap (λ k. owner_below g k s) many

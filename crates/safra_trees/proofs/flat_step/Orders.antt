@@ -2,7 +2,7 @@
 use Rattle.std.proofs.Common.{◌≡◌, ◌∙◌, ◌⊎◌, ◌+◌, ◌-◌, ◌<◌, ◌≤◌, ◌==◌, ◌||◌, ℕ, zero, suc, true, List, ap, arith, inl, inr, length, nat_lt, refl, subst, sym}
 use Rattle.std.proofs.lemmas.Bool.{and_from, and_parts, both_ways, cases_Bool, cases_eq, cases_lt, cond-false, cond-true, eq-eqb, le-ltb, lt-ltb, or_right}
 use Rattle.safra_trees.proofs.list_step.Forests.{IsForest}
-use Rattle.safra_trees.specs.inner.Free.{place, takes}
+use Rattle.safra_trees.specs.inner.Free.{owner_below, takes}
 use Rattle.safra_trees.proofs.list_step.KeptPlaces.{taken_from}
 use Rattle.safra_trees.proofs.list_step.Over.{IsLower, over_cases, over_root}
 use Rattle.safra_trees.proofs.list_step.Places.{place_leaves, place_takes}
@@ -16,28 +16,28 @@ pub record IsFirst (f : Forest) (order : ℕ → ℕ) (k s c : ℕ) : Type 0 whe
   pub from : (c ≡ f.size) ⊎ ((c < k) × (f.holds c s ≡ true))
   pub first : (y : ℕ) → y < k → f.holds y s ≡ true → order c ≤ order y
 
-pub place_first : (f : Forest) → IsForest f → (order : ℕ → ℕ) → IsOrder f.size f.parent order → order f.size ≡ f.size → (s k : ℕ) → k ≤ f.size → IsFirst f order k s (place f k s)
+pub place_first : (f : Forest) → IsForest f → (order : ℕ → ℕ) → IsOrder f.size f.parent order → order f.size ≡ f.size → (s k : ℕ) → k ≤ f.size → IsFirst f order k s (owner_below f k s)
 place_first f is order ordered last s zero fit = record { from = inl refl; first = λ y less holds. absurd (omega (arith, less)) }
 place_first f is order ordered last s (suc k) fit =
     let before = place_first f is order ordered last s k (omega (arith, fit)) in
     elim (cases_Bool (takes f k s)) [
       | inl took ↦ (
-          let now : place f (suc k) s ≡ k = place_takes f k s took in
-          let held : f.holds k s ≡ true = (and_parts (f.holds k s) ((k == 0) || (place f k s == f.parent k)) took).0 in
+          let now : owner_below f (suc k) s ≡ k = place_takes f k s took in
+          let held : f.holds k s ≡ true = (and_parts (f.holds k s) ((k == 0) || (owner_below f k s == f.parent k)) took).0 in
           record {
             from = inr (omega (arith, now), subst (λ w. f.holds w s ≡ true) (sym now) held);
             first = λ y less holds. elim (cases_eq y k) [
-              | inl same ↦ (let e : order (place f (suc k) s) ≡ order y = ap order (now ∙ sym same) in omega (arith, e))
+              | inl same ↦ (let e : order (owner_below f (suc k) s) ≡ order y = ap order (now ∙ sym same) in omega (arith, e))
               | inr other ↦ (
                   let more : 0 < k = omega (arith, less, other) in
-                  let e : order (place f (suc k) s) ≡ order k = ap order now in
-                  let up : order (place f k s) ≡ order (f.parent k) = ap order (taken_from f k s took more) in
+                  let e : order (owner_below f (suc k) s) ≡ order k = ap order now in
+                  let up : order (owner_below f k s) ≡ order (f.parent k) = ap order (taken_from f k s took more) in
                   omega (arith, e, up, ordered.over k more (omega (arith, fit)), before.first y (omega (arith, less, other)) holds))
             ];
           })
       | inr left ↦ (
-          let now : place f (suc k) s ≡ place f k s = place_leaves f k s left in
-          let e : order (place f (suc k) s) ≡ order (place f k s) = ap order now in
+          let now : owner_below f (suc k) s ≡ owner_below f k s = place_leaves f k s left in
+          let e : order (owner_below f (suc k) s) ≡ order (owner_below f k s) = ap order now in
           record {
             from = elim before.from [
               | inl none ↦ inl (now ∙ none)
@@ -49,21 +49,22 @@ place_first f is order ordered last s (suc k) fit =
                   let at_y : order y ≡ order k = ap order same in
                   elim (cases_eq k 0) [
                     | inl root ↦ absurd (both_ways (takes f k s) left
-                        (and_from (f.holds k s) ((k == 0) || (place f k s == f.parent k)) held (ap (λ b. b || (place f k s == f.parent k)) (eq-eqb k 0 root))))
+                        (and_from (f.holds k s) ((k == 0) || (owner_below f k s == f.parent k)) held (ap (λ b. b || (owner_below f k s == f.parent k)) (eq-eqb k 0 root))))
                     | inr more' ↦ (
                         let more : 0 < k = omega (arith, more') in
                         let low : f.parent k < k = is.lower k more (omega (arith, fit)) in
                         let up : f.holds (f.parent k) s ≡ true = is.inside k s more (omega (arith, fit)) held in
-                        let ahead : order (place f k s) ≤ order (f.parent k) = before.first (f.parent k) low up in
+                        let ahead : order (owner_below f k s) ≤ order (f.parent k) = before.first (f.parent k) low up in
                         let bound : order (f.parent k) < f.size = ordered.below (f.parent k) (omega (arith, low, fit)) in
                         elim before.from [
-                          | inl none ↦ (let gone : order (place f k s) ≡ order f.size = ap order none in absurd (omega (arith, gone, last, ahead, bound)))
-                          | inr found ↦ (elim (cases_eq (place f k s) (f.parent k)) [
+                          | inl none ↦ (let gone : order (owner_below f k s) ≡ order f.size = ap order none in absurd (omega (arith, gone, last, ahead, bound)))
+                          | inr found ↦ (elim (cases_eq (owner_below f k s) (f.parent k)) [
                             | inl at ↦ absurd (both_ways (takes f k s) left
-                                (and_from (f.holds k s) ((k == 0) || (place f k s == f.parent k)) held (or_right (k == 0) (place f k s == f.parent k) (eq-eqb (place f k s) (f.parent k) at))))
-                            | inr away ↦ (elim (cases_eq (order (place f k s)) (order (f.parent k))) [
-                              | inl alike ↦ absurd (away (ordered.apart (place f k s) (f.parent k) (omega (arith, found.0, fit)) (omega (arith, low, fit)) alike))
-                              | inr less' ↦ omega (arith, e, at_y, ordered.next k (place f k s) (omega (arith, fit)) found.0 (omega (arith, ahead, less')))
+                                (and_from (f.holds k s) ((k == 0) || (owner_below f k s == f.parent k)) held
+                                (or_right (k == 0) (owner_below f k s == f.parent k) (eq-eqb (owner_below f k s) (f.parent k) at))))
+                            | inr away ↦ (elim (cases_eq (order (owner_below f k s)) (order (f.parent k))) [
+                              | inl alike ↦ absurd (away (ordered.apart (owner_below f k s) (f.parent k) (omega (arith, found.0, fit)) (omega (arith, low, fit)) alike))
+                              | inr less' ↦ omega (arith, e, at_y, ordered.next k (owner_below f k s) (omega (arith, fit)) found.0 (omega (arith, ahead, less')))
                             ])
                           ])
                         ])

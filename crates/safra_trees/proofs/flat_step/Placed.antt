@@ -12,7 +12,7 @@ use Rattle.safra_trees.proofs.list_step.Ranks.{index_map}
 use Rattle.safra_trees.specs.Flat.{IsStored, at, is_over, node_of, nodes_of, placed}
 use Rattle.safra_trees.proofs.list_step.Over.{over_top}
 use Rattle.safra_trees.specs.Trees.{Node, has, holds, node_at, root_states}
-use Rattle.safra_trees.specs.inner.Claims.{place_of}
+use Rattle.safra_trees.specs.inner.Claims.{owner_in}
 
 -- numbers after a smaller one
 pub absent : (p : ℕ) (states : List ℕ) → All (λ x. p < x) states → has states p ≡ false
@@ -21,12 +21,12 @@ absent p (s ∷ states) all =
     let more : p < s = All-head (λ x. p < x) s states all in
     ap (λ b. b || has states p) (ne_eqb s p (λ e. omega (arith, e, more))) ∙ absent p states (All-tail (λ x. p < x) s states all)
 
-pub place_absent : (none : ℕ) (states places : List ℕ) (p : ℕ) → has states p ≡ false → place_of none states places p ≡ none
+pub place_absent : (none : ℕ) (states places : List ℕ) (p : ℕ) → has states p ≡ false → owner_in none states places p ≡ none
 place_absent none [] places p not_there = refl
 place_absent none (s ∷ states) [] p not_there = refl
 place_absent none (s ∷ states) (x ∷ places) p not_there =
     let parts = or_parts (s == p) (has states p) not_there in
-    ap (λ d. place_of d states places p) (cond-false (s == p) x none parts.0) ∙ place_absent none states places p parts.1
+    ap (λ d. owner_in d states places p) (cond-false (s == p) x none parts.0) ∙ place_absent none states places p parts.1
 
 has_if : (b : Bool) (s p : ℕ) (rest : List ℕ) → (s == p) ≡ false → has (cond b (s ∷ rest) rest) p ≡ has rest p
 has_if true s p rest other = ap (λ b. b || has rest p) other
@@ -45,27 +45,27 @@ pub record IsPlaced (none : ℕ) (test : ℕ → Bool) (x : ℕ) : Type 0 where
   pub passes : test x ≡ true
 
 pub placed_found : (none : ℕ) (test : ℕ → Bool) (states places : List ℕ) (p : ℕ) → AllPairs (λ a b. a < b) states → length places ≡ length states → All (λ x. x < none) places → has
-    (placed test states places) p ≡ true → IsPlaced none test (place_of none states places p)
+    (placed test states places) p ≡ true → IsPlaced none test (owner_in none states places p)
 placed_found none test [] places p rising each below found = absurd (true≢false (sym found))
 placed_found none test (s ∷ states) [] p rising each below found = absurd (true≢false (sym found))
 placed_found none test (s ∷ states) (x ∷ places) p rising each below found = elim (cases_Bool (s == p)) [
   | inl here ↦ (
       let same : s ≡ p = eqb-true s p here in
       let not_later : has states p ≡ false = subst (λ q. has states q ≡ false) same (absent s states (pairs_first (λ a b. a < b) s states rising)) in
-      let is : place_of none (s ∷ states) (x ∷ places) p ≡ x = ap (λ d. place_of d states places p) (cond-true (s == p) x none here) ∙ place_absent x states places p not_later in
+      let is : owner_in none (s ∷ states) (x ∷ places) p ≡ x = ap (λ d. owner_in d states places p) (cond-true (s == p) x none here) ∙ place_absent x states places p not_later in
       elim (cases_Bool (test x)) [
         | inl passes ↦ subst (IsPlaced none test) (sym is) (record { below = All-head (λ y. y < none) x places below; passes = passes })
         | inr fails ↦ absurd (both_ways (has (placed test (s ∷ states) (x ∷ places)) p)
             (ap (λ b. has (cond b (s ∷ placed test states places) (placed test states places)) p) fails ∙ placed_absent test states places p not_later) found)
       ])
   | inr other ↦ (
-      let is : place_of none (s ∷ states) (x ∷ places) p ≡ place_of none states places p = ap (λ d. place_of d states places p) (cond-false (s == p) x none other) in
+      let is : owner_in none (s ∷ states) (x ∷ places) p ≡ owner_in none states places p = ap (λ d. owner_in d states places p) (cond-false (s == p) x none other) in
       subst (IsPlaced none test) (sym is)
       (placed_found none test states places p (pairs_rest (λ a b. a < b) s states rising) (omega (arith, each)) (All-tail (λ y. y < none) x places below)
       (sym (has_if (test x) s p (placed test states places) other) ∙ found)))
 ]
 
-pub placed_there : (none : ℕ) (test : ℕ → Bool) (states places : List ℕ) (p : ℕ) → AllPairs (λ a b. a < b) states → IsPlaced none test (place_of none states places p) → has
+pub placed_there : (none : ℕ) (test : ℕ → Bool) (states places : List ℕ) (p : ℕ) → AllPairs (λ a b. a < b) states → IsPlaced none test (owner_in none states places p) → has
     (placed test states places) p ≡ true
 placed_there none test [] places p rising is = absurd (omega (arith, is.below))
 placed_there none test (s ∷ states) [] p rising is = absurd (omega (arith, is.below))
@@ -73,10 +73,10 @@ placed_there none test (s ∷ states) (x ∷ places) p rising is = elim (cases_B
   | inl here ↦ (
       let same : s ≡ p = eqb-true s p here in
       let not_later : has states p ≡ false = subst (λ q. has states q ≡ false) same (absent s states (pairs_first (λ a b. a < b) s states rising)) in
-      let one : place_of none (s ∷ states) (x ∷ places) p ≡ x = ap (λ d. place_of d states places p) (cond-true (s == p) x none here) ∙ place_absent x states places p not_later in
+      let one : owner_in none (s ∷ states) (x ∷ places) p ≡ x = ap (λ d. owner_in d states places p) (cond-true (s == p) x none here) ∙ place_absent x states places p not_later in
       ap (λ b. has (cond b (s ∷ placed test states places) (placed test states places)) p) (subst (λ y. test y ≡ true) one is.passes) ∙ or_left (s == p) (has (placed test states places) p) here)
   | inr other ↦ (
-      let one : place_of none (s ∷ states) (x ∷ places) p ≡ place_of none states places p = ap (λ d. place_of d states places p) (cond-false (s == p) x none other) in
+      let one : owner_in none (s ∷ states) (x ∷ places) p ≡ owner_in none states places p = ap (λ d. owner_in d states places p) (cond-false (s == p) x none other) in
       has_if (test x) s p (placed test states places) other ∙ placed_there none test states places p (pairs_rest (λ a b. a < b) s states rising) (subst (IsPlaced none test) one is))
 ]
 
@@ -101,7 +101,7 @@ past_end (x ∷ xs) (suc i) d past = past_end xs i d (omega (arith, past))
 
 -- a node holds a state where it is the state's place or above it
 pub stored_found : (parents states places : List ℕ) → IsStored parents states places → (x p : ℕ) → holds (nodes_of parents states places) x p ≡ true → IsPlaced (length parents)
-    (is_over (at parents) x) (place_of (length parents) states places p)
+    (is_over (at parents) x) (owner_in (length parents) states places p)
 stored_found parents states places is x p held = elim (cases_lt x (length parents)) [
   | inl less ↦ placed_found (length parents) (is_over (at parents) x) states places p is.rising is.each is.below
       (sym (ap (λ (d : Node). has d.states p) (stored_node parents states places x less)) ∙ held)
@@ -110,7 +110,7 @@ stored_found parents states places is x p held = elim (cases_lt x (length parent
 ]
 
 pub stored_there : (parents states places : List ℕ) → IsStored parents states places → (x p : ℕ) → x < length parents → IsPlaced (length parents) (is_over (at parents) x)
-    (place_of (length parents) states places p) → holds (nodes_of parents states places) x p ≡ true
+    (owner_in (length parents) states places p) → holds (nodes_of parents states places) x p ≡ true
 stored_there parents states places is x p less found =
     ap (λ (d : Node). has d.states p) (stored_node parents states places x less) ∙ placed_there (length parents) (is_over (at parents) x) states places p is.rising found
 

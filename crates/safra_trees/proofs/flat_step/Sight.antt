@@ -16,9 +16,9 @@ use Rattle.aut_base.proofs.order.AllPairsOf.{pairs_map}
 use Rattle.safra_trees.proofs.flat_step.Placed.{nodes_length, past_end, placed_absent, stored_node, stored_root}
 use Rattle.safra_trees.proofs.list_step.Moved.{AllBelow, IsRising, event_moved, step_moved}
 use Rattle.safra_trees.proofs.list_step.Ranks.{names_below}
-use Rattle.safra_trees.specs.Events.{AreStates, IsWithin, event_of}
+use Rattle.safra_trees.specs.Events.{AreStates, IsMoveInRange, event_of}
 use Rattle.safra_trees.specs.Flat.{IsStored, at, is_over, node_of, nodes_of, placed}
-use Rattle.safra_trees.specs.Step.{Forest, grown, keeps, names, pruned, renamed, stays}
+use Rattle.safra_trees.specs.Step.{Forest, grown, retains, names_where, pruned, renamed, survives}
 use Rattle.safra_trees.specs.Trees.{Node, has, root_states}
 use Rattle.safra_trees.specs.declared.moves.Move.{Move}
 use Rattle.safra_trees.specs.inner.Sight.{IsSeen, IsSight, ends, move_by, node_by}
@@ -59,10 +59,10 @@ few_places (x ∷ xs) n rises all =
     omega (arith, low_place (x ∷ xs) (AllPairs-from_increasing (x ∷ xs) rises) (length xs) last, all (length xs) 0 last)
 
 -- one move more between places
-pub moves_more : (sight : List ℕ) (moves found new : List Move) (i : ℕ) (d m : Move) → All (IsWithin (length sight)) found → map (move_by (at sight)) found ≡ take i moves → i < length moves
-    → IsWithin (length sight) m → move_by (at sight) m ≡ get_or moves i d → new ≡ found ++ m ∷ [] → All (IsWithin (length sight)) new × (map (move_by (at sight)) new ≡ take (i + 1) moves)
+pub moves_more : (sight : List ℕ) (moves found new : List Move) (i : ℕ) (d m : Move) → All (IsMoveInRange (length sight)) found → map (move_by (at sight)) found ≡ take i moves → i < length moves
+    → IsMoveInRange (length sight) m → move_by (at sight) m ≡ get_or moves i d → new ≡ found ++ m ∷ [] → All (IsMoveInRange (length sight)) new × (map (move_by (at sight)) new ≡ take (i + 1) moves)
 moves_more sight moves found new i d m all so_far less within is pushed = (
-  subst (λ xs. All (IsWithin (length sight)) xs) (sym pushed) (All-push (IsWithin (length sight)) found m all within),
+  subst (λ xs. All (IsMoveInRange (length sight)) xs) (sym pushed) (All-push (IsMoveInRange (length sight)) found m all within),
   ap (map (move_by (at sight))) pushed
       ∙ (map-append (move_by (at sight)) found (m ∷ [])
       ∙ (ap (λ xs. xs ++ move_by (at sight) m ∷ []) so_far
@@ -77,22 +77,22 @@ is_sight states states' ms ms' sight sight' is one two three =
 
 -- the states of the tree and the ends of the moves are in sight
 pub states_seen : (states sight : List ℕ) (ms : List Move) → ((q : ℕ) → Contains (states ++ flat_map ends ms) q → Contains sight q) → All (λ s. Contains sight s) states
-states_seen states sight ms keeps = each_there (λ s. Contains sight s) states (λ s there. keeps s (Contains-append_left states (flat_map ends ms) s there))
+states_seen states sight ms retains = each_there (λ s. Contains sight s) states (λ s there. retains s (Contains-append_left states (flat_map ends ms) s there))
 
 pub moves_seen : (states sight : List ℕ) (ms : List Move) → ((q : ℕ) → Contains (states ++ flat_map ends ms) q → Contains sight q) → All (λ e. IsSeen sight e) ms
-moves_seen states sight ms keeps = each_there (λ e. IsSeen sight e) ms (λ e there. record {
-  from = keeps e.from (Contains-append_right states (flat_map ends ms) e.from (there_flat_map ends ms e e.from there (first_there e.from (e.to ∷ []))));
-  to = keeps e.to (Contains-append_right states (flat_map ends ms) e.to (there_flat_map ends ms e e.to there (later_there e.from (e.to ∷ []) e.to (first_there e.to []))));
+moves_seen states sight ms retains = each_there (λ e. IsSeen sight e) ms (λ e there. record {
+  from = retains e.from (Contains-append_right states (flat_map ends ms) e.from (there_flat_map ends ms e e.from there (first_there e.from (e.to ∷ []))));
+  to = retains e.to (Contains-append_right states (flat_map ends ms) e.to (there_flat_map ends ms e e.to there (later_there e.from (e.to ∷ []) e.to (first_there e.to []))));
 })
 
 -- and nothing else is
-pub sight_below : (n : ℕ) (states sight : List ℕ) (ms : List Move) → ((q : ℕ) → Contains sight q → Contains (states ++ flat_map ends ms) q) → All (λ s. s < n) states → All (IsWithin n) ms
+pub sight_below : (n : ℕ) (states sight : List ℕ) (ms : List Move) → ((q : ℕ) → Contains sight q → Contains (states ++ flat_map ends ms) q) → All (λ s. s < n) states → All (IsMoveInRange n) ms
     → All (λ s. s < n) sight
 sight_below n states sight ms adds_none below within = each_there (λ s. s < n) sight (λ q there. elim (Contains-append_cases states (flat_map ends ms) q (adds_none q there)) [
   | inl state ↦ All-contains (λ s. s < n) states q below state
   | inr end ↦ (
       let from = from_flat_map ends ms q end in
-      let both = All-contains (IsWithin n) ms from.0 within from.1 in
+      let both = All-contains (IsMoveInRange n) ms from.0 within from.1 in
       one_of_two (λ s. s < n) from.0.from from.0.to q from.2 both.from both.to)
 ])
 
@@ -189,17 +189,17 @@ nodes_below k parents states places all x = elim (cases_lt x (length parents)) [
 
 -- the root of what is left holds states of the forest
 pub pruned_below : (f : Forest) → All (λ s. s < f.bound) (root_states (pruned f))
-pruned_below f = below (names (stays f) f.size)
+pruned_below f = below (names_where (survives f) f.size)
   where
     below : (ys : List ℕ) → All (λ s. s < f.bound) (root_states (map (renamed f) ys))
     below [] = λ i d within. absurd (omega (arith, within))
-    below (y ∷ ys) = names_below (keeps f y) f.bound
+    below (y ∷ ys) = names_below (retains f y) f.bound
 
 -- What is stepped in place of the moves and the tree: the same by the places of their states.
 pub record IsSmall (sight : List ℕ) (ms : List Move) (t : List Node) (few : List Move) (small : List Node) : Type 0 where
   pub rises : IsStrictlyIncreasing sight
   pub all : (n : ℕ) → AreStates n ms t → All (λ s. s < n) sight
-  pub within : All (IsWithin (length sight)) few
+  pub within : All (IsMoveInRange (length sight)) few
   pub below : AllBelow (length sight) small
   pub moves : map (move_by (at sight)) few ≡ ms
   pub tree : map (node_by (at sight)) small ≡ t
@@ -226,7 +226,7 @@ small_event sight ms t few small is n are =
 
 -- the places of what a tree and moves name are such
 pub small_of : (parents states places listed found sight : List ℕ) (ms before again few : List Move) (p s o : List ℕ) → IsStored parents states places → IsStored p s o → IsSight listed before found
-    → listed ≡ states → before ≡ ms → sight ≡ found → All (IsWithin (length sight)) few → map (move_by (at sight)) few ≡ again → again ≡ ms
+    → listed ≡ states → before ≡ ms → sight ≡ found → All (IsMoveInRange (length sight)) few → map (move_by (at sight)) few ≡ again → again ≡ ms
     → All (λ x. x < length sight) (root_states (nodes_of p s o)) → map (node_by (at sight)) (nodes_of p s o) ≡ nodes_of parents states places
     → IsSmall sight ms (nodes_of parents states places) few (nodes_of p s o)
 small_of parents states places listed found sight ms before again few p s o stored is in_sight one two three within moves same below tree =

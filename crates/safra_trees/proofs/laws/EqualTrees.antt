@@ -17,7 +17,7 @@ use Rattle.safra_trees.specs.Same.{deepest, hashed, last_of, same_nodes, same_te
 use Rattle.safra_trees.specs.Trees.{has, holds, root_states}
 use Rattle.safra_trees.specs.View.{tree_of}
 use Rattle.safra_trees.specs.declared.tree.SafraTree.{SafraTree}
-use Rattle.safra_trees.specs.inner.Claims.{place_of}
+use Rattle.safra_trees.specs.inner.Claims.{owner_in}
 
 -- ---- what is compared
 
@@ -65,21 +65,21 @@ last_is p y (suc n) less here above = elim (cases_Bool (p n)) [
   ]
 ]
 
-mapped_place : (none : ℕ) (f : ℕ → ℕ) (states : List ℕ) (p : ℕ) → AllPairs (λ a b. a < b) states → has states p ≡ true → place_of none states (map f states) p ≡ f p
+mapped_place : (none : ℕ) (f : ℕ → ℕ) (states : List ℕ) (p : ℕ) → AllPairs (λ a b. a < b) states → has states p ≡ true → owner_in none states (map f states) p ≡ f p
 mapped_place none f [] p rising there = absurd (true≢false (sym there))
 mapped_place none f (s ∷ states) p rising there = elim (or_cases (s == p) (has states p) there) [
-  | inl here ↦ subst (λ q. place_of none (s ∷ states) (f s ∷ map f states) q ≡ f q) (eqb-true s p here) (head_place none s (f s) states (map f states) rising)
+  | inl here ↦ subst (λ q. owner_in none (s ∷ states) (f s ∷ map f states) q ≡ f q) (eqb-true s p here) (head_place none s (f s) states (map f states) rising)
   | inr later ↦ tail_place none s (f s) p states (map f states) rising later ∙ mapped_place none f states p (pairs_rest (λ a b. a < b) s states rising) later
 ]
 
 -- the place of a state is the last node that holds it
 last_place : (parents states places : List ℕ) → IsStored parents states places → (p : ℕ) → has states p ≡ true
-    → last_of (λ x. holds (nodes_of parents states places) x p) (length (nodes_of parents states places)) ≡ place_of (length parents) states places p
+    → last_of (λ x. holds (nodes_of parents states places) x p) (length (nodes_of parents states places)) ≡ owner_in (length parents) states places p
 last_place parents states places is p there =
     let t = nodes_of parents states places in
     let m = length parents in
     let many : length t ≡ m = nodes_length parents states places in
-    let y = place_of m states places p in
+    let y = owner_in m states places p in
     let root : has (root_states t) p ≡ true = ap (λ xs. has xs p) (stored_root parents states places is) ∙ there in
     let y_in : y < m = (stored_found parents states places is 0 p root).below in
     last_is (λ x. holds t x p) y (length t) (omega (arith, y_in, many)) (stored_there parents states places is y p y_in (record { below = y_in; passes = over_self (at parents) y }))

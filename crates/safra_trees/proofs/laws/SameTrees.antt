@@ -12,7 +12,7 @@ use Rattle.safra_trees.specs.Flat.{IsStored, at, node_of, nodes_of}
 use Rattle.safra_trees.specs.Trees.{Node, has, holds, root_states}
 use Rattle.safra_trees.specs.View.{tree_of}
 use Rattle.safra_trees.specs.declared.tree.SafraTree.{SafraTree}
-use Rattle.safra_trees.specs.inner.Claims.{place_of}
+use Rattle.safra_trees.specs.inner.Claims.{owner_in}
 
 mapped : (f : Node → ℕ) (g : ℕ → Node) (xs : List ℕ) → map f (map g xs) ≡ map (λ x. f (g x)) xs
 mapped f g [] = refl
@@ -25,11 +25,11 @@ parents_read parents states places =
 
 -- what a node holds in one of two trees with the same nodes, its place in the other is not above
 place_low : (parents states places others : List ℕ) → IsStored parents states places → IsStored parents states others → nodes_of parents states places ≡ nodes_of parents states others
-    → (p : ℕ) → has states p ≡ true → place_of (length parents) states places p ≡ place_of (length parents) states others p
+    → (p : ℕ) → has states p ≡ true → owner_in (length parents) states places p ≡ owner_in (length parents) states others p
 place_low parents states places others is also same p there =
     let m = length parents in
-    let x = place_of m states places p in
-    let y = place_of m states others p in
+    let x = owner_in m states places p in
+    let y = owner_in m states others p in
     let root : has (root_states (nodes_of parents states places)) p ≡ true = ap (λ xs. has xs p) (stored_root parents states places is) ∙ there in
     let root_too : has (root_states (nodes_of parents states others)) p ≡ true = ap (λ xs. has xs p) (stored_root parents states others also) ∙ there in
     let x_in = (stored_found parents states places is 0 p root).below in
@@ -43,7 +43,7 @@ place_low parents states places others is also same p there =
     omega (arith, over_low (at parents) m is.lower x y y_in one.passes, over_low (at parents) m is.lower y x x_in other.passes)
 
 pub places_same : (none : ℕ) (states places others : List ℕ) → AllPairs (λ a b. a < b) states → length places ≡ length states → length others ≡ length states
-    → ((p : ℕ) → has states p ≡ true → place_of none states places p ≡ place_of none states others p) → places ≡ others
+    → ((p : ℕ) → has states p ≡ true → owner_in none states places p ≡ owner_in none states others p) → places ≡ others
 places_same none [] [] [] rising each too same = refl
 places_same none [] [] (y ∷ others) rising each too same = absurd (omega (arith, too))
 places_same none [] (x ∷ places) others rising each too same = absurd (omega (arith, each))

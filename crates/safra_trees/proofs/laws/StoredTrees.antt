@@ -8,22 +8,22 @@ use Rattle.safra_trees.proofs.list_step.Over.{over_cases, over_chain, over_low, 
 use Rattle.safra_trees.specs.Flat.{IsStored, at, is_over, nodes_of}
 use Rattle.safra_trees.specs.Step.{IsTree, Own}
 use Rattle.safra_trees.specs.Trees.{has, holds}
-use Rattle.safra_trees.specs.inner.Claims.{place_of}
+use Rattle.safra_trees.specs.inner.Claims.{owner_in}
 
 -- the head of the states and its place
-pub head_place : (none s x : ℕ) (states places : List ℕ) → AllPairs (λ a b. a < b) (s ∷ states) → place_of none (s ∷ states) (x ∷ places) s ≡ x
+pub head_place : (none s x : ℕ) (states places : List ℕ) → AllPairs (λ a b. a < b) (s ∷ states) → owner_in none (s ∷ states) (x ∷ places) s ≡ x
 head_place none s x states places rising =
-    ap (λ d. place_of d states places s) (cond-true (s == s) x none (eq-eqb s s refl)) ∙ place_absent x states places s (absent s states (pairs_first (λ a b. a < b) s states rising))
+    ap (λ d. owner_in d states places s) (cond-true (s == s) x none (eq-eqb s s refl)) ∙ place_absent x states places s (absent s states (pairs_first (λ a b. a < b) s states rising))
 
-pub tail_place : (none s x p : ℕ) (states places : List ℕ) → AllPairs (λ a b. a < b) (s ∷ states) → has states p ≡ true → place_of none (s ∷ states) (x ∷ places) p ≡ place_of none states places p
+pub tail_place : (none s x p : ℕ) (states places : List ℕ) → AllPairs (λ a b. a < b) (s ∷ states) → has states p ≡ true → owner_in none (s ∷ states) (x ∷ places) p ≡ owner_in none states places p
 tail_place none s x p states places rising there =
     let other : (s == p) ≡ false = ne_eqb s p (λ same. both_ways (has states p) (subst (λ q. has states q ≡ false) same (absent s states (pairs_first (λ a b. a < b) s states rising))) there) in
-    ap (λ d. place_of d states places p) (cond-false (s == p) x none other)
+    ap (λ d. owner_in d states places p) (cond-false (s == p) x none other)
 
 pub record Resides (none : ℕ) (states places : List ℕ) (x : ℕ) : Type 0 where
   pub state : ℕ
   pub there : has states state ≡ true
-  pub is : place_of none states places state ≡ x
+  pub is : owner_in none states places state ≡ x
 
 -- each place is that of some state
 pub resident : (none : ℕ) (states places : List ℕ) (x : ℕ) → AllPairs (λ a b. a < b) states → length places ≡ length states → has places x ≡ true → Resides none states places x
@@ -55,7 +55,7 @@ own_state parents states places is x less =
         | inr misses ↦ misses
         | inl held ↦ (
             let found = stored_found parents states places is c lives.state held in
-            let low = over_low (at parents) m is.lower c (place_of m states places lives.state) found.below found.passes in
+            let low = over_low (at parents) m is.lower c (owner_in m states places lives.state) found.below found.passes in
             let inner : c < m = omega (arith, within, nodes_length parents states places) in
             absurd (omega (arith, low, lives.is, is.lower c more inner, stored_parent parents states places c inner, parent)))
       ];
@@ -77,7 +77,7 @@ stored_tree parents states places is =
           let first = stored_found parents states places is c s one in
           let second = stored_found parents states places is d s other in
           let parent : at parents c ≡ at parents d = sym (stored_parent parents states places c c_in) ∙ (same ∙ stored_parent parents states places d d_in) in
-          let over = over_chain (at parents) m is.lower c d (place_of m states places s) first.below first.passes second.passes (omega (arith, before)) in
+          let over = over_chain (at parents) m is.lower c d (owner_in m states places s) first.below first.passes second.passes (omega (arith, before)) in
           elim (over_cases (at parents) m is.lower c d (omega (arith, before)) d_in over) [
             | inl here ↦ omega (arith, here, before)
             | inr up ↦ (

@@ -3,7 +3,7 @@ use Rattle.std.proofs.Common.{◌≡◌, ◌∙◌, ◌⊎◌, ◌<◌, ◌≤�
 use Rattle.std.proofs.lemmas.Bool.{and_from, and_parts, cases_Bool, cases_eq, eq-eqb, eqb-true, lt-ltb, ltb-true, not-true, not_from_false, or_from, or_parts}
 use Rattle.std.specs.List.{list_any, range_with_len}
 use Rattle.aut_base.proofs.lists.Members.{any_found, any_from, first_there, from_range, later_there, there_range_zero}
-use Rattle.safra_trees.specs.Step.{Forest, above, ancestors, covered, is_child, keeps, stays, taken}
+use Rattle.safra_trees.specs.Step.{Forest, above, ancestors, covered, is_child, retains, survives, held_by_older}
 
 pub record IsForest (f : Forest) : Type 0 where
   pub lower : (y : ℕ) → 0 < y → y < f.size → f.parent y < y
@@ -30,52 +30,54 @@ pub none_any : {X : Type 0} (p : X → Bool) (xs : List X) → ((x : X) → Cont
 none_any p [] each = refl
 none_any p (x ∷ xs) each = or_from (p x) (list_any p xs) (each x (first_there x xs)) (none_any p xs (λ y there. each y (later_there x xs y there)))
 
-pub keeps_holds : (f : Forest) (y s : ℕ) → keeps f y s ≡ true → f.holds y s ≡ true
-keeps_holds f y s h = (and_parts (f.holds y s) (not (list_any (taken f s) (y ∷ ancestors f y))) h).0
+pub keeps_holds : (f : Forest) (y s : ℕ) → retains f y s ≡ true → f.holds y s ≡ true
+keeps_holds f y s h = (and_parts (f.holds y s) (not (list_any (held_by_older f s) (y ∷ ancestors f y))) h).0
 
-pub keeps_free : (f : Forest) (y s : ℕ) → keeps f y s ≡ true → (taken f s y ≡ false) × (list_any (taken f s) (ancestors f y) ≡ false)
-keeps_free f y s h = or_parts (taken f s y) (list_any (taken f s) (ancestors f y))
-    (not-true (list_any (taken f s) (y ∷ ancestors f y)) (and_parts (f.holds y s) (not (list_any (taken f s) (y ∷ ancestors f y))) h).1)
+pub keeps_free : (f : Forest) (y s : ℕ) → retains f y s ≡ true → (held_by_older f s y ≡ false) × (list_any (held_by_older f s) (ancestors f y) ≡ false)
+keeps_free f y s h = or_parts (held_by_older f s y) (list_any (held_by_older f s) (ancestors f y))
+    (not-true (list_any (held_by_older f s) (y ∷ ancestors f y)) (and_parts (f.holds y s) (not (list_any (held_by_older f s) (y ∷ ancestors f y))) h).1)
 
-keeps_from : (f : Forest) (y s : ℕ) → f.holds y s ≡ true → taken f s y ≡ false → list_any (taken f s) (ancestors f y) ≡ false → keeps f y s ≡ true
-keeps_from f y s h k free = and_from (f.holds y s) (not (list_any (taken f s) (y ∷ ancestors f y))) h
-    (not_from_false (list_any (taken f s) (y ∷ ancestors f y)) (or_from (taken f s y) (list_any (taken f s) (ancestors f y)) k free))
+keeps_from : (f : Forest) (y s : ℕ) → f.holds y s ≡ true → held_by_older f s y ≡ false → list_any (held_by_older f s) (ancestors f y) ≡ false → retains f y s ≡ true
+keeps_from f y s h k free = and_from (f.holds y s) (not (list_any (held_by_older f s) (y ∷ ancestors f y))) h
+    (not_from_false (list_any (held_by_older f s) (y ∷ ancestors f y)) (or_from (held_by_older f s y) (list_any (held_by_older f s) (ancestors f y)) k free))
 
 -- what a node keeps, its parent keeps
-pub keeps_up : (f : Forest) → IsForest f → (y s : ℕ) → 0 < y → y < f.size → keeps f y s ≡ true → keeps f (f.parent y) s ≡ true
+pub keeps_up : (f : Forest) → IsForest f → (y s : ℕ) → 0 < y → y < f.size → retains f y s ≡ true → retains f (f.parent y) s ≡ true
 keeps_up f is y s more less h =
-    let free : list_any (taken f s) (f.parent y ∷ ancestors f (f.parent y)) ≡ false = subst (λ ys. list_any (taken f s) ys ≡ false) (ancestors_of f is y more less) (keeps_free f y s h).1 in
-    let parts = or_parts (taken f s (f.parent y)) (list_any (taken f s) (ancestors f (f.parent y))) free in
+    let free : list_any (held_by_older f s) (f.parent y ∷ ancestors f (f.parent y)) ≡ false = subst (λ ys. list_any (held_by_older f s) ys ≡ false) (ancestors_of f is y more less)
+    (keeps_free f y s h).1 in
+    let parts = or_parts (held_by_older f s (f.parent y)) (list_any (held_by_older f s) (ancestors f (f.parent y))) free in
     keeps_from f (f.parent y) s (is.inside y s more less (keeps_holds f y s h)) parts.0 parts.1
 
 -- and a child keeps of it what no older one holds
-pub keeps_child : (f : Forest) → IsForest f → (y s : ℕ) → 0 < y → y < f.size → f.holds y s ≡ true → taken f s y ≡ false → keeps f (f.parent y) s ≡ true → keeps f y s ≡ true
+pub keeps_child : (f : Forest) → IsForest f → (y s : ℕ) → 0 < y → y < f.size → f.holds y s ≡ true → held_by_older f s y ≡ false → retains f (f.parent y) s ≡ true → retains f y s ≡ true
 keeps_child f is y s more less h first up =
     let parts = keeps_free f (f.parent y) s up in
-    keeps_from f y s h first (subst (λ ys. list_any (taken f s) ys ≡ false) (sym (ancestors_of f is y more less))
-    (or_from (taken f s (f.parent y)) (list_any (taken f s) (ancestors f (f.parent y))) parts.0 parts.1))
+    keeps_from f y s h first (subst (λ ys. list_any (held_by_older f s) ys ≡ false) (sym (ancestors_of f is y more less))
+    (or_from (held_by_older f s (f.parent y)) (list_any (held_by_older f s) (ancestors f (f.parent y))) parts.0 parts.1))
 
-pub stays_some : (f : Forest) (y : ℕ) → stays f y ≡ true → list_any (keeps f y) (range_with_len 0 f.bound) ≡ true
-stays_some f y h = (and_parts (list_any (keeps f y) (range_with_len 0 f.bound)) (not (list_any (covered f) (ancestors f y))) h).0
+pub stays_some : (f : Forest) (y : ℕ) → survives f y ≡ true → list_any (retains f y) (range_with_len 0 f.bound) ≡ true
+stays_some f y h = (and_parts (list_any (retains f y) (range_with_len 0 f.bound)) (not (list_any (covered f) (ancestors f y))) h).0
 
-pub stays_free : (f : Forest) (y : ℕ) → stays f y ≡ true → list_any (covered f) (ancestors f y) ≡ false
-stays_free f y h = not-true (list_any (covered f) (ancestors f y)) (and_parts (list_any (keeps f y) (range_with_len 0 f.bound)) (not (list_any (covered f) (ancestors f y))) h).1
+pub stays_free : (f : Forest) (y : ℕ) → survives f y ≡ true → list_any (covered f) (ancestors f y) ≡ false
+stays_free f y h = not-true (list_any (covered f) (ancestors f y)) (and_parts (list_any (retains f y) (range_with_len 0 f.bound)) (not (list_any (covered f) (ancestors f y))) h).1
 
-pub stays_from : (f : Forest) (y s : ℕ) → keeps f y s ≡ true → s < f.bound → list_any (covered f) (ancestors f y) ≡ false → stays f y ≡ true
-stays_from f y s h less free = and_from (list_any (keeps f y) (range_with_len 0 f.bound)) (not (list_any (covered f) (ancestors f y)))
-    (any_from (keeps f y) (range_with_len 0 f.bound) s (there_range_zero f.bound s less) h)
+pub stays_from : (f : Forest) (y s : ℕ) → retains f y s ≡ true → s < f.bound → list_any (covered f) (ancestors f y) ≡ false → survives f y ≡ true
+stays_from f y s h less free = and_from (list_any (retains f y) (range_with_len 0 f.bound)) (not (list_any (covered f) (ancestors f y)))
+    (any_from (retains f y) (range_with_len 0 f.bound) s (there_range_zero f.bound s less) h)
     (not_from_false (list_any (covered f) (ancestors f y)) free)
 
 -- the parent of a node that stays, stays
-pub stays_up : (f : Forest) → IsForest f → (y : ℕ) → 0 < y → y < f.size → stays f y ≡ true → stays f (f.parent y) ≡ true
+pub stays_up : (f : Forest) → IsForest f → (y : ℕ) → 0 < y → y < f.size → survives f y ≡ true → survives f (f.parent y) ≡ true
 stays_up f is y more less h =
-    let some = any_found (keeps f y) (range_with_len 0 f.bound) (stays_some f y h) in
+    let some = any_found (retains f y) (range_with_len 0 f.bound) (stays_some f y h) in
     let within = from_range 0 f.bound some.0 some.1 in
     let free : list_any (covered f) (f.parent y ∷ ancestors f (f.parent y)) ≡ false = subst (λ ys. list_any (covered f) ys ≡ false) (ancestors_of f is y more less) (stays_free f y h) in
     stays_from f (f.parent y) some.0 (keeps_up f is y some.0 more less some.2) (omega (arith, within.1)) (or_parts (covered f (f.parent y)) (list_any (covered f) (ancestors f (f.parent y))) free).1
 
 -- what keeps a state under a node that stays and isn't covered, stays
-pub stays_child : (f : Forest) → IsForest f → (y s : ℕ) → 0 < y → y < f.size → keeps f y s ≡ true → s < f.bound → stays f (f.parent y) ≡ true → covered f (f.parent y) ≡ false → stays f y ≡ true
+pub stays_child : (f : Forest) → IsForest f → (y s : ℕ) → 0 < y → y < f.size → retains f y s ≡ true → s < f.bound → survives f (f.parent y) ≡ true → covered f (f.parent y) ≡ false
+    → survives f y ≡ true
 stays_child f is y s more less h small up bare =
     stays_from f y s h small (subst (λ ys. list_any (covered f) ys ≡ false) (sym (ancestors_of f is y more less))
     (or_from (covered f (f.parent y)) (list_any (covered f) (ancestors f (f.parent y))) bare (stays_free f (f.parent y) up)))
@@ -106,10 +108,10 @@ pub record Next (f : Forest) (x q y : ℕ) : Type 0 where
   pub low : name ≤ y
   pub more : 0 < name
   pub parent : f.parent name ≡ x
-  pub keeps_it : keeps f name q ≡ true
-  pub stays_on : stays f name ≡ true
+  pub keeps_it : retains f name q ≡ true
+  pub stays_on : survives f name ≡ true
 
-pub next_child : (f : Forest) → IsForest f → (x q y : ℕ) → 0 < y → y < f.size → f.parent y ≡ x → f.holds y q ≡ true → keeps f x q ≡ true → q < f.bound → stays f x ≡ true
+pub next_child : (f : Forest) → IsForest f → (x q y : ℕ) → 0 < y → y < f.size → f.parent y ≡ x → f.holds y q ≡ true → retains f x q ≡ true → q < f.bound → survives f x ≡ true
     → covered f x ≡ false → Next f x q y
 next_child f is x q y more less child holds kept small on bare =
     let p : ℕ → Bool = λ z. is_child f x z && f.holds z q in
@@ -120,14 +122,14 @@ next_child f is x q y more less child holds kept small on bare =
     let over : 0 < z = ltb-true 0 z ones.0 in
     let up : f.parent z ≡ x = eqb-true (f.parent z) x ones.1 in
     let within : z < f.size = omega (arith, first.low, less) in
-    let free : taken f q z ≡ false = none_any (λ w. is_child f (f.parent z) w && f.holds w q) (range_with_len 0 z)
+    let free : held_by_older f q z ≡ false = none_any (λ w. is_child f (f.parent z) w && f.holds w q) (range_with_len 0 z)
     (λ w there. subst (λ v. (is_child f v w && f.holds w q) ≡ false) (sym up) (first.none w (omega (arith, (from_range 0 z w there).1)))) in
-    let held : keeps f z q ≡ true = keeps_child f is z q over within parts.1 free (subst (λ v. keeps f v q ≡ true) (sym up) kept) in
+    let held : retains f z q ≡ true = keeps_child f is z q over within parts.1 free (subst (λ v. retains f v q ≡ true) (sym up) kept) in
     record {
       name = z;
       low = first.low;
       more = over;
       parent = up;
       keeps_it = held;
-      stays_on = stays_child f is z q over within held small (subst (λ v. stays f v ≡ true) (sym up) on) (subst (λ v. covered f v ≡ false) (sym up) bare);
+      stays_on = stays_child f is z q over within held small (subst (λ v. survives f v ≡ true) (sym up) on) (subst (λ v. covered f v ≡ false) (sym up) bare);
     }

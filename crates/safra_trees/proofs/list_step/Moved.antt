@@ -13,8 +13,8 @@ use Rattle.aut_base.proofs.order.RisingLists.{same_rising}
 use Rattle.safra_trees.proofs.list_step.Forests.{none_any}
 use Rattle.safra_trees.proofs.list_step.Places.{any_same}
 use Rattle.safra_trees.proofs.list_step.Ranks.{names_below, rising_names}
-use Rattle.safra_trees.specs.Events.{IsWithin, event_of, least}
-use Rattle.safra_trees.specs.Step.{Forest, above, ancestors, covered, goes, goes_well, greens, grown, is_child, keeps, names, pruned, rank, reds, renamed, stays, taken}
+use Rattle.safra_trees.specs.Events.{IsMoveInRange, event_of, least}
+use Rattle.safra_trees.specs.Step.{Forest, above, ancestors, covered, goes, goes_accepting, greens, grown, is_child, retains, names_where, pruned, rank, reds, renamed, survives, held_by_older}
 use Rattle.safra_trees.specs.Trees.{Node, has, holds, node_at}
 use Rattle.safra_trees.specs.declared.moves.Move.{Move}
 use Rattle.safra_trees.specs.inner.Sight.{move_by, node_by}
@@ -83,41 +83,41 @@ behind : (a b : Bool) → b ≡ false → (a && b) ≡ false
 behind true b e = e
 behind false b e = refl
 
-goes_moved : (f : ℕ → ℕ) (k n : ℕ) → IsRising f k n → (t : List Node) → AllBelow k t → (ms : List Move) → All (IsWithin k) ms → (x s : ℕ) → s < k
+goes_moved : (f : ℕ → ℕ) (k n : ℕ) → IsRising f k n → (t : List Node) → AllBelow k t → (ms : List Move) → All (IsMoveInRange k) ms → (x s : ℕ) → s < k
     → goes (map (move_by f) ms) (map (node_by f) t) x (f s) ≡ goes ms t x s
 goes_moved f k n is t all [] within x s less = refl
 goes_moved f k n is t all (m ∷ ms) within x s less =
-    let here = All-head (IsWithin k) m ms within in
+    let here = All-head (IsMoveInRange k) m ms within in
     let held = holds_moved f k n is t all x m.from here.from in
     let told = same_test f k n is m.to s here.to less in
     ap (λ b. (b && (f m.to == f s)) || goes (map (move_by f) ms) (map (node_by f) t) x (f s)) held
     ∙ (ap (λ b. (holds t x m.from && b) || goes (map (move_by f) ms) (map (node_by f) t) x (f s)) told
-    ∙ ap (λ b. (holds t x m.from && (m.to == s)) || b) (goes_moved f k n is t all ms (All-tail (IsWithin k) m ms within) x s less))
+    ∙ ap (λ b. (holds t x m.from && (m.to == s)) || b) (goes_moved f k n is t all ms (All-tail (IsMoveInRange k) m ms within) x s less))
 
-goes_well_moved : (f : ℕ → ℕ) (k n : ℕ) → IsRising f k n → (t : List Node) → AllBelow k t → (ms : List Move) → All (IsWithin k) ms → (x s : ℕ) → s < k
-    → goes_well (map (move_by f) ms) (map (node_by f) t) x (f s) ≡ goes_well ms t x s
+goes_well_moved : (f : ℕ → ℕ) (k n : ℕ) → IsRising f k n → (t : List Node) → AllBelow k t → (ms : List Move) → All (IsMoveInRange k) ms → (x s : ℕ) → s < k
+    → goes_accepting (map (move_by f) ms) (map (node_by f) t) x (f s) ≡ goes_accepting ms t x s
 goes_well_moved f k n is t all [] within x s less = refl
 goes_well_moved f k n is t all (m ∷ ms) within x s less =
-    let here = All-head (IsWithin k) m ms within in
+    let here = All-head (IsMoveInRange k) m ms within in
     let held = holds_moved f k n is t all x m.from here.from in
     let told = same_test f k n is m.to s here.to less in
-    ap (λ b. (m.accepting && (b && (f m.to == f s))) || goes_well (map (move_by f) ms) (map (node_by f) t) x (f s)) held
-    ∙ (ap (λ b. (m.accepting && (holds t x m.from && b)) || goes_well (map (move_by f) ms) (map (node_by f) t) x (f s)) told
-    ∙ ap (λ b. (m.accepting && (holds t x m.from && (m.to == s))) || b) (goes_well_moved f k n is t all ms (All-tail (IsWithin k) m ms within) x s less))
+    ap (λ b. (m.accepting && (b && (f m.to == f s))) || goes_accepting (map (move_by f) ms) (map (node_by f) t) x (f s)) held
+    ∙ (ap (λ b. (m.accepting && (holds t x m.from && b)) || goes_accepting (map (move_by f) ms) (map (node_by f) t) x (f s)) told
+    ∙ ap (λ b. (m.accepting && (holds t x m.from && (m.to == s))) || b) (goes_well_moved f k n is t all ms (All-tail (IsMoveInRange k) m ms within) x s less))
 
-goes_missed : (f : ℕ → ℕ) (k s : ℕ) → IsMissed f k s → (t : List Node) (ms : List Move) → All (IsWithin k) ms → (x : ℕ) → goes (map (move_by f) ms) t x s ≡ false
+goes_missed : (f : ℕ → ℕ) (k s : ℕ) → IsMissed f k s → (t : List Node) (ms : List Move) → All (IsMoveInRange k) ms → (x : ℕ) → goes (map (move_by f) ms) t x s ≡ false
 goes_missed f k s none t [] within x = refl
 goes_missed f k s none t (m ∷ ms) within x =
-    let other = ne_eqb (f m.to) s (none m.to (All-head (IsWithin k) m ms within).to) in
+    let other = ne_eqb (f m.to) s (none m.to (All-head (IsMoveInRange k) m ms within).to) in
     ap (λ b. b || goes (map (move_by f) ms) t x s) (behind (holds t x (f m.from)) (f m.to == s) other)
-    ∙ goes_missed f k s none t ms (All-tail (IsWithin k) m ms within) x
+    ∙ goes_missed f k s none t ms (All-tail (IsMoveInRange k) m ms within) x
 
-goes_well_missed : (f : ℕ → ℕ) (k s : ℕ) → IsMissed f k s → (t : List Node) (ms : List Move) → All (IsWithin k) ms → (x : ℕ) → goes_well (map (move_by f) ms) t x s ≡ false
+goes_well_missed : (f : ℕ → ℕ) (k s : ℕ) → IsMissed f k s → (t : List Node) (ms : List Move) → All (IsMoveInRange k) ms → (x : ℕ) → goes_accepting (map (move_by f) ms) t x s ≡ false
 goes_well_missed f k s none t [] within x = refl
 goes_well_missed f k s none t (m ∷ ms) within x =
-    let other = ne_eqb (f m.to) s (none m.to (All-head (IsWithin k) m ms within).to) in
-    ap (λ b. b || goes_well (map (move_by f) ms) t x s) (behind m.accepting (holds t x (f m.from) && (f m.to == s)) (behind (holds t x (f m.from)) (f m.to == s) other))
-    ∙ goes_well_missed f k s none t ms (All-tail (IsWithin k) m ms within) x
+    let other = ne_eqb (f m.to) s (none m.to (All-head (IsMoveInRange k) m ms within).to) in
+    ap (λ b. b || goes_accepting (map (move_by f) ms) t x s) (behind m.accepting (holds t x (f m.from) && (f m.to == s)) (behind (holds t x (f m.from)) (f m.to == s) other))
+    ∙ goes_well_missed f k s none t ms (All-tail (IsMoveInRange k) m ms within) x
 
 -- what the nodes of one forest hold, moved by f, those of the other hold
 pub record IsMoved (f : ℕ → ℕ) (one other : Forest) : Type 0 where
@@ -127,7 +127,7 @@ pub record IsMoved (f : ℕ → ℕ) (one other : Forest) : Type 0 where
   pub held : (y s : ℕ) → s < one.bound → other.holds y (f s) ≡ one.holds y s
   pub missed : (y s : ℕ) → IsMissed f one.bound s → other.holds y s ≡ false
 
-grown_moved : (f : ℕ → ℕ) (k n : ℕ) → IsRising f k n → (ms : List Move) → All (IsWithin k) ms → (t : List Node) → AllBelow k t
+grown_moved : (f : ℕ → ℕ) (k n : ℕ) → IsRising f k n → (ms : List Move) → All (IsMoveInRange k) ms → (t : List Node) → AllBelow k t
     → IsMoved f (grown k ms t) (grown n (map (move_by f) ms) (map (node_by f) t))
 grown_moved f k n is ms within t all =
     let ns = map (move_by f) ms in
@@ -138,16 +138,16 @@ grown_moved f k n is ms within t all =
       size = omega (arith, size);
       parent = λ i y. (ap (λ m. cond (nat_lt y m) (node_at u y).parent (y - m)) size
           ∙ ap (λ p. cond (nat_lt y (length t)) p (y - length t)) (ap (λ (m : Node). m.parent) (node_moved f t y))) i;
-      held = λ y s less. ap (λ m. cond (nat_lt y m) (goes ns u y (f s)) (goes_well ns u (y - m) (f s))) size
-          ∙ (ap (λ b. cond (nat_lt y (length t)) b (goes_well ns u (y - length t) (f s))) (goes_moved f k n is t all ms within y s less)
+      held = λ y s less. ap (λ m. cond (nat_lt y m) (goes ns u y (f s)) (goes_accepting ns u (y - m) (f s))) size
+          ∙ (ap (λ b. cond (nat_lt y (length t)) b (goes_accepting ns u (y - length t) (f s))) (goes_moved f k n is t all ms within y s less)
           ∙ ap (λ b. cond (nat_lt y (length t)) (goes ms t y s) b) (goes_well_moved f k n is t all ms within (y - length t) s less));
       missed = λ y s none. elim (cases_Bool (nat_lt y (length u))) [
-        | inl old ↦ cond-true (nat_lt y (length u)) (goes ns u y s) (goes_well ns u (y - length u) s) old ∙ goes_missed f k s none u ms within y
-        | inr fresh ↦ cond-false (nat_lt y (length u)) (goes ns u y s) (goes_well ns u (y - length u) s) fresh ∙ goes_well_missed f k s none u ms within (y - length u)
+        | inl old ↦ cond-true (nat_lt y (length u)) (goes ns u y s) (goes_accepting ns u (y - length u) s) old ∙ goes_missed f k s none u ms within y
+        | inr fresh ↦ cond-false (nat_lt y (length u)) (goes ns u y s) (goes_accepting ns u (y - length u) s) fresh ∙ goes_well_missed f k s none u ms within (y - length u)
       ];
     }
 
-taken_moved : (f : ℕ → ℕ) (one other : Forest) → IsMoved f one other → (s : ℕ) → s < one.bound → (y : ℕ) → taken other (f s) y ≡ taken one s y
+taken_moved : (f : ℕ → ℕ) (one other : Forest) → IsMoved f one other → (s : ℕ) → s < one.bound → (y : ℕ) → held_by_older other (f s) y ≡ held_by_older one s y
 taken_moved f one other is s less y =
     ap (λ (p : ℕ → ℕ). list_any (λ z. (nat_lt 0 z && (p z == p y)) && other.holds z (f s)) (range_with_len 0 y)) is.parent
     ∙ any_same (λ z. is_child one (one.parent y) z && other.holds z (f s)) (λ z. is_child one (one.parent y) z && one.holds z s)
@@ -156,49 +156,50 @@ taken_moved f one other is s less y =
 ancestors_moved : (f : ℕ → ℕ) (one other : Forest) → IsMoved f one other → (y : ℕ) → ancestors other y ≡ ancestors one y
 ancestors_moved f one other is y = ap (λ p. above p y y) is.parent
 
-keeps_moved : (f : ℕ → ℕ) (one other : Forest) → IsMoved f one other → (y s : ℕ) → s < one.bound → keeps other y (f s) ≡ keeps one y s
+keeps_moved : (f : ℕ → ℕ) (one other : Forest) → IsMoved f one other → (y s : ℕ) → s < one.bound → retains other y (f s) ≡ retains one y s
 keeps_moved f one other is y s less =
-    ap (λ b. b && not (list_any (taken other (f s)) (y ∷ ancestors other y))) (is.held y s less)
+    ap (λ b. b && not (list_any (held_by_older other (f s)) (y ∷ ancestors other y))) (is.held y s less)
     ∙ ap (λ b. one.holds y s && not b)
-    (any_same (taken other (f s)) (taken one s) (taken_moved f one other is s less) (y ∷ ancestors other y) ∙ ap (λ zs. list_any (taken one s) (y ∷ zs)) (ancestors_moved f one other is y))
+    (any_same (held_by_older other (f s)) (held_by_older one s) (taken_moved f one other is s less) (y ∷ ancestors other y)
+    ∙ ap (λ zs. list_any (held_by_older one s) (y ∷ zs)) (ancestors_moved f one other is y))
 
-keeps_missed : (f : ℕ → ℕ) (one other : Forest) → IsMoved f one other → (y s : ℕ) → IsMissed f one.bound s → keeps other y s ≡ false
-keeps_missed f one other is y s none = ap (λ b. b && not (list_any (taken other s) (y ∷ ancestors other y))) (is.missed y s none)
+keeps_missed : (f : ℕ → ℕ) (one other : Forest) → IsMoved f one other → (y s : ℕ) → IsMissed f one.bound s → retains other y s ≡ false
+keeps_missed f one other is y s none = ap (λ b. b && not (list_any (held_by_older other s) (y ∷ ancestors other y))) (is.missed y s none)
 
-kept_moved : (f : ℕ → ℕ) (one other : Forest) → IsMoved f one other → (y : ℕ) → names (keeps other y) other.bound ≡ map f (names (keeps one y) one.bound)
+kept_moved : (f : ℕ → ℕ) (one other : Forest) → IsMoved f one other → (y : ℕ) → names_where (retains other y) other.bound ≡ map f (names_where (retains one y) one.bound)
 kept_moved f one other is y =
-    let before = names (keeps one y) one.bound in
+    let before = names_where (retains one y) one.bound in
     let all = range_with_len 0 one.bound in
-    same_rising (names (keeps other y) other.bound) (map f before) (rising_names (keeps other y) other.bound)
-    (pairs_map (λ a b. a < b) f before (λ i j d less within. is.rising.rises _ _ (rising_names (keeps one y) one.bound i j d less within) (names_below (keeps one y) one.bound j d within)))
+    same_rising (names_where (retains other y) other.bound) (map f before) (rising_names (retains other y) other.bound)
+    (pairs_map (λ a b. a < b) f before (λ i j d less within. is.rising.rises _ _ (rising_names (retains one y) one.bound i j d less within) (names_below (retains one y) one.bound j d within)))
     (λ q there. (
-    let kept = (from_filter (keeps other y) (range_with_len 0 other.bound) q there).1 in
+    let kept = (from_filter (retains other y) (range_with_len 0 other.bound) q there).1 in
     elim (cases_given f one.bound q) [
-      | inl given ↦ subst (λ w. Contains (map f before) w) given.2 (there_map f before given.0 (there_filter (keeps one y) all given.0 (there_range_zero one.bound given.0 given.1)
-          (sym (keeps_moved f one other is y given.0 given.1) ∙ (ap (keeps other y) given.2 ∙ kept))))
-      | inr none ↦ absurd (both_ways (keeps other y q) (keeps_missed f one other is y q none) kept)
+      | inl given ↦ subst (λ w. Contains (map f before) w) given.2 (there_map f before given.0 (there_filter (retains one y) all given.0 (there_range_zero one.bound given.0 given.1)
+          (sym (keeps_moved f one other is y given.0 given.1) ∙ (ap (retains other y) given.2 ∙ kept))))
+      | inr none ↦ absurd (both_ways (retains other y q) (keeps_missed f one other is y q none) kept)
     ]))
     (λ q there. (
     let from = from_map f before q there in
-    let parts = from_filter (keeps one y) all from.0 from.1 in
+    let parts = from_filter (retains one y) all from.0 from.1 in
     let bounds = from_range 0 one.bound from.0 parts.0 in
     let less : from.0 < one.bound = omega (arith, bounds.1) in
-    subst (λ w. Contains (names (keeps other y) other.bound) w) from.2
-    (there_filter (keeps other y) (range_with_len 0 other.bound) (f from.0) (there_range_zero other.bound (f from.0) (is.rising.below from.0 less))
+    subst (λ w. Contains (names_where (retains other y) other.bound) w) from.2
+    (there_filter (retains other y) (range_with_len 0 other.bound) (f from.0) (there_range_zero other.bound (f from.0) (is.rising.below from.0 less))
     (keeps_moved f one other is y from.0 less ∙ parts.1))))
 
 some_moved : (f : ℕ → ℕ) (one other : Forest) → IsMoved f one other → (y : ℕ)
-    → list_any (keeps other y) (range_with_len 0 other.bound) ≡ list_any (keeps one y) (range_with_len 0 one.bound)
-some_moved f one other is y = elim (cases_Bool (list_any (keeps one y) (range_with_len 0 one.bound))) [
+    → list_any (retains other y) (range_with_len 0 other.bound) ≡ list_any (retains one y) (range_with_len 0 one.bound)
+some_moved f one other is y = elim (cases_Bool (list_any (retains one y) (range_with_len 0 one.bound))) [
   | inl some ↦ (
-      let found = any_found (keeps one y) (range_with_len 0 one.bound) some in
+      let found = any_found (retains one y) (range_with_len 0 one.bound) some in
       let bounds = from_range 0 one.bound found.0 found.1 in
       let less : found.0 < one.bound = omega (arith, bounds.1) in
-      any_from (keeps other y) (range_with_len 0 other.bound) (f found.0) (there_range_zero other.bound (f found.0) (is.rising.below found.0 less))
+      any_from (retains other y) (range_with_len 0 other.bound) (f found.0) (there_range_zero other.bound (f found.0) (is.rising.below found.0 less))
       (keeps_moved f one other is y found.0 less ∙ found.2) ∙ sym some)
-  | inr none ↦ none_any (keeps other y) (range_with_len 0 other.bound) (λ q there. elim (cases_given f one.bound q) [
-    | inl given ↦ ap (keeps other y) (sym given.2) ∙ (keeps_moved f one other is y given.0 given.1
-        ∙ none_at (keeps one y) (range_with_len 0 one.bound) given.0 none (there_range_zero one.bound given.0 given.1))
+  | inr none ↦ none_any (retains other y) (range_with_len 0 other.bound) (λ q there. elim (cases_given f one.bound q) [
+    | inl given ↦ ap (retains other y) (sym given.2) ∙ (keeps_moved f one other is y given.0 given.1
+        ∙ none_at (retains one y) (range_with_len 0 one.bound) given.0 none (there_range_zero one.bound given.0 given.1))
     | inr missed ↦ keeps_missed f one other is y q missed
   ]) ∙ sym none
 ]
@@ -210,27 +211,27 @@ all_moved p q f k same (x ∷ xs) all =
     ∙ ap (λ b. q x && b) (all_moved p q f k same xs (All-tail (λ s. s < k) x xs all))
 
 abbrev given : Forest → ℕ → ℕ → Bool
-given f x s = list_any (λ z. is_child f x z && keeps f z s) (range_with_len 0 f.size)
+given f x s = list_any (λ z. is_child f x z && retains f z s) (range_with_len 0 f.size)
 
 given_moved : (f : ℕ → ℕ) (one other : Forest) → IsMoved f one other → (x s : ℕ) → s < one.bound → given other x (f s) ≡ given one x s
 given_moved f one other is x s less =
-    ap (λ (p : ℕ → ℕ). list_any (λ z. (nat_lt 0 z && (p z == x)) && keeps other z (f s)) (range_with_len 0 other.size)) is.parent
-    ∙ (any_same (λ z. is_child one x z && keeps other z (f s)) (λ z. is_child one x z && keeps one z s)
+    ap (λ (p : ℕ → ℕ). list_any (λ z. (nat_lt 0 z && (p z == x)) && retains other z (f s)) (range_with_len 0 other.size)) is.parent
+    ∙ (any_same (λ z. is_child one x z && retains other z (f s)) (λ z. is_child one x z && retains one z s)
     (λ z. ap (λ b. is_child one x z && b) (keeps_moved f one other is z s less)) (range_with_len 0 other.size)
-    ∙ ap (λ n. list_any (λ z. is_child one x z && keeps one z s) (range_with_len 0 n)) is.size)
+    ∙ ap (λ n. list_any (λ z. is_child one x z && retains one z s) (range_with_len 0 n)) is.size)
 
 covered_moved : (f : ℕ → ℕ) (one other : Forest) → IsMoved f one other → covered other ≡ covered one
 covered_moved f one other is = λ i x. (ap (list_all (given other x)) (kept_moved f one other is x)
-    ∙ all_moved (given other x) (given one x) f one.bound (given_moved f one other is x) (names (keeps one x) one.bound) (names_below (keeps one x) one.bound)) i
+    ∙ all_moved (given other x) (given one x) f one.bound (given_moved f one other is x) (names_where (retains one x) one.bound) (names_below (retains one x) one.bound)) i
 
-stays_moved : (f : ℕ → ℕ) (one other : Forest) → IsMoved f one other → stays other ≡ stays one
+stays_moved : (f : ℕ → ℕ) (one other : Forest) → IsMoved f one other → survives other ≡ survives one
 stays_moved f one other is = λ i y. (ap (λ b. b && not (list_any (covered other) (ancestors other y))) (some_moved f one other is y)
-    ∙ (ap (λ p. list_any (keeps one y) (range_with_len 0 one.bound) && not (list_any p (ancestors other y))) (covered_moved f one other is)
-    ∙ ap (λ zs. list_any (keeps one y) (range_with_len 0 one.bound) && not (list_any (covered one) zs)) (ancestors_moved f one other is y))) i
+    ∙ (ap (λ p. list_any (retains one y) (range_with_len 0 one.bound) && not (list_any p (ancestors other y))) (covered_moved f one other is)
+    ∙ ap (λ zs. list_any (retains one y) (range_with_len 0 one.bound) && not (list_any (covered one) zs)) (ancestors_moved f one other is y))) i
 
 renamed_moved : (f : ℕ → ℕ) (one other : Forest) → IsMoved f one other → (y : ℕ) → renamed other y ≡ node_by f (renamed one y)
 renamed_moved f one other is y =
-    let parent = ap (λ p. rank p (other.parent y)) (stays_moved f one other is) ∙ ap (λ (p : ℕ → ℕ). rank (stays one) (p y)) is.parent in
+    let parent = ap (λ p. rank p (other.parent y)) (stays_moved f one other is) ∙ ap (λ (p : ℕ → ℕ). rank (survives one) (p y)) is.parent in
     let states = kept_moved f one other is y in
     λ i. record { parent = parent i; states = states i }
 
@@ -238,27 +239,27 @@ renamed_moved f one other is y =
 pruned_moved : (f : ℕ → ℕ) (one other : Forest) → IsMoved f one other → pruned other ≡ map (node_by f) (pruned one)
 pruned_moved f one other is =
     let each : renamed other ≡ (λ y. node_by f (renamed one y)) = λ i y. renamed_moved f one other is y i in
-    ap (λ g. map g (names (stays other) other.size)) each
-    ∙ (ap (λ p. map (λ y. node_by f (renamed one y)) (names p other.size)) (stays_moved f one other is)
-    ∙ (ap (λ n. map (λ y. node_by f (renamed one y)) (names (stays one) n)) is.size
-    ∙ sym (map-map (node_by f) (renamed one) (names (stays one) one.size))))
+    ap (λ g. map g (names_where (survives other) other.size)) each
+    ∙ (ap (λ p. map (λ y. node_by f (renamed one y)) (names_where p other.size)) (stays_moved f one other is)
+    ∙ (ap (λ n. map (λ y. node_by f (renamed one y)) (names_where (survives one) n)) is.size
+    ∙ sym (map-map (node_by f) (renamed one) (names_where (survives one) one.size))))
 
 greens_moved : (f : ℕ → ℕ) (one other : Forest) → IsMoved f one other → greens other ≡ greens one
 greens_moved f one other is =
-    ap (λ p. names (λ y. p y && covered other y) other.size) (stays_moved f one other is)
-    ∙ (ap (λ p. names (λ y. stays one y && p y) other.size) (covered_moved f one other is)
-    ∙ ap (λ n. names (λ y. stays one y && covered one y) n) is.size)
+    ap (λ p. names_where (λ y. p y && covered other y) other.size) (stays_moved f one other is)
+    ∙ (ap (λ p. names_where (λ y. survives one y && p y) other.size) (covered_moved f one other is)
+    ∙ ap (λ n. names_where (λ y. survives one y && covered one y) n) is.size)
 
-pub step_moved : (f : ℕ → ℕ) (k n : ℕ) → IsRising f k n → (ms : List Move) → All (IsWithin k) ms → (t : List Node) → AllBelow k t
+pub step_moved : (f : ℕ → ℕ) (k n : ℕ) → IsRising f k n → (ms : List Move) → All (IsMoveInRange k) ms → (t : List Node) → AllBelow k t
     → pruned (grown n (map (move_by f) ms) (map (node_by f) t)) ≡ map (node_by f) (pruned (grown k ms t))
 step_moved f k n is ms within t all = pruned_moved f (grown k ms t) (grown n (map (move_by f) ms) (map (node_by f) t)) (grown_moved f k n is ms within t all)
 
-pub event_moved : (f : ℕ → ℕ) (k n : ℕ) → IsRising f k n → (ms : List Move) → All (IsWithin k) ms → (t : List Node) → AllBelow k t
+pub event_moved : (f : ℕ → ℕ) (k n : ℕ) → IsRising f k n → (ms : List Move) → All (IsMoveInRange k) ms → (t : List Node) → AllBelow k t
     → event_of n (map (move_by f) ms) (map (node_by f) t) ≡ event_of k ms t
 event_moved f k n is ms within t all =
     let one = grown k ms t in
     let other = grown n (map (move_by f) ms) (map (node_by f) t) in
     let moved = grown_moved f k n is ms within t all in
-    let red = ap (λ m. least (reds other m)) (length-map t (node_by f)) ∙ ap (λ p. least (names (λ y. not (p y)) (length t))) (stays_moved f one other moved) in
+    let red = ap (λ m. least (reds other m)) (length-map t (node_by f)) ∙ ap (λ p. least (names_where (λ y. not (p y)) (length t))) (stays_moved f one other moved) in
     let green = ap least (greens_moved f one other moved) in
     λ i. record { red = red i; green = green i }

@@ -9,10 +9,10 @@ use Rattle.std.proofs.lemmas.Option.{none-some, same_Some}
 use Rattle.std.specs.List.{range_with_len}
 use Rattle.aut_base.proofs.lists.Lists.{range_more, slice_get-append_left, slice_get-push_last}
 use Rattle.aut_base.proofs.lists.Members.{each_there, from_filter, from_range}
-use Rattle.safra_trees.specs.Step.{names, rank}
+use Rattle.safra_trees.specs.Step.{names_where, rank}
 
 -- one name more
-pub names_more : (p : ℕ → Bool) (k : ℕ) → names p (suc k) ≡ names p k ++ cond (p k) (k ∷ []) []
+pub names_more : (p : ℕ → Bool) (k : ℕ) → names_where p (suc k) ≡ names_where p k ++ cond (p k) (k ∷ []) []
 names_more p k =
     let e : suc k ≡ k + 1 = omega arith in
     let z : 0 + k ≡ k = omega arith in
@@ -21,14 +21,14 @@ names_more p k =
     ∙ (ap (λ i. filter p (range_with_len 0 k ++ i ∷ [])) z
     ∙ filter-append p (range_with_len 0 k) (k ∷ [])))
 
-pub names_kept : (p : ℕ → Bool) (k : ℕ) → p k ≡ true → names p (suc k) ≡ names p k ++ k ∷ []
-names_kept p k is = names_more p k ∙ ap (λ ys. names p k ++ ys) (cond-true (p k) (k ∷ []) [] is)
+pub names_kept : (p : ℕ → Bool) (k : ℕ) → p k ≡ true → names_where p (suc k) ≡ names_where p k ++ k ∷ []
+names_kept p k is = names_more p k ∙ ap (λ ys. names_where p k ++ ys) (cond-true (p k) (k ∷ []) [] is)
 
-pub names_left : (p : ℕ → Bool) (k : ℕ) → p k ≡ false → names p (suc k) ≡ names p k
-names_left p k is = names_more p k ∙ (ap (λ ys. names p k ++ ys) (cond-false (p k) (k ∷ []) [] is) ∙ append-nil (names p k))
+pub names_left : (p : ℕ → Bool) (k : ℕ) → p k ≡ false → names_where p (suc k) ≡ names_where p k
+names_left p k is = names_more p k ∙ (ap (λ ys. names_where p k ++ ys) (cond-false (p k) (k ∷ []) [] is) ∙ append-nil (names_where p k))
 
 pub rank_kept : (p : ℕ → Bool) (k : ℕ) → p k ≡ true → rank p (suc k) ≡ suc (rank p k)
-rank_kept p k is = ap length (names_kept p k is) ∙ omega (arith, length-append (names p k) (k ∷ []))
+rank_kept p k is = ap length (names_kept p k is) ∙ omega (arith, length-append (names_where p k) (k ∷ []))
 
 pub rank_left : (p : ℕ → Bool) (k : ℕ) → p k ≡ false → rank p (suc k) ≡ rank p k
 rank_left p k is = ap length (names_left p k is)
@@ -69,18 +69,18 @@ rank_rises p y (suc z) less is = elim (cases_eq y z) [
 ]
 
 -- a name that stays stands at its new name
-pub rank_at : (p : ℕ → Bool) (y k : ℕ) → y < k → p y ≡ true → slice_get (names p k) (rank p y) ≡ Some y
+pub rank_at : (p : ℕ → Bool) (y k : ℕ) → y < k → p y ≡ true → slice_get (names_where p k) (rank p y) ≡ Some y
 rank_at p y zero less is = absurd (omega (arith, less))
 rank_at p y (suc k) less is = elim (cases_eq y k) [
   | inl same ↦ (
       let here : p k ≡ true = ap p (sym same) ∙ is in
-      let last : slice_get (names p k ++ k ∷ []) (rank p k) ≡ Some k = slice_get-push_last (names p k) k (rank p k) refl in
+      let last : slice_get (names_where p k ++ k ∷ []) (rank p k) ≡ Some k = slice_get-push_last (names_where p k) k (rank p k) refl in
       let alike : rank p y ≡ rank p k = ap (rank p) same in
-      ap (λ ys. slice_get ys (rank p y)) (names_kept p k here) ∙ (ap (slice_get (names p k ++ k ∷ [])) alike ∙ (last ∙ ap Some (sym same))))
+      ap (λ ys. slice_get ys (rank p y)) (names_kept p k here) ∙ (ap (slice_get (names_where p k ++ k ∷ [])) alike ∙ (last ∙ ap Some (sym same))))
   | inr other ↦ (
       let before = rank_at p y k (omega (arith, less, other)) is in
       ap (λ ys. slice_get ys (rank p y)) (names_more p k)
-      ∙ (slice_get-append_left (names p k) (cond (p k) (k ∷ []) []) (rank p y) (rank_rises p y k (omega (arith, less, other)) is) ∙ before))
+      ∙ (slice_get-append_left (names_where p k) (cond (p k) (k ∷ []) []) (rank p y) (rank_rises p y k (omega (arith, less, other)) is) ∙ before))
 ]
 
 -- each new name is that of a name that stays
@@ -125,13 +125,13 @@ rank_order p y z is less = elim (cases_lt y z) [
 ]
 
 -- names that pass are below the bound, and rise
-pub names_below : (p : ℕ → Bool) (n : ℕ) → All (λ s. s < n) (names p n)
-names_below p n = each_there (λ s. s < n) (names p n) (λ s there. omega (arith, (from_range 0 n s (from_filter p (range_with_len 0 n) s there).0).1))
+pub names_below : (p : ℕ → Bool) (n : ℕ) → All (λ s. s < n) (names_where p n)
+names_below p n = each_there (λ s. s < n) (names_where p n) (λ s there. omega (arith, (from_range 0 n s (from_filter p (range_with_len 0 n) s there).0).1))
 
 rising_range : (a n : ℕ) → AllPairs (λ x y. x < y) (range_with_len a n)
 rising_range a zero = λ i j d less within. absurd (omega (arith, within))
 rising_range a (suc n) = AllPairs-cons (λ x y. x < y) a (range_with_len (a + 1) n)
     (each_there (λ y. a < y) (range_with_len (a + 1) n) (λ y there. omega (arith, (from_range (a + 1) n y there).0))) (rising_range (a + 1) n)
 
-pub rising_names : (p : ℕ → Bool) (n : ℕ) → AllPairs (λ x y. x < y) (names p n)
+pub rising_names : (p : ℕ → Bool) (n : ℕ) → AllPairs (λ x y. x < y) (names_where p n)
 rising_names p n = AllPairs-filter (λ x y. x < y) p (range_with_len 0 n) (rising_range 0 n)

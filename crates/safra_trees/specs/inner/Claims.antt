@@ -4,10 +4,10 @@ use Rattle.safra_trees.specs.Flat.{at}
 use Rattle.safra_trees.specs.declared.moves.Move.{Move}
 
 -- the place of a state by the lists of a tree, `none` where it has none
-abbrev pub place_of : ℕ → List ℕ → List ℕ → ℕ → ℕ
-place_of none [] places s = none
-place_of none (p ∷ states) [] s = none
-place_of none (p ∷ states) (x ∷ places) s = place_of (cond (p == s) x none) states places s
+abbrev pub owner_in : ℕ → List ℕ → List ℕ → ℕ → ℕ
+owner_in none [] places s = none
+owner_in none (p ∷ states) [] s = none
+owner_in none (p ∷ states) (x ∷ places) s = owner_in (cond (p == s) x none) states places s
 
 -- the parent of an old or a fresh name
 abbrev pub grown_parent : List ℕ → ℕ → ℕ

@@ -1,21 +1,21 @@
 -- What is still free as one goes over the names in their order, and where each state is at the end.
 use Rattle.std.specs.Prelude.{◌&&◌, ◌||◌, ◌==◌, ℕ, zero, suc, Bool, cond, not}
 use Rattle.std.specs.List.{list_any, range_with_len}
-use Rattle.safra_trees.specs.Step.{Forest, is_child, keeps}
+use Rattle.safra_trees.specs.Step.{Forest, is_child, retains}
 
 -- a child of x with a name below y keeps the state
 abbrev pub given : Forest → ℕ → ℕ → ℕ → Bool
-given f x y s = list_any (λ z. is_child f x z && keeps f z s) (range_with_len 0 y)
+given f x y s = list_any (λ z. is_child f x z && retains f z s) (range_with_len 0 y)
 
 -- x keeps the state, and no child of it with a name below y does
 abbrev pub free : Forest → ℕ → ℕ → ℕ → Bool
-free f x y s = keeps f x s && not (given f x y s)
+free f x y s = retains f x s && not (given f x y s)
 
 -- one pass over the names in their order: where each state is, the last name below y that took it, or `size` where none
 -- did; a name takes what it holds and what is at its parent just then
-abbrev pub place : Forest → ℕ → ℕ → ℕ
-place f zero s = f.size
-place f (suc y) s = cond (f.holds y s && ((y == 0) || (place f y s == f.parent y))) y (place f y s)
+abbrev pub owner_below : Forest → ℕ → ℕ → ℕ
+owner_below f zero s = f.size
+owner_below f (suc y) s = cond (f.holds y s && ((y == 0) || (owner_below f y s == f.parent y))) y (owner_below f y s)
 
 abbrev pub takes : Forest → ℕ → ℕ → Bool
-takes f y s = f.holds y s && ((y == 0) || (place f y s == f.parent y))
+takes f y s = f.holds y s && ((y == 0) || (owner_below f y s == f.parent y))

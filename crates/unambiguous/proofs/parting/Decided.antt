@@ -12,12 +12,12 @@ use Rattle.aut_base.proofs.lists.Lists.{slice_get-at, split-at}
 use Rattle.aut_base.proofs.lists.Members.{first_there, found_there, item_at, none_there, placed_there, there_at, there_cases, there_found}
 use Rattle.aut_base.proofs.runs.OtherEdges.{accepts_wider}
 use Rattle.aut_base.specs.Acceptance.{Accepts}
-use Rattle.aut_base.specs.Automaton.{Automaton, TreeEdge}
+use Rattle.aut_base.specs.Automaton.{Automaton, LabelledEdge}
 use Rattle.aut_base.specs.Formula.{met}
 use Rattle.aut_base.specs.Label.{AllBelow, LabelTree, holds_at, truth}
 use Rattle.aut_base.specs.Valuation.{letter_of, truth_on}
 use Rattle.aut_base.specs.Word.{NameSet, copies, nth}
-use Rattle.aut_core.specs.Core.{Core, IsCore, automaton_of, edge_of}
+use Rattle.aut_core.specs.SymbolicAutomata.{SymbolicAutomaton, IsWellFormedSymbolic, automaton_of, edge_of}
 use Rattle.aut_core.specs.declared.link.Link.{Link}
 use Rattle.aut_ops.proofs.links.Labels.{not_never, some_letter, truth_both}
 use Rattle.aut_ops.proofs.pairs.BreadthFirst.{listed_exactly}
@@ -34,7 +34,7 @@ use Rattle.unambiguous.proofs.tracks.Accepted.{gone, placed}
 use Rattle.unambiguous.proofs.tracks.Tracks.{Likewise, Run, as_long, later, run_of, some_edges, track_join, track_split}
 use Rattle.unambiguous.specs.Laws.{PartedDecides}
 use Rattle.unambiguous.specs.Parted.{AreTwins, IsParted, do_meet, flag, parts}
-use Rattle.unambiguous.specs.Runs.{AcceptingRun, IsTrack, IsUnambiguous, marks_at}
+use Rattle.unambiguous.specs.Runs.{AcceptingRun, IsEdgePath, IsUnambiguous, edge_marks}
 
 not_true : (b : Bool) → not b ≡ true → b ≡ false
 not_true true e = absurd (false≢true e)
@@ -57,23 +57,23 @@ record Cut (a : Automaton) (p q : ℕ) (xs : List NameSet) (y : NameSet) (ys : L
   middle : ℕ
   front : List ℕ
   place : ℕ
-  edge : TreeEdge
+  edge : LabelledEdge
   back : List ℕ
   whole : ms ≡ front ++ place ∷ back
-  first : IsTrack a p xs front middle
+  first : IsEdgePath a p xs front middle
   at : slice_get a.edges place ≡ Some edge
   from : middle ≡ edge.from
   holds : truth (holds_at a.names y) edge.label ≡ true
-  rest : IsTrack a edge.to ys back q
+  rest : IsEdgePath a edge.to ys back q
 
-cut : (a : Automaton) (p q : ℕ) (xs : List NameSet) (y : NameSet) (ys : List NameSet) (ms : List ℕ) → IsTrack a p (xs ++ y ∷ ys) ms q → Cut a p q xs y ys ms
+cut : (a : Automaton) (p q : ℕ) (xs : List NameSet) (y : NameSet) (ys : List NameSet) (ms : List ℕ) → IsEdgePath a p (xs ++ y ∷ ys) ms q → Cut a p q xs y ys ms
 cut a p q xs y ys ms track =
     let halves = track_split a p q xs (y ∷ ys) ms track in
-    by halves.middle halves.front halves.back halves.parts halves.first halves.second
+    by_cases halves.middle halves.front halves.back halves.parts halves.first halves.second
   where
-    by : (middle : ℕ) (front back : List ℕ) → ms ≡ front ++ back → IsTrack a p xs front middle → IsTrack a middle (y ∷ ys) back q → Cut a p q xs y ys ms
-    by middle front [] whole first second = absurd second
-    by middle front (m ∷ back) whole first second = record {
+    by_cases : (middle : ℕ) (front back : List ℕ) → ms ≡ front ++ back → IsEdgePath a p xs front middle → IsEdgePath a middle (y ∷ ys) back q → Cut a p q xs y ys ms
+    by_cases middle front [] whole first second = absurd second
+    by_cases middle front (m ∷ back) whole first second = record {
       middle = middle;
       front = front;
       place = m;
@@ -87,7 +87,7 @@ cut a p q xs y ys ms track =
       rest = second.4;
     }
 
-module _ (a : Core) (s : Automaton) (core : IsCore a) (parted : IsParted a s) where
+module _ (a : SymbolicAutomaton) (s : Automaton) (core : IsWellFormedSymbolic a) (parted : IsParted a s) where
   abbrev x : Automaton
   x = automaton_of a
 
@@ -148,7 +148,7 @@ module _ (a : Core) (s : Automaton) (core : IsCore a) (parted : IsParted a s) wh
   edge_at : (m : ℕ) (l : Link) → slice_get a.links m ≡ Some l → slice_get x.edges m ≡ Some (edge_of a.store l)
   edge_at m l at = slice_get-map (edge_of a.store) a.links m ∙ ap (option_map (edge_of a.store)) at
 
-  link_at : (m : ℕ) (e : TreeEdge) → slice_get x.edges m ≡ Some e → (l : Link) × (slice_get a.links m ≡ Some l) × (edge_of a.store l ≡ e)
+  link_at : (m : ℕ) (e : LabelledEdge) → slice_get x.edges m ≡ Some e → (l : Link) × (slice_get a.links m ≡ Some l) × (edge_of a.store l ≡ e)
   link_at m e at =
       let within : m < length a.links = omega (arith, length-map a.links (edge_of a.store), slice_get_within x.edges m e at) in
       let l = item_at a.links m within in
@@ -202,7 +202,7 @@ module _ (a : Core) (s : Automaton) (core : IsCore a) (parted : IsParted a s) wh
       let start : at.0 ≡ run.start = elim (there_cases at.0 [] run.start run.is_start) [ inl is ↦ is | inr none ↦ absurd (none_there run.start none) ] in
       accepts_wider (begun at.0 s) s refl (λ e there. there) u v run (subst (λ k. Contains s.starts k) start is_start) run.meets
 
-  twins_at : (m n : ℕ) (e f : TreeEdge) (letter : NameSet) → slice_get x.edges m ≡ Some e → slice_get x.edges n ≡ Some f → m < n → AreLed x e.from f.from → f.from ≡ e.from → e.to ≡ f.to
+  twins_at : (m n : ℕ) (e f : LabelledEdge) (letter : NameSet) → slice_get x.edges m ≡ Some e → slice_get x.edges n ≡ Some f → m < n → AreLed x e.from f.from → f.from ≡ e.from → e.to ≡ f.to
       → truth (holds_at a.names letter) e.label ≡ true → truth (holds_at a.names letter) f.label ≡ true → flag parted.flags e.to ≡ true
   twins_at m n e f letter at other_at before led from ends first second =
       let one = link_at m e at in
@@ -211,13 +211,13 @@ module _ (a : Core) (s : Automaton) (core : IsCore a) (parted : IsParted a s) wh
       let k = two.0 in
       let labels : LabelTree = both_labels (length a.names) (label_in a.store l.guard) (label_in a.store k.guard) in
       let holds = holds_at a.names letter in
-      let l_from : l.from ≡ e.from = ap (λ (d : TreeEdge). d.from) one.2 in
-      let k_from : k.from ≡ f.from = ap (λ (d : TreeEdge). d.from) two.2 in
-      let l_to : l.to ≡ e.to = ap (λ (d : TreeEdge). d.to) one.2 in
-      let k_to : k.to ≡ f.to = ap (λ (d : TreeEdge). d.to) two.2 in
+      let l_from : l.from ≡ e.from = ap (λ (d : LabelledEdge). d.from) one.2 in
+      let k_from : k.from ≡ f.from = ap (λ (d : LabelledEdge). d.from) two.2 in
+      let l_to : l.to ≡ e.to = ap (λ (d : LabelledEdge). d.to) one.2 in
+      let k_to : k.to ≡ f.to = ap (λ (d : LabelledEdge). d.to) two.2 in
       let there : Contains parted.pairs (l.from, l.from) = subst (λ pair. Contains parted.pairs pair) (λ i. (sym l_from i, (from ∙ sym l_from) i)) (led_there e.from f.from led) in
       let hold = both_hold l k holds ∙ and_from (truth holds (label_in a.store l.guard)) (truth holds (label_in a.store k.guard))
-      (ap (λ (d : TreeEdge). truth holds d.label) one.2 ∙ first) (ap (λ (d : TreeEdge). truth holds d.label) two.2 ∙ second) in
+      (ap (λ (d : LabelledEdge). truth holds d.label) one.2 ∙ first) (ap (λ (d : LabelledEdge). truth holds d.label) two.2 ∙ second) in
       let never = not_never (length a.names) holds labels (both_below l k) hold in
       parted.flagged m n e.to (slice_get_within a.links m l one.1) (record {
         first = l;
@@ -231,7 +231,7 @@ module _ (a : Core) (s : Automaton) (core : IsCore a) (parted : IsParted a s) wh
         meet = meet_is l k ∙ and_from (l.to == k.to) (not (is_never (length a.names) labels)) (eq-eqb l.to k.to (l_to ∙ (ends ∙ sym k_to))) (ap not never);
       })
 
-  twins_both : (m n : ℕ) (e f : TreeEdge) (letter : NameSet) → slice_get x.edges m ≡ Some e → slice_get x.edges n ≡ Some f → m ≢ n → AreLed x e.from f.from → f.from ≡ e.from → e.to ≡ f.to
+  twins_both : (m n : ℕ) (e f : LabelledEdge) (letter : NameSet) → slice_get x.edges m ≡ Some e → slice_get x.edges n ≡ Some f → m ≢ n → AreLed x e.from f.from → f.from ≡ e.from → e.to ≡ f.to
       → truth (holds_at a.names letter) e.label ≡ true → truth (holds_at a.names letter) f.label ≡ true → flag parted.flags e.to ≡ true
   twins_both m n e f letter at other_at other led from ends first second = elim (cases_lt m n) [
     | inl before ↦ twins_at m n e f letter at other_at before led from ends first second
@@ -241,22 +241,22 @@ module _ (a : Core) (s : Automaton) (core : IsCore a) (parted : IsParted a s) wh
 
   module _ (none : AcceptsNothing s) (u v : List NameSet) (endless : 0 < length v) where
     -- what is left of a run behind a part of its way
-    rest_of : (turns rounds p : ℕ) (ys : List NameSet) (back : List ℕ) (r : Run x u v turns rounds) → 0 < rounds → met (map (marks_at x) r.cycle) x.formula ≡ true
-        → IsTrack x p ys back r.state → Tail x p ys v
+    rest_of : (turns rounds p : ℕ) (ys : List NameSet) (back : List ℕ) (r : Run x u v turns rounds) → 0 < rounds → met (map (edge_marks x) r.cycle) x.formula ≡ true
+        → IsEdgePath x p ys back r.state → Tail x p ys v
     rest_of turns rounds p ys back r positive meets track = record {
       state = r.state;
       turns = 0;
       rounds = rounds;
       way = back;
       cycle = r.cycle;
-      leads = subst (λ w. IsTrack x p w back r.state) (sym (append-nil ys)) track;
+      leads = subst (λ w. IsEdgePath x p w back r.state) (sym (append-nil ys)) track;
       positive = positive;
       returns = r.returns;
       meets = meets;
     }
 
     -- both have the same edge in the same place
-    one_place : (turns rounds n : ℕ) → 0 < rounds → n < turns → (r t : Run x u v turns rounds) → met (map (marks_at x) r.cycle) x.formula ≡ true → met (map (marks_at x) t.cycle) x.formula ≡ true
+    one_place : (turns rounds n : ℕ) → 0 < rounds → n < turns → (r t : Run x u v turns rounds) → met (map (edge_marks x) r.cycle) x.formula ≡ true → met (map (edge_marks x) t.cycle) x.formula ≡ true
         → nth r.way r.cycle n ≡ nth t.way t.cycle n
     one_place turns rounds n positive soon r t meets meets_too =
         let word : List NameSet = u ++ copies turns v in
@@ -267,8 +267,8 @@ module _ (a : Core) (s : Automaton) (core : IsCore a) (parted : IsParted a s) wh
         let xs = take n word in
         let ys = drop (n + 1) word in
         let is : word ≡ xs ++ y ∷ ys = split-at word n y within (sym item.1) in
-        let mine = cut x r.start r.state xs y ys r.way (subst (λ w. IsTrack x r.start w r.way r.state) is r.leads) in
-        let his = cut x t.start t.state xs y ys t.way (subst (λ w. IsTrack x t.start w t.way t.state) is t.leads) in
+        let mine = cut x r.start r.state xs y ys r.way (subst (λ w. IsEdgePath x r.start w r.way r.state) is r.leads) in
+        let his = cut x t.start t.state xs y ys t.way (subst (λ w. IsEdgePath x t.start w t.way t.state) is t.leads) in
         let size : length xs ≡ n = omega (arith, within, length-take n word) in
         let long : n ≡ length mine.front + 0 = omega (arith, as_long x r.start xs mine.front mine.middle mine.first, size) in
         let long_too : n ≡ length his.front + 0 = omega (arith, as_long x t.start xs his.front his.middle his.first, size) in
@@ -328,7 +328,7 @@ pub parted_decides : PartedDecides
 parted_decides a s core parted = ((λ none u v endless r t n. same_edges a s core parted none u v endless r t n), accepts_none a s core parted)
 
 -- so the automaton is unambiguous where no word of the square is found
-pub verdict : (a : Core) (s : Automaton) (found : Bool) → IsCore a → IsParted a s → (IsTrue found ↔ AcceptsSome s) → IsTrue (not found) ↔ IsUnambiguous (automaton_of a)
+pub verdict : (a : SymbolicAutomaton) (s : Automaton) (found : Bool) → IsWellFormedSymbolic a → IsParted a s → (IsTrue found ↔ AcceptsSome s) → IsTrue (not found) ↔ IsUnambiguous (automaton_of a)
 verdict a s true core parted says =
     (λ none. absurd (false≢true none), λ alone. (let word = says.0 refl in absurd ((parted_decides a s core parted).1 alone word.stem word.cycle word.accepts)))
 verdict a s false core parted says = (λ _. (parted_decides a s core parted).0 (λ u v r. false≢true (says.1 (record { stem = u; cycle = v; accepts = r }))), λ _. refl)

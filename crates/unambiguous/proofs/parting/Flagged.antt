@@ -7,7 +7,7 @@ use Rattle.std.proofs.lemmas.List.Elements.{All-contains}
 use Rattle.std.proofs.lemmas.Option.{get_or_from_slice_get, same_Some, slice_get_within}
 use Rattle.aut_base.proofs.lists.Members.{placed_there}
 use Rattle.aut_core.proofs.Rows.{by_key}
-use Rattle.aut_core.specs.Core.{Core, IsCore, IsLinkOf}
+use Rattle.aut_core.specs.SymbolicAutomata.{SymbolicAutomaton, IsWellFormedSymbolic, IsLinkOf}
 use Rattle.aut_core.specs.declared.link.Link.{Link}
 use Rattle.aut_ops.proofs.pairs.Pairings.{never_met}
 use Rattle.aut_ops.specs.Labels.{both_labels, is_never}
@@ -33,12 +33,12 @@ flag_cases flags w q is = elim (cases_eq q w) [
   | inr other ↦ inl (sym (get_or-set_other flags w q true false other) ∙ is)
 ]
 
-pub link_within : (a : Core) (core : IsCore a) (m : ℕ) (link : Link) → slice_get a.links m ≡ Some link → IsLinkOf a link
+pub link_within : (a : SymbolicAutomaton) (core : IsWellFormedSymbolic a) (m : ℕ) (link : Link) → slice_get a.links m ≡ Some link → IsLinkOf a link
 link_within a core m link at = All-contains (IsLinkOf a) a.links link core.parts.links (placed_there a.links m link at)
 
 -- twins of one link
 
-module _ (a : Core) (core : IsCore a) (pairs : List (ℕ × ℕ)) (m : ℕ) (link : Link) (at : slice_get a.links m ≡ Some link) where
+module _ (a : SymbolicAutomaton) (core : IsWellFormedSymbolic a) (pairs : List (ℕ × ℕ)) (m : ℕ) (link : Link) (at : slice_get a.links m ≡ Some link) where
   from_at : (n : ℕ) (l : Link) → slice_get a.links n ≡ Some l → (get_or a.links n link).from ≡ l.from
   from_at n l is = ap (λ (k : Link). k.from) (get_or_from_slice_get a.links n l link is)
 
@@ -107,14 +107,15 @@ module _ (a : Core) (core : IsCore a) (pairs : List (ℕ × ℕ)) (m : ℕ) (lin
       inside : link.to < length flags
       inside = omega (arith, ends.size, (link_within a core m link at).to)
 
-pub kept_flagged : (a : Core) (pairs : List (ℕ × ℕ)) (flags : List Bool) (m : ℕ) → AreFlagged a pairs flags m → (HasTwin a pairs m → ⊥) → AreFlagged a pairs flags (m + 1)
+pub kept_flagged : (a : SymbolicAutomaton) (pairs : List (ℕ × ℕ)) (flags : List Bool) (m : ℕ) → AreFlagged a pairs flags m → (HasTwin a pairs m → ⊥) → AreFlagged a pairs flags (m + 1)
 kept_flagged a pairs flags m so_far none k n q less twins = elim (cases_lt k m) [
   | inl early ↦ so_far k n q early twins
   | inr late ↦ (let same : k ≡ m = omega (arith, less, late) in absurd (none (n, q, subst (λ j. AreTwins a pairs j n q) same twins)))
 ]
 
 -- links meet in a store that has grown as they do in that of the automaton
-pub same_meet : (a : Core) (core : IsCore a) (t : Store) (m n : ℕ) (l k : Link) (b : Bool) → slice_get a.links m ≡ Some l → slice_get a.links n ≡ Some k → Keeps a.store t → b ≡ do_meet t l k
+pub same_meet : (a : SymbolicAutomaton) (core : IsWellFormedSymbolic a) (t : Store) (m n : ℕ) (l k : Link) (b : Bool) → slice_get a.links m ≡ Some l → slice_get a.links n ≡ Some k
+    → Keeps a.store t → b ≡ do_meet t l k
     → do_meet a.store l k ≡ b
 same_meet a core t m n l k b at there keeps is =
     let one = (link_within a core m l at).guard in

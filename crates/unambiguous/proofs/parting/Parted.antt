@@ -6,12 +6,12 @@ use Rattle.std.proofs.lemmas.List.Quantifiers.{all_pairs_push}
 use Rattle.std.proofs.lemmas.Option.{same_Some}
 use Rattle.aut_base.proofs.lists.Members.{each_there, none_there, there_cases}
 use Rattle.aut_base.specs.declared.limit.TheConstants.{MOST_PAIRS}
-use Rattle.aut_base.specs.Automaton.{Automaton, TreeEdge}
+use Rattle.aut_base.specs.Automaton.{Automaton, LabelledEdge}
 use Rattle.aut_core.proofs.Growth.{kept_edges}
-use Rattle.aut_core.specs.Core.{AreParts, Core, IsCore, automaton_of}
+use Rattle.aut_core.specs.SymbolicAutomata.{AreSymbolicParts, SymbolicAutomaton, IsWellFormedSymbolic, automaton_of}
 use Rattle.aut_ops.proofs.joint_runs.JointEdges.{reached_within}
 use Rattle.aut_ops.proofs.pairs.Laws.{few_pairs_exclude_more}
-use Rattle.aut_ops.specs.BreadthFirst.{IsReached}
+use Rattle.aut_ops.specs.BreadthFirst.{IsReachedFrom}
 use Rattle.aut_ops.specs.Products.{ArePairs, HasMorePairs, next_pairs, product_on, start_pairs}
 use Rattle.label_guards.specs.Store.{Keeps, Store}
 use Rattle.unambiguous.specs.Parted.{ArePartings, parts}
@@ -54,8 +54,8 @@ module _ (flags : List Bool) (pairs : List (ℕ × ℕ)) (n : ℕ) (pair : ℕ �
   }
 
 -- begun there the parts make an automaton still
-pub begun_parts : (m : Core) (flags : List Bool) (pairs : List (ℕ × ℕ)) (starts : List ℕ) → m.states ≡ length pairs → AreParts m → ArePartings flags pairs (length pairs) starts
-    → AreParts (record m { starts = starts })
+pub begun_parts : (m : SymbolicAutomaton) (flags : List Bool) (pairs : List (ℕ × ℕ)) (starts : List ℕ) → m.states ≡ length pairs → AreSymbolicParts m → ArePartings flags pairs (length pairs) starts
+    → AreSymbolicParts (record m { starts = starts })
 begun_parts m flags pairs starts states are begin = record {
   few = are.few;
   store_names = are.store_names;
@@ -67,7 +67,7 @@ begun_parts m flags pairs starts states are begin = record {
 }
 
 -- with a store that has grown they make the same automaton
-pub grown_parts : (m : Core) (t : Store) → Keeps m.store t → AreParts m → AreParts (record m { store = t })
+pub grown_parts : (m : SymbolicAutomaton) (t : Store) → Keeps m.store t → AreSymbolicParts m → AreSymbolicParts (record m { store = t })
 grown_parts m t keeps are = record {
   few = are.few;
   store_names = keeps.names ∙ are.store_names;
@@ -78,21 +78,23 @@ grown_parts m t keeps are = record {
   formula = are.formula;
 }
 
-pub grown_same : (m : Core) (t : Store) → Keeps m.store t → AreParts m → automaton_of (record m { store = t }) ≡ automaton_of m
+pub grown_same : (m : SymbolicAutomaton) (t : Store) → Keeps m.store t → AreSymbolicParts m → automaton_of (record m { store = t }) ≡ automaton_of m
 grown_same m t keeps are =
-    let made : List TreeEdge → Automaton = λ es. record { names = m.names; starts = m.starts; states = m.states; edges = es; sets = m.sets; formula = m.formula } in
+    let made : List LabelledEdge → Automaton = λ es. record { names = m.names; starts = m.starts; states = m.states; edges = es; sets = m.sets; formula = m.formula } in
     ap made (kept_edges m.links keeps (λ k d within. (are.links k d within).guard))
 
 -- where the pairs are few, more aren't reached
-pub no_more_pairs : (a : Core) (pairs : List (ℕ × ℕ)) → ArePairs (automaton_of a) (automaton_of a) pairs → length pairs ≤ MOST_PAIRS → HasMorePairs MOST_PAIRS (automaton_of a) (automaton_of a) → ⊥
+pub no_more_pairs : (a : SymbolicAutomaton) (pairs : List (ℕ × ℕ)) → ArePairs (automaton_of a) (automaton_of a) pairs → length pairs ≤ MOST_PAIRS
+    → HasMorePairs MOST_PAIRS (automaton_of a) (automaton_of a) → ⊥
 no_more_pairs a pairs listed few =
     let x = automaton_of a in
     few_pairs_exclude_more (λ f g. f) x x (product_on (λ f g. f) pairs x x) MOST_PAIRS (record { pairs = pairs; in_order = listed; is = refl }) few
 
 -- the states of the pairs are those of the automaton
-pub states_within : (a : Core) → IsCore a → (pairs : List (ℕ × ℕ)) → ArePairs (automaton_of a) (automaton_of a) pairs → (n : ℕ) → n ≡ a.states → All (λ pair. pair.0 < n) pairs
+pub states_within : (a : SymbolicAutomaton) → IsWellFormedSymbolic a → (pairs : List (ℕ × ℕ)) → ArePairs (automaton_of a) (automaton_of a) pairs → (n : ℕ) → n ≡ a.states
+    → All (λ pair. pair.0 < n) pairs
 states_within a core pairs listed n is = each_there (λ (pair : ℕ × ℕ). pair.0 < n) pairs (λ pair there.
     let x = automaton_of a in
-    let reached = All-contains (IsReached (start_pairs x x) (next_pairs x x)) pairs pair listed.reached there in
+    let reached = All-contains (IsReachedFrom (start_pairs x x) (next_pairs x x)) pairs pair listed.reached there in
     let within : pair.0 < a.states = (reached_within x x core.well_formed core.well_formed pair reached).0 in
     omega (arith, within, is))

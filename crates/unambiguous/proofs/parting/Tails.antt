@@ -9,7 +9,7 @@ use Rattle.aut_base.proofs.runs.LassoRuns.{accepts_of}
 use Rattle.aut_base.proofs.runs.OtherEdges.{path_wider}
 use Rattle.aut_base.proofs.words.Spelled.{stem_letter, word_letter}
 use Rattle.aut_base.specs.Acceptance.{Accepts}
-use Rattle.aut_base.specs.Automaton.{Automaton, TreeEdge}
+use Rattle.aut_base.specs.Automaton.{Automaton, LabelledEdge}
 use Rattle.aut_base.specs.Formula.{met}
 use Rattle.aut_base.specs.Label.{holds_at, truth}
 use Rattle.aut_base.specs.Word.{NameSet, copies, nth}
@@ -17,7 +17,7 @@ use Rattle.aut_ops.specs.Languages.{begun}
 use Rattle.unambiguous.proofs.tracks.Accepted.{gone, placed}
 use Rattle.unambiguous.proofs.tracks.Starts.{Begins, begins}
 use Rattle.unambiguous.proofs.tracks.Tracks.{as_long, some_edges, track_join}
-use Rattle.unambiguous.specs.Runs.{AcceptingRun, IsTrack, IsUnambiguous, marks_at}
+use Rattle.unambiguous.specs.Runs.{AcceptingRun, IsEdgePath, IsUnambiguous, edge_marks}
 
 -- behind a front the list goes on as without it
 pub nth_behind : (front way cycle : List ℕ) (n : ℕ) → 0 < length cycle → nth (front ++ way) cycle (length front + n) ≡ nth way cycle n
@@ -36,10 +36,10 @@ module _ (a : Automaton) where
     pub rounds : ℕ
     pub way : List ℕ
     pub cycle : List ℕ
-    pub leads : IsTrack a p (u ++ copies turns v) way state
+    pub leads : IsEdgePath a p (u ++ copies turns v) way state
     pub positive : 0 < rounds
-    pub returns : IsTrack a state (copies rounds v) cycle state
-    pub meets : met (map (marks_at a) cycle) a.formula ≡ true
+    pub returns : IsEdgePath a state (copies rounds v) cycle state
+    pub meets : met (map (edge_marks a) cycle) a.formula ≡ true
 
   pub to_tail : (p : ℕ) (u v : List NameSet) → Accepts (begun p a) u v → Tail p u v
   to_tail p u v r =
@@ -54,7 +54,7 @@ module _ (a : Automaton) where
         rounds = r.rounds;
         way = way.places;
         cycle = cycle.places;
-        leads = subst (λ s. IsTrack a s (u ++ copies r.turns v) way.places r.state) (sym start) way.track;
+        leads = subst (λ s. IsEdgePath a s (u ++ copies r.turns v) way.places r.state) (sym start) way.track;
         positive = r.positive;
         returns = cycle.track;
         meets = ap (λ cs. met cs a.formula) cycle.marks ∙ r.meets;
@@ -75,7 +75,7 @@ module _ (a : Automaton) where
       }) endless t.positive (ap (λ cs. met cs a.formula) cycle.marks ∙ t.meets)
 
   -- one edge before it
-  abbrev pub tail_before : (p m : ℕ) (x : NameSet) (e : TreeEdge) (u v : List NameSet) → slice_get a.edges m ≡ Some e → p ≡ e.from → truth (holds_at a.names x) e.label ≡ true
+  abbrev pub tail_before : (p m : ℕ) (x : NameSet) (e : LabelledEdge) (u v : List NameSet) → slice_get a.edges m ≡ Some e → p ≡ e.from → truth (holds_at a.names x) e.label ≡ true
       → Tail e.to u v → Tail p (x ∷ u) v
   tail_before p m x e u v at from holds t = record {
     state = t.state;
@@ -90,7 +90,7 @@ module _ (a : Automaton) where
   }
 
   -- and a track from a start
-  abbrev pub run_before : (start p : ℕ) (xs u v : List NameSet) (front : List ℕ) → Contains a.starts start → IsTrack a start xs front p → Tail p u v → AcceptingRun a (xs ++ u) v
+  abbrev pub run_before : (start p : ℕ) (xs u v : List NameSet) (front : List ℕ) → Contains a.starts start → IsEdgePath a start xs front p → Tail p u v → AcceptingRun a (xs ++ u) v
   run_before start p xs u v front is_start leads t = record {
     start = start;
     state = t.state;
@@ -99,7 +99,7 @@ module _ (a : Automaton) where
     way = front ++ t.way;
     cycle = t.cycle;
     is_start = is_start;
-    leads = subst (λ w. IsTrack a start w (front ++ t.way) t.state) (sym (append_assoc xs u (copies t.turns v))) (track_join a start p t.state xs (u ++ copies t.turns v) front t.way leads t.leads);
+    leads = subst (λ w. IsEdgePath a start w (front ++ t.way) t.state) (sym (append_assoc xs u (copies t.turns v))) (track_join a start p t.state xs (u ++ copies t.turns v) front t.way leads t.leads);
     positive = t.positive;
     returns = t.returns;
     meets = t.meets;
@@ -114,8 +114,8 @@ module _ (a : Automaton) where
     pub is_second : Contains a.starts second
     pub way : List ℕ
     pub other : List ℕ
-    pub leads : IsTrack a first letters way p
-    pub leads_too : IsTrack a second letters other q
+    pub leads : IsEdgePath a first letters way p
+    pub leads_too : IsEdgePath a second letters other q
 
   module _ (u v : List NameSet) (endless : 0 < length v) where
     pub some_cycle : (p : ℕ) (t : Tail p u v) → 0 < length t.cycle
@@ -140,7 +140,7 @@ module _ (a : Automaton) where
         let his : Begins a q s.way s.cycle = begins a q s.state s.state (u ++ copies s.turns v) (copies s.rounds v) s.way s.cycle s.leads s.returns (some_cycle q s) in
         let place : mine.place ≡ his.place = same_Some mine.place his.place (sym mine.is_first ∙ (same ∙ his.is_first)) in
         let edge : mine.edge ≡ his.edge = same_Some mine.edge his.edge (sym mine.at ∙ (ap (slice_get a.edges) place ∙ his.at)) in
-        mine.from ∙ (ap (λ (e : TreeEdge). e.from) edge ∙ sym his.from)
+        mine.from ∙ (ap (λ (e : LabelledEdge). e.from) edge ∙ sym his.from)
 
 -- what stands first in a list that isn't empty
 pub nth_first : (m : ℕ) (way cycle : List ℕ) → nth (m ∷ way) cycle 0 ≡ Some m

@@ -4,23 +4,23 @@ use Rattle.std.specs.Option.{option_map_or}
 use Rattle.aut_base.proofs.lists.Members.{placed_there, there_at}
 use Rattle.aut_base.proofs.runs.LassoRuns.{accepts_of}
 use Rattle.aut_base.specs.Acceptance.{Accepts, IsPath}
-use Rattle.aut_base.specs.Automaton.{Automaton, TreeEdge}
+use Rattle.aut_base.specs.Automaton.{Automaton, LabelledEdge}
 use Rattle.aut_base.specs.Formula.{met}
 use Rattle.aut_base.specs.Runs.{LassoRun}
 use Rattle.aut_base.specs.Word.{NameSet, copies}
 use Rattle.unambiguous.specs.Laws.{RunsAreAcceptance}
-use Rattle.unambiguous.specs.Runs.{AcceptingRun, IsTrack, marks_at}
+use Rattle.unambiguous.specs.Runs.{AcceptingRun, IsEdgePath, edge_marks}
 
-marks_here : (a : Automaton) (m : ℕ) (e : TreeEdge) → slice_get a.edges m ≡ Some e → e.marks ≡ marks_at a m
-marks_here a m e at = ap (λ (o : Option TreeEdge). option_map_or (λ (e : TreeEdge). e.marks) o []) (sym at)
+marks_here : (a : Automaton) (m : ℕ) (e : LabelledEdge) → slice_get a.edges m ≡ Some e → e.marks ≡ edge_marks a m
+marks_here a m e at = ap (λ (o : Option LabelledEdge). option_map_or (λ (e : LabelledEdge). e.marks) o []) (sym at)
 
 module _ (a : Automaton) where
-  pub record Placed (p q : ℕ) (xs : List NameSet) (es : List TreeEdge) : Type 0 where
+  pub record Placed (p q : ℕ) (xs : List NameSet) (es : List LabelledEdge) : Type 0 where
     pub places : List ℕ
-    pub track : IsTrack a p xs places q
-    pub marks : map (marks_at a) places ≡ map (λ (e : TreeEdge). e.marks) es
+    pub track : IsEdgePath a p xs places q
+    pub marks : map (edge_marks a) places ≡ map (λ (e : LabelledEdge). e.marks) es
 
-  pub placed : (p q : ℕ) (xs : List NameSet) (es : List TreeEdge) → IsPath a p xs es q → Placed p q xs es
+  pub placed : (p q : ℕ) (xs : List NameSet) (es : List LabelledEdge) → IsPath a p xs es q → Placed p q xs es
   placed p q [] [] path = record { places = []; track = path; marks = refl }
   placed p q [] (e ∷ es) path = absurd path
   placed p q (x ∷ xs) [] path = absurd path
@@ -30,15 +30,15 @@ module _ (a : Automaton) where
       record {
         places = at.0 ∷ rest.places;
         track = (e, at.1, path.0, path.2, rest.track);
-        marks = ap (λ ms. ms ∷ map (marks_at a) rest.places) (sym (marks_here a at.0 e at.1)) ∙ ap (λ cs. e.marks ∷ cs) rest.marks;
+        marks = ap (λ ms. ms ∷ map (edge_marks a) rest.places) (sym (marks_here a at.0 e at.1)) ∙ ap (λ cs. e.marks ∷ cs) rest.marks;
       }
 
   pub record Gone (p q : ℕ) (xs : List NameSet) (ms : List ℕ) : Type 0 where
-    pub edges : List TreeEdge
+    pub edges : List LabelledEdge
     pub path : IsPath a p xs edges q
-    pub marks : map (λ (e : TreeEdge). e.marks) edges ≡ map (marks_at a) ms
+    pub marks : map (λ (e : LabelledEdge). e.marks) edges ≡ map (edge_marks a) ms
 
-  pub gone : (p q : ℕ) (xs : List NameSet) (ms : List ℕ) → IsTrack a p xs ms q → Gone p q xs ms
+  pub gone : (p q : ℕ) (xs : List NameSet) (ms : List ℕ) → IsEdgePath a p xs ms q → Gone p q xs ms
   gone p q [] [] track = record { edges = []; path = track; marks = refl }
   gone p q [] (m ∷ ms) track = absurd track
   gone p q (x ∷ xs) [] track = absurd track
@@ -48,7 +48,7 @@ module _ (a : Automaton) where
       record {
         edges = e ∷ rest.edges;
         path = (track.2, placed_there a.edges m e track.1, track.3, rest.path);
-        marks = ap (λ cs. e.marks ∷ cs) rest.marks ∙ ap (λ ns. ns ∷ map (marks_at a) ms) (marks_here a m e track.1);
+        marks = ap (λ cs. e.marks ∷ cs) rest.marks ∙ ap (λ ns. ns ∷ map (edge_marks a) ms) (marks_here a m e track.1);
       }
 
   to_run : (u v : List NameSet) → Accepts a u v → AcceptingRun a u v

@@ -5,13 +5,13 @@ use Rattle.std.proofs.lemmas.Bool.{cases_lt}
 use Rattle.std.proofs.lemmas.Option.{get_or_from_slice_get, same_Some, slice_get_within}
 use Rattle.std.specs.FinSet.{empty}
 use Rattle.aut_base.proofs.lists.Members.{first_there, there_at}
-use Rattle.aut_base.specs.Automaton.{Automaton, TreeEdge}
+use Rattle.aut_base.specs.Automaton.{Automaton, LabelledEdge}
 use Rattle.aut_base.specs.Label.{holds_at, truth}
 use Rattle.aut_base.specs.Word.{NameSet, copies, nth}
 use Rattle.aut_core.specs.Deterministic.{IsDeterministic}
 use Rattle.unambiguous.proofs.tracks.Tracks.{later, run_of}
-use Rattle.unambiguous.specs.Laws.{DeterministicIsUnambiguous, TwiceIsAmbiguous, turn, twice}
-use Rattle.unambiguous.specs.Runs.{AcceptingRun, IsTrack}
+use Rattle.unambiguous.specs.Laws.{DeterministicIsUnambiguous, TwiceIsAmbiguous, self_loop, twice}
+use Rattle.unambiguous.specs.Runs.{AcceptingRun, IsEdgePath}
 
 module _ (a : Automaton) (det : IsDeterministic a) where
   -- at most one start
@@ -23,7 +23,7 @@ module _ (a : Automaton) (det : IsDeterministic a) where
       same_Some p q (sym here.1 ∙ (ap (slice_get a.starts) place ∙ there.1))
 
   -- and one place that can be gone from a state at a letter
-  one_place : (m n : ℕ) (f g : TreeEdge) (x : NameSet) → slice_get a.edges m ≡ Some f → slice_get a.edges n ≡ Some g → f.from ≡ g.from → truth (holds_at a.names x) f.label ≡ true
+  one_place : (m n : ℕ) (f g : LabelledEdge) (x : NameSet) → slice_get a.edges m ≡ Some f → slice_get a.edges n ≡ Some g → f.from ≡ g.from → truth (holds_at a.names x) f.label ≡ true
       → truth (holds_at a.names x) g.label ≡ true → m ≡ n
   one_place m n f g x at there from first second = elim (cases_lt m n) [
     | inl before ↦ absurd (clash m n f g at there before from first second)
@@ -33,19 +33,19 @@ module _ (a : Automaton) (det : IsDeterministic a) where
     ]
   ]
     where
-      clash : (m n : ℕ) (f g : TreeEdge) → slice_get a.edges m ≡ Some f → slice_get a.edges n ≡ Some g → m < n → f.from ≡ g.from → truth (holds_at a.names x) f.label ≡ true
+      clash : (m n : ℕ) (f g : LabelledEdge) → slice_get a.edges m ≡ Some f → slice_get a.edges n ≡ Some g → m < n → f.from ≡ g.from → truth (holds_at a.names x) f.label ≡ true
           → truth (holds_at a.names x) g.label ≡ true → ⊥
       clash m n f g at there before from first second =
           let is_first : get_or a.edges m f ≡ f = get_or_from_slice_get a.edges m f f at in
           let is_second : get_or a.edges n f ≡ g = get_or_from_slice_get a.edges n g f there in
-          det.edges m n f before (slice_get_within a.edges n g there) (ap (λ (e : TreeEdge). e.from) is_first ∙ (from ∙ sym (ap (λ (e : TreeEdge). e.from) is_second))) x
-          (ap (λ (e : TreeEdge). truth (holds_at a.names x) e.label) is_first ∙ first) (ap (λ (e : TreeEdge). truth (holds_at a.names x) e.label) is_second ∙ second)
+          det.edges m n f before (slice_get_within a.edges n g there) (ap (λ (e : LabelledEdge). e.from) is_first ∙ (from ∙ sym (ap (λ (e : LabelledEdge). e.from) is_second))) x
+          (ap (λ (e : LabelledEdge). truth (holds_at a.names x) e.label) is_first ∙ first) (ap (λ (e : LabelledEdge). truth (holds_at a.names x) e.label) is_second ∙ second)
 
   record Same (ms ns : List ℕ) (q r : ℕ) : Type 0 where
     places : ms ≡ ns
     ends : q ≡ r
 
-  same : (p q r : ℕ) (xs : List NameSet) (ms ns : List ℕ) → IsTrack a p xs ms q → IsTrack a p xs ns r → Same ms ns q r
+  same : (p q r : ℕ) (xs : List NameSet) (ms ns : List ℕ) → IsEdgePath a p xs ms q → IsEdgePath a p xs ns r → Same ms ns q r
   same p q r [] [] [] one two = record { places = refl; ends = sym one ∙ two }
   same p q r [] [] (n ∷ ns) one two = absurd two
   same p q r [] (m ∷ ms) ns one two = absurd one
@@ -54,7 +54,7 @@ module _ (a : Automaton) (det : IsDeterministic a) where
   same p q r (x ∷ xs) (m ∷ ms) (n ∷ ns) one two =
       let place : m ≡ n = one_place m n one.0 two.0 x one.1 two.1 (sym one.2 ∙ two.2) one.3 two.3 in
       let edge : one.0 ≡ two.0 = same_Some one.0 two.0 (sym one.1 ∙ (ap (slice_get a.edges) place ∙ two.1)) in
-      let rest = same two.0.to q r xs ms ns (subst (λ (e : TreeEdge). IsTrack a e.to xs ms q) edge one.4) two.4 in
+      let rest = same two.0.to q r xs ms ns (subst (λ (e : LabelledEdge). IsEdgePath a e.to xs ms q) edge one.4) two.4 in
       record { places = ap (λ k. k ∷ ms) place ∙ ap (λ ks. n ∷ ks) rest.places; ends = rest.ends }
 
   unambiguous : (u v : List NameSet) → 0 < length v → (r t : AcceptingRun a u v) (n : ℕ) → nth r.way r.cycle n ≡ nth t.way t.cycle n
@@ -64,18 +64,18 @@ module _ (a : Automaton) (det : IsDeterministic a) where
       let turns : t.turns + r.turns ≡ r.turns + t.turns = omega arith in
       let rounds : r.rounds * t.rounds ≡ t.rounds * r.rounds = mul_comm r.rounds t.rounds in
       let start : his.run.start ≡ mine.run.start = one_start his.run.start mine.run.start his.run.is_start mine.run.is_start in
-      let leads : IsTrack a mine.run.start (u ++ copies (r.turns + t.turns) v) his.run.way his.run.state = subst (λ p. IsTrack a p (u ++ copies (r.turns + t.turns) v) his.run.way his.run.state)
-      start (subst (λ k. IsTrack a his.run.start (u ++ copies k v) his.run.way his.run.state) turns his.run.leads) in
+      let leads : IsEdgePath a mine.run.start (u ++ copies (r.turns + t.turns) v) his.run.way his.run.state = subst (λ p. IsEdgePath a p (u ++ copies (r.turns + t.turns) v) his.run.way his.run.state)
+      start (subst (λ k. IsEdgePath a his.run.start (u ++ copies k v) his.run.way his.run.state) turns his.run.leads) in
       let ways = same mine.run.start mine.run.state his.run.state (u ++ copies (r.turns + t.turns) v) mine.run.way his.run.way mine.run.leads leads in
-      let returns : IsTrack a mine.run.state (copies (t.rounds * r.rounds) v) his.run.cycle his.run.state = subst (λ p. IsTrack a p (copies (t.rounds * r.rounds) v) his.run.cycle his.run.state)
-      (sym ways.ends) (subst (λ k. IsTrack a his.run.state (copies k v) his.run.cycle his.run.state) rounds his.run.returns) in
+      let returns : IsEdgePath a mine.run.state (copies (t.rounds * r.rounds) v) his.run.cycle his.run.state = subst (λ p. IsEdgePath a p (copies (t.rounds * r.rounds) v) his.run.cycle his.run.state)
+      (sym ways.ends) (subst (λ k. IsEdgePath a his.run.state (copies k v) his.run.cycle his.run.state) rounds his.run.returns) in
       let cycles = same mine.run.state mine.run.state his.run.state (copies (t.rounds * r.rounds) v) mine.run.cycle his.run.cycle mine.run.returns returns in
       sym (mine.same n) ∙ (ap (λ ws. nth ws mine.run.cycle n) ways.places ∙ (ap (λ cs. nth his.run.way cs n) cycles.places ∙ his.same n))
 
 pub deterministic_is_unambiguous : DeterministicIsUnambiguous
 deterministic_is_unambiguous a det = unambiguous a det
 
-abbrev round_at : (x : NameSet) (m : ℕ) → slice_get twice.edges m ≡ Some turn → AcceptingRun twice [] (x ∷ [])
+abbrev round_at : (x : NameSet) (m : ℕ) → slice_get twice.edges m ≡ Some self_loop → AcceptingRun twice [] (x ∷ [])
 round_at x m at = record {
   start = 0;
   state = 0;
@@ -86,7 +86,7 @@ round_at x m at = record {
   is_start = first_there 0 [];
   leads = refl;
   positive = omega arith;
-  returns = (turn, at, refl, refl, refl);
+  returns = (self_loop, at, refl, refl, refl);
   meets = refl;
 }
 

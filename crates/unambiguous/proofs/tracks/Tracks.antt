@@ -11,17 +11,17 @@ use Rattle.aut_base.specs.Automaton.{Automaton}
 use Rattle.aut_base.specs.Formula.{FormulaTree, met}
 use Rattle.aut_base.specs.Word.{NameSet, copies, nth}
 use Rattle.unambiguous.proofs.tracks.Nth.{nth_copies, nth_turned}
-use Rattle.unambiguous.specs.Runs.{AcceptingRun, IsTrack, marks_at}
+use Rattle.unambiguous.specs.Runs.{AcceptingRun, IsEdgePath, edge_marks}
 
 module _ (a : Automaton) where
-  pub as_long : (p : ℕ) (xs : List NameSet) (ms : List ℕ) (q : ℕ) → IsTrack a p xs ms q → length ms ≡ length xs
+  pub as_long : (p : ℕ) (xs : List NameSet) (ms : List ℕ) (q : ℕ) → IsEdgePath a p xs ms q → length ms ≡ length xs
   as_long p [] [] q track = refl
   as_long p [] (m ∷ ms) q track = absurd track
   as_long p (x ∷ xs) [] q track = absurd track
   as_long p (x ∷ xs) (m ∷ ms) q track = ap suc (as_long track.0.to xs ms q track.4)
 
-  pub track_join : (p r q : ℕ) (xs ys : List NameSet) (ms ns : List ℕ) → IsTrack a p xs ms r → IsTrack a r ys ns q → IsTrack a p (xs ++ ys) (ms ++ ns) q
-  track_join p r q [] ys [] ns first second = let P : ℕ → Type 0 = λ s. IsTrack a s ys ns q in subst P (sym first) second
+  pub track_join : (p r q : ℕ) (xs ys : List NameSet) (ms ns : List ℕ) → IsEdgePath a p xs ms r → IsEdgePath a r ys ns q → IsEdgePath a p (xs ++ ys) (ms ++ ns) q
+  track_join p r q [] ys [] ns first second = let P : ℕ → Type 0 = λ s. IsEdgePath a s ys ns q in subst P (sym first) second
   track_join p r q [] ys (m ∷ ms) ns first second = absurd first
   track_join p r q (x ∷ xs) ys [] ns first second = absurd first
   track_join p r q (x ∷ xs) ys (m ∷ ms) ns first second = (first.0, first.1, first.2, first.3, track_join first.0.to r q xs ys ms ns first.4 second)
@@ -31,10 +31,10 @@ module _ (a : Automaton) where
     pub front : List ℕ
     pub back : List ℕ
     pub parts : ms ≡ front ++ back
-    pub first : IsTrack a p xs front middle
-    pub second : IsTrack a middle ys back q
+    pub first : IsEdgePath a p xs front middle
+    pub second : IsEdgePath a middle ys back q
 
-  pub track_split : (p q : ℕ) (xs ys : List NameSet) (ms : List ℕ) → IsTrack a p (xs ++ ys) ms q → Halves p q xs ys ms
+  pub track_split : (p q : ℕ) (xs ys : List NameSet) (ms : List ℕ) → IsEdgePath a p (xs ++ ys) ms q → Halves p q xs ys ms
   track_split p q [] ys ms track = record { middle = p; front = []; back = ms; parts = refl; first = refl; second = track }
   track_split p q (x ∷ xs) ys [] track = absurd track
   track_split p q (x ∷ xs) ys (m ∷ ms) track =
@@ -48,7 +48,7 @@ module _ (a : Automaton) where
         second = rest.second;
       }
 
-  track_copies : (q k : ℕ) (xs : List NameSet) (ms : List ℕ) → IsTrack a q xs ms q → IsTrack a q (copies k xs) (copies k ms) q
+  track_copies : (q k : ℕ) (xs : List NameSet) (ms : List ℕ) → IsEdgePath a q xs ms q → IsEdgePath a q (copies k xs) (copies k ms) q
   track_copies q zero xs ms track = refl
   track_copies q (suc k) xs ms track = track_join q q q xs (copies k xs) ms (copies k ms) track (track_copies q k xs ms track)
 
@@ -59,8 +59,8 @@ module _ (a : Automaton) where
     pub way : List ℕ
     pub cycle : List ℕ
     pub is_start : Contains a.starts start
-    pub leads : IsTrack a start (u ++ copies turns v) way state
-    pub returns : IsTrack a state (copies rounds v) cycle state
+    pub leads : IsEdgePath a start (u ++ copies turns v) way state
+    pub returns : IsEdgePath a state (copies rounds v) cycle state
 
   abbrev pub run_of : (u v : List NameSet) (r : AcceptingRun a u v) → Run u v r.turns r.rounds
   run_of u v r = record { start = r.start; state = r.state; way = r.way; cycle = r.cycle; is_start = r.is_start; leads = r.leads; returns = r.returns }
@@ -68,7 +68,7 @@ module _ (a : Automaton) where
   -- a run along the same edges, whose cycle meets the same conditions
   pub record Likewise (u v : List NameSet) (turns rounds : ℕ) (way cycle : List ℕ) : Type 0 where
     pub run : Run u v turns rounds
-    pub alike : (f : FormulaTree) → met (map (marks_at a) run.cycle) f ≡ met (map (marks_at a) cycle) f
+    pub alike : (f : FormulaTree) → met (map (edge_marks a) run.cycle) f ≡ met (map (edge_marks a) cycle) f
     pub same : (n : ℕ) → nth run.way run.cycle n ≡ nth way cycle n
 
   swapped_alike : {A : Type 0} (xs ys : List A) → Alike (ys ++ xs) (xs ++ ys)
@@ -77,14 +77,14 @@ module _ (a : Automaton) where
     each = λ p. list_all-append p ys xs ∙ (and_comm (list_all p ys) (list_all p xs) ∙ sym (list_all-append p xs ys));
   }
 
-  swapped : (xs ys ms : List ℕ) → ms ≡ xs ++ ys → (f : FormulaTree) → met (map (marks_at a) (ys ++ xs)) f ≡ met (map (marks_at a) ms) f
+  swapped : (xs ys ms : List ℕ) → ms ≡ xs ++ ys → (f : FormulaTree) → met (map (edge_marks a) (ys ++ xs)) f ≡ met (map (edge_marks a) ms) f
   swapped xs ys ms parts f =
-      ap (λ cs. met cs f) (map-append (marks_at a) ys xs)
-      ∙ (met_alike (map (marks_at a) ys ++ map (marks_at a) xs) (map (marks_at a) xs ++ map (marks_at a) ys) (swapped_alike (map (marks_at a) xs) (map (marks_at a) ys)) f
-      ∙ ap (λ cs. met cs f) (sym (map-append (marks_at a) xs ys) ∙ ap (map (marks_at a)) (sym parts)))
+      ap (λ cs. met cs f) (map-append (edge_marks a) ys xs)
+      ∙ (met_alike (map (edge_marks a) ys ++ map (edge_marks a) xs) (map (edge_marks a) xs ++ map (edge_marks a) ys) (swapped_alike (map (edge_marks a) xs) (map (edge_marks a) ys)) f
+      ∙ ap (λ cs. met cs f) (sym (map-append (edge_marks a) xs ys) ∙ ap (map (edge_marks a)) (sym parts)))
 
   module _ (u v : List NameSet) (endless : 0 < length v) where
-    pub some_edges : (p q k : ℕ) (ms : List ℕ) → 0 < k → IsTrack a p (copies k v) ms q → 0 < length ms
+    pub some_edges : (p q k : ℕ) (ms : List ℕ) → 0 < k → IsEdgePath a p (copies k v) ms q → 0 < length ms
     some_edges p q k ms positive track = omega (arith, as_long p (copies k v) ms q track, length-copies k v, mul-lt 0 0 k (length v) positive endless)
 
     -- the cycle is read once more before the run closes
@@ -93,8 +93,8 @@ module _ (a : Automaton) where
     one_turn turns (suc k) r some =
         let parts = track_split r.state r.state v (copies k v) r.cycle r.returns in
         let word : (u ++ copies turns v) ++ v ≡ u ++ copies (suc turns) v = append_assoc u (copies turns v) v ∙ ap (λ w. u ++ w) (copies-push turns v) in
-        let P : List NameSet → Type 0 = λ w. IsTrack a r.start w (r.way ++ parts.front) parts.middle in
-        let Q : List NameSet → Type 0 = λ w. IsTrack a parts.middle w (parts.back ++ parts.front) parts.middle in
+        let P : List NameSet → Type 0 = λ w. IsEdgePath a r.start w (r.way ++ parts.front) parts.middle in
+        let Q : List NameSet → Type 0 = λ w. IsEdgePath a parts.middle w (parts.back ++ parts.front) parts.middle in
         let long : 0 < length (parts.front ++ parts.back) = subst (λ (ms : List ℕ). 0 < length ms) parts.parts (some_edges r.state r.state (suc k) r.cycle some r.returns) in
         record {
           run = record {
@@ -124,7 +124,7 @@ module _ (a : Automaton) where
 
     more_rounds : (turns rounds k : ℕ) (r : Run u v turns rounds) → 0 < rounds → 0 < k → Likewise u v turns (k * rounds) r.way r.cycle
     more_rounds turns rounds k r positive some =
-        let P : List NameSet → Type 0 = λ w. IsTrack a r.state w (copies k r.cycle) r.state in
+        let P : List NameSet → Type 0 = λ w. IsEdgePath a r.state w (copies k r.cycle) r.state in
         record {
           run = record {
             start = r.start;
@@ -135,7 +135,7 @@ module _ (a : Automaton) where
             leads = r.leads;
             returns = subst P (copies-copies k rounds v) (track_copies r.state k (copies rounds v) r.cycle r.returns);
           };
-          alike = met_alike (map (marks_at a) (copies k r.cycle)) (map (marks_at a) r.cycle) (gone_alike (marks_at a) k r.cycle some);
+          alike = met_alike (map (edge_marks a) (copies k r.cycle)) (map (edge_marks a) r.cycle) (gone_alike (edge_marks a) k r.cycle some);
           same = λ n. nth_copies r.way r.cycle k n some (some_edges r.state r.state rounds r.cycle positive r.returns);
         }
 

@@ -7,9 +7,9 @@ use Rattle.word_syntax.proofs.grammar.InLetters.{letter_taken}
 use Rattle.word_syntax.proofs.grammar.LetterRuns.{awaiting, ended}
 use Rattle.word_syntax.proofs.grammar.NamePlaces.{names_of-append}
 use Rattle.word_syntax.proofs.grammar.Runs.{runs_then}
-use Rattle.word_syntax.specs.inner.Runs.{Runs}
+use Rattle.word_syntax.specs.inner.Runs.{RunsTokens}
 use Rattle.word_syntax.proofs.grammar.WordParts.{word}
-use Rattle.word_syntax.specs.Grammar.{names_of}
+use Rattle.word_syntax.specs.Grammar.{token_names}
 use Rattle.word_syntax.specs.inner.Machine.{LetterState, LevelTree, WordState, complete_level, has_letters, is_of_letter, letter_step, level_label, with_letter, word_step}
 use Rattle.word_syntax.specs.declared.stage.Stage.{Stage}
 use Rattle.word_syntax.specs.declared.stage.Stage.TheVariants.{Stem, Brace, Cycle, End}
@@ -35,8 +35,8 @@ of_letter place s next token.LeftBrace e = absurd (none_anyway s.ready next e)
 of_letter place s next token.RightBrace e = absurd (none_anyway s.ready next e)
 
 -- what a letter's reader does, a word's reader does within its letter
-pub lifted : (place : List ℕ → ℕ) (s : WordState) (a b : LetterState) (w : List Token) → has_letters s.stage ≡ true → Runs (letter_step place) a w b
-    → Runs (word_step place) (with_letter s a) w (with_letter s b)
+pub lifted : (place : List ℕ → ℕ) (s : WordState) (a b : LetterState) (w : List Token) → has_letters s.stage ≡ true → RunsTokens (letter_step place) a w b
+    → RunsTokens (word_step place) (with_letter s a) w (with_letter s b)
 lifted place s a b [] has runs = ap (with_letter s) runs
 lifted place s a b (t ∷ w) has runs =
     (with_letter s runs.0, letter_taken place (with_letter s a) t (Some runs.0) (of_letter place a runs.0 t runs.1) has runs.1, lifted place s runs.0 b w has runs.2)
@@ -50,8 +50,8 @@ parens (l ∷ ls) = token.RightParen ∷ parens ls
 pub record LetterEnd (place : List ℕ → ℕ) (s : LetterState) : Type 0 where
   pub more : List Token
   pub inner : LevelTree
-  pub runs : Runs (letter_step place) s more (ended [] inner)
-  pub nameless : names_of more ≡ []
+  pub runs : RunsTokens (letter_step place) s more (ended [] inner)
+  pub nameless : token_names more ≡ []
 
 close_all : (place : List ℕ → ℕ) (o : List LevelTree) (l : LevelTree) → LetterEnd place (ended o l)
 close_all place [] l = record { more = []; inner = l; runs = refl; nameless = refl }
@@ -72,12 +72,12 @@ letter_end place s = letter_end_at place s.outer s.level s.ready
 pub record WordEnd (place : List ℕ → ℕ) (s : WordState) : Type 0 where
   pub more : List Token
   pub last : WordState
-  pub runs : Runs (word_step place) s more last
+  pub runs : RunsTokens (word_step place) s more last
   pub stage : last.stage ≡ End
-  pub nameless : names_of more ≡ []
+  pub nameless : token_names more ≡ []
 
-nameless_then : (v w : List Token) → names_of v ≡ [] → names_of w ≡ [] → names_of (v ++ w) ≡ []
-nameless_then v w e f = names_of-append v w ∙ (ap (λ (x : List (List ℕ)). x ++ names_of w) e ∙ f)
+nameless_then : (v w : List Token) → token_names v ≡ [] → token_names w ≡ [] → token_names (v ++ w) ≡ []
+nameless_then v w e f = names_of-append v w ∙ (ap (λ (x : List (List ℕ)). x ++ token_names w) e ∙ f)
 
 end_cycle : (place : List ℕ → ℕ) (stem cycle : List LabelTree) (l : LetterState) → WordEnd place (word stem cycle Cycle l)
 end_cycle place stem cycle l =

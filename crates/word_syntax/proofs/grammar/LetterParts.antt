@@ -9,10 +9,10 @@ use Rattle.aut_base.specs.CanonicalLabel.{all_of}
 use Rattle.aut_base.specs.Label as label
 use Rattle.aut_base.specs.Label.{LabelTree}
 use Rattle.word_syntax.proofs.grammar.LetterRuns.{awaiting, ended, level}
-use Rattle.word_syntax.specs.Grammar.{AreConjunctions, AreOperands, IsConjunction, IsLetter, IsOperand, alternative, always, either, group, joined}
+use Rattle.word_syntax.specs.Grammar.{AreConjunctions, AreConjuncts, IsConjunction, IsLetter, IsOperand, alternative, always, either, group, joined}
 use Rattle.word_syntax.specs.Grammar.{negated, never, no_conjunction, no_operand, operand, proposition}
 use Rattle.word_syntax.specs.inner.Machine as machine
-use Rattle.word_syntax.specs.inner.Machine.{LetterState, LevelTree, complete_level, fresh_level, has_room, letter_step, level_label, nots_on}
+use Rattle.word_syntax.specs.inner.Machine.{LetterState, LevelTree, complete_level, fresh_level, may_nest, letter_step, level_label, nots_on}
 use Rattle.word_syntax.specs.declared.token.Token.{Token}
 use Rattle.word_syntax.specs.declared.token.Token.TheVariants as token
 
@@ -45,7 +45,7 @@ pub record IsBegun (names : List (List ℕ)) (l : LevelTree) (w : List Token) : 
   pub room_is : l.around + room ≡ MOST_DEPTH
   pub fits : l.nots ≤ room
   pub ors : AreConjunctions names room ors_tokens l.ors
-  pub ands : AreOperands names room ands_tokens l.ands
+  pub ands : AreConjuncts names room ands_tokens l.ands
   pub spelled : w ≡ ors_tokens ++ (ands_tokens ++ nots l.nots)
 
 -- the tokens of a level at which an operand has just ended
@@ -59,7 +59,7 @@ pub record IsEnded (names : List (List ℕ)) (l : LevelTree) (w : List Token) : 
   pub room_is : l.around + room ≡ MOST_DEPTH
   pub no_nots : l.nots ≡ 0
   pub ors : AreConjunctions names room ors_tokens l.ors
-  pub ands : AreOperands names room ands_tokens parts
+  pub ands : AreConjuncts names room ands_tokens parts
   pub operand : IsOperand names room last_tokens last
   pub all : l.ands ≡ parts ++ last ∷ []
   pub spelled : w ≡ ors_tokens ++ (ands_tokens ++ last_tokens)
@@ -111,7 +111,7 @@ level_complete names l u w t begun one = record {
 }
 
 -- `!`
-level_negated : (names : List (List ℕ)) (l : LevelTree) (u : List Token) → has_room l ≡ true → IsBegun names l u → IsBegun names (level l.around l.ors l.ands (l.nots + 1)) (u ++ token.Not ∷ [])
+level_negated : (names : List (List ℕ)) (l : LevelTree) (u : List Token) → may_nest l ≡ true → IsBegun names l u → IsBegun names (level l.around l.ors l.ands (l.nots + 1)) (u ++ token.Not ∷ [])
 level_negated names l u may begun =
     let one : l.nots + 1 ≡ suc l.nots = omega arith in
     let below : l.around + l.nots < MOST_DEPTH = ltb-true _ _ may in
@@ -174,14 +174,14 @@ part_operand names o l v w u t outer begun one = record { outer_tokens = v; leve
 part_negated : (names : List (List ℕ)) (o : List LevelTree) (l : LevelTree) (s : LetterState) (v u : List Token) → Surrounds names o l.around v → IsBegun names l u
     → machine.maybe_negated (awaiting o l) ≡ Some s → IsPart names s ((v ++ u) ++ token.Not ∷ [])
 part_negated names o l s v u outer begun step =
-    let may = cond_some (has_room l) (machine.negated (awaiting o l)) s step in
+    let may = cond_some (may_nest l) (machine.negated (awaiting o l)) s step in
     subst (λ (x : LetterState). IsPart names x ((v ++ u) ++ token.Not ∷ [])) may.1
     (record { outer_tokens = v; level_tokens = u ++ token.Not ∷ []; outer = outer; inner = level_negated names l u may.0 begun; spelled = append_assoc v u (token.Not ∷ []) })
 
 part_opened : (names : List (List ℕ)) (o : List LevelTree) (l : LevelTree) (s : LetterState) (v u : List Token) → Surrounds names o l.around v → IsBegun names l u
     → machine.maybe_opened (awaiting o l) ≡ Some s → IsPart names s ((v ++ u) ++ token.LeftParen ∷ [])
 part_opened names o l s v u outer begun step =
-    let may = cond_some (has_room l) (machine.opened (awaiting o l)) s step in
+    let may = cond_some (may_nest l) (machine.opened (awaiting o l)) s step in
     let below : l.around + l.nots < MOST_DEPTH = ltb-true _ _ may.0 in
     subst (λ (x : LetterState). IsPart names x ((v ++ u) ++ token.LeftParen ∷ [])) may.1 (record {
       outer_tokens = (v ++ u) ++ token.LeftParen ∷ [];

@@ -6,11 +6,11 @@ use Rattle.aut_base.specs.CanonicalLabel.{all_of, one_of}
 use Rattle.aut_base.specs.Label as label
 use Rattle.aut_base.specs.Label.{LabelTree}
 use Rattle.word_syntax.proofs.grammar.Runs.{runs_over, runs_push, runs_then, runs_to}
-use Rattle.word_syntax.specs.inner.Runs.{Runs}
-use Rattle.word_syntax.specs.Grammar.{AreConjunctions, AreOperands, IsConjunction, IsLetter, IsOperand, alternative, always, either, group, joined}
+use Rattle.word_syntax.specs.inner.Runs.{RunsTokens}
+use Rattle.word_syntax.specs.Grammar.{AreConjunctions, AreConjuncts, IsConjunction, IsLetter, IsOperand, alternative, always, either, group, joined}
 use Rattle.word_syntax.specs.Grammar.{negated, never, no_conjunction, no_operand, operand, proposition}
 use Rattle.word_syntax.specs.inner.Chains.{Agrees}
-use Rattle.word_syntax.specs.inner.Machine.{LetterState, LevelTree, complete_level, fresh_level, has_room, letter_step, level_label, nots_on}
+use Rattle.word_syntax.specs.inner.Machine.{LetterState, LevelTree, complete_level, fresh_level, may_nest, letter_step, level_label, nots_on}
 use Rattle.word_syntax.specs.declared.token.Token.{Token}
 use Rattle.word_syntax.specs.declared.token.Token.TheVariants as token
 
@@ -28,16 +28,16 @@ level around ors ands nots = record { around = around; ors = ors; ands = ands; n
 -- a conjunction is read at a level with these whole parts of its disjunction
 pub record ReadsConjunction (step : LetterState → Token → Option LetterState) (o : List LevelTree) (around : ℕ) (ors : List LabelTree) (w : List Token) (t : LabelTree) : Type 0 where
   pub ands : List LabelTree
-  pub runs : Runs step (awaiting o (level around ors [] 0)) w (ended o (level around ors ands 0))
+  pub runs : RunsTokens step (awaiting o (level around ors [] 0)) w (ended o (level around ors ands 0))
   pub says : all_of ands ≡ t
 
 -- a letter is read from its beginning
 pub record ReadsLetter (step : LetterState → Token → Option LetterState) (o : List LevelTree) (around : ℕ) (w : List Token) (t : LabelTree) : Type 0 where
   pub inner : LevelTree
-  pub runs : Runs step (awaiting o (fresh_level around)) w (ended o inner)
+  pub runs : RunsTokens step (awaiting o (fresh_level around)) w (ended o inner)
   pub says : level_label inner ≡ t
 
-room_for : (l : LevelTree) (room : ℕ) → l.around + l.nots + suc room ≤ MOST_DEPTH → has_room l ≡ true
+room_for : (l : LevelTree) (room : ℕ) → l.around + l.nots + suc room ≤ MOST_DEPTH → may_nest l ≡ true
 room_for l room h = lt-ltb (l.around + l.nots) MOST_DEPTH (omega arith)
 
 may_negate : (place : List ℕ → ℕ) (o : List LevelTree) (l : LevelTree) (room : ℕ) → l.around + l.nots + suc room ≤ MOST_DEPTH
@@ -53,7 +53,7 @@ one_not l t = let e : l.nots + 1 ≡ suc l.nots = omega arith in ap (λ (n : ℕ
 
 mutual
   pub operand_runs : (place : List ℕ → ℕ) {names : List (List ℕ)} {room : ℕ} {w : List Token} {t : LabelTree} → Agrees place names → IsOperand names room w t
-      → (o : List LevelTree) (l : LevelTree) → l.around + l.nots + room ≤ MOST_DEPTH → Runs (letter_step place) (awaiting o l) w (ended o (complete_level l t))
+      → (o : List LevelTree) (l : LevelTree) → l.around + l.nots + room ≤ MOST_DEPTH → RunsTokens (letter_step place) (awaiting o l) w (ended o (complete_level l t))
   operand_runs place agrees always o l h = (ended o (complete_level l label.True), refl, refl)
   operand_runs place agrees never o l h = (ended o (complete_level l label.False), refl, refl)
   operand_runs place agrees (proposition name i stands) o l h =
@@ -70,8 +70,9 @@ mutual
         runs_push (letter_step place) _ _ _ w token.RightParen read.runs (ap (λ (x : LabelTree). Some (ended o (complete_level l x))) read.says),
       )
 
-  pub operands_run : (place : List ℕ → ℕ) {names : List (List ℕ)} {room : ℕ} {w : List Token} {ts : List LabelTree} → Agrees place names → AreOperands names room w ts
-      → (o : List LevelTree) (around : ℕ) (ors : List LabelTree) → around + room ≤ MOST_DEPTH → Runs (letter_step place) (awaiting o (level around ors [] 0)) w (awaiting o (level around ors ts 0))
+  pub operands_run : (place : List ℕ → ℕ) {names : List (List ℕ)} {room : ℕ} {w : List Token} {ts : List LabelTree} → Agrees place names → AreConjuncts names room w ts
+      → (o : List LevelTree) (around : ℕ) (ors : List LabelTree) → around + room ≤ MOST_DEPTH
+      → RunsTokens (letter_step place) (awaiting o (level around ors [] 0)) w (awaiting o (level around ors ts 0))
   operands_run place agrees no_operand o around ors h = refl
   operands_run place agrees (operand {v = v} {w = w} {u = u} {ts = ts} {us = us} {t = t} before one spelled parts) o around ors h =
       let first = operands_run place agrees before o around ors h in
@@ -92,7 +93,7 @@ mutual
       }
 
   pub conjunctions_run : (place : List ℕ → ℕ) {names : List (List ℕ)} {room : ℕ} {w : List Token} {ts : List LabelTree} → Agrees place names → AreConjunctions names room w ts
-      → (o : List LevelTree) (around : ℕ) → around + room ≤ MOST_DEPTH → Runs (letter_step place) (awaiting o (fresh_level around)) w (awaiting o (level around ts [] 0))
+      → (o : List LevelTree) (around : ℕ) → around + room ≤ MOST_DEPTH → RunsTokens (letter_step place) (awaiting o (fresh_level around)) w (awaiting o (level around ts [] 0))
   conjunctions_run place agrees no_conjunction o around h = refl
   conjunctions_run place agrees (alternative {v = v} {w = w} {u = u} {ts = ts} {us = us} {t = t} before one spelled parts) o around h =
       let first = conjunctions_run place agrees before o around h in

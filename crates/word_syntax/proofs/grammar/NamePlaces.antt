@@ -8,7 +8,7 @@ use Rattle.std.proofs.lemmas.Bool.{cases_Bool, cond-false, cond-true, not_from_f
 use Rattle.std.proofs.lemmas.List.{append_assoc, append-nil}
 use Rattle.std.proofs.lemmas.List.Elements.{All-contains, filter-append}
 use Rattle.std.proofs.lemmas.Option.{none-some, same_Some, slice_get_within}
-use Rattle.word_syntax.specs.Grammar.{distinct, names_of}
+use Rattle.word_syntax.specs.Grammar.{distinct, token_names}
 use Rattle.word_syntax.specs.inner.Chains.{Agrees, GrowsBy, NamesGo}
 use Rattle.word_syntax.proofs.grammar.LetterParts.{Knows}
 use Rattle.word_syntax.specs.declared.token.Token.{Token}
@@ -145,7 +145,7 @@ distinct_grows ns old new n is (inr (none, same)) =
     let lacks : Has n (distinct ns) → ⊥ = λ h. All-contains (λ other. other ≢ n) old n none (has_contains old n (subst (λ (x : List (List ℕ)). Has n x) (sym is) h)) refl in
     same ∙ (ap (λ (x : List (List ℕ)). x ++ n ∷ []) is ∙ sym ((mutual_push n ns).1 lacks))
 
-pub names_of-append : (v w : List Token) → names_of (v ++ w) ≡ names_of v ++ names_of w
+pub names_of-append : (v w : List Token) → token_names (v ++ w) ≡ token_names v ++ token_names w
 names_of-append [] w = refl
 names_of-append (token.Name n ∷ v) w = ap (λ (x : List (List ℕ)). n ∷ x) (names_of-append v w)
 names_of-append (token.True ∷ v) w = names_of-append v w
@@ -160,12 +160,13 @@ names_of-append (token.Cycle ∷ v) w = names_of-append v w
 names_of-append (token.LeftBrace ∷ v) w = names_of-append v w
 names_of-append (token.RightBrace ∷ v) w = names_of-append v w
 
-plain_go : (tokens : List Token) (old new : List (List ℕ)) (t : Token) → names_of (t ∷ []) ≡ [] → old ≡ distinct (names_of tokens) → new ≡ old → new ≡ distinct (names_of (tokens ++ t ∷ []))
-plain_go tokens old new t none is same = same ∙ (is ∙ ap distinct (sym (names_of-append tokens (t ∷ []) ∙ (ap (λ (x : List (List ℕ)). names_of tokens ++ x) none ∙ append-nil (names_of tokens)))))
+plain_go : (tokens : List Token) (old new : List (List ℕ)) (t : Token) → token_names (t ∷ []) ≡ [] → old ≡ distinct (token_names tokens) → new ≡ old → new ≡ distinct (token_names (tokens ++ t ∷ []))
+plain_go tokens old new t none is same = same
+    ∙ (is ∙ ap distinct (sym (names_of-append tokens (t ∷ []) ∙ (ap (λ (x : List (List ℕ)). token_names tokens ++ x) none ∙ append-nil (token_names tokens)))))
 
 -- the names after a token
-pub names_go : (tokens : List Token) (old new : List (List ℕ)) (t : Token) → old ≡ distinct (names_of tokens) → NamesGo t old new → new ≡ distinct (names_of (tokens ++ t ∷ []))
-names_go tokens old new (token.Name n) is go = distinct_grows (names_of tokens) old new n is go ∙ ap distinct (sym (names_of-append tokens (token.Name n ∷ [])))
+pub names_go : (tokens : List Token) (old new : List (List ℕ)) (t : Token) → old ≡ distinct (token_names tokens) → NamesGo t old new → new ≡ distinct (token_names (tokens ++ t ∷ []))
+names_go tokens old new (token.Name n) is go = distinct_grows (token_names tokens) old new n is go ∙ ap distinct (sym (names_of-append tokens (token.Name n ∷ [])))
 names_go tokens old new token.True is go = plain_go tokens old new token.True refl is go
 names_go tokens old new token.False is go = plain_go tokens old new token.False refl is go
 names_go tokens old new token.Not is go = plain_go tokens old new token.Not refl is go
@@ -193,11 +194,11 @@ pub agrees_front : (place : List ℕ → ℕ) (ns more : List (List ℕ)) → Ag
 agrees_front place ns more agrees i n e = agrees i n (slice_get-append_left ns more i (slice_get_within ns i n e) ∙ e)
 
 -- the names of tokens have places among the distinct ones
-pub knows_all : (v w : List Token) (t : Token) (all : List Token) → all ≡ v ++ (t ∷ w) → Knows (place_in (distinct (names_of all))) (distinct (names_of all)) t
+pub knows_all : (v w : List Token) (t : Token) (all : List Token) → all ≡ v ++ (t ∷ w) → Knows (place_in (distinct (token_names all))) (distinct (token_names all)) t
 knows_all v w (token.Name n) all e =
-    let there : Has n (names_of all) = subst (λ (x : List Token). Has n (names_of x)) (sym e)
-    (subst (λ (x : List (List ℕ)). Has n x) (sym (names_of-append v (token.Name n ∷ w))) (behind (names_of v) (names_of w) n)) in
-    place_stands (distinct (names_of all)) n (has_distinct n (names_of all) there)
+    let there : Has n (token_names all) = subst (λ (x : List Token). Has n (token_names x)) (sym e)
+    (subst (λ (x : List (List ℕ)). Has n x) (sym (names_of-append v (token.Name n ∷ w))) (behind (token_names v) (token_names w) n)) in
+    place_stands (distinct (token_names all)) n (has_distinct n (token_names all) there)
   where
     behind : (xs ys : List (List ℕ)) (n : List ℕ) → Has n (xs ++ (n ∷ ys))
     behind [] ys n = inl refl

@@ -8,7 +8,7 @@ use Rattle.std.specs.Option.{option_map}
 use Rattle.aut_base.specs.declared.limit.TheConstants.{MOST_DEPTH}
 use Rattle.aut_base.specs.Label.{LabelTree}
 use Rattle.word_syntax.proofs.grammar.LetterParts.{IsLevel, IsPart, Knows, Surrounds, level_letter, nots, part_fresh, part_step}
-use Rattle.word_syntax.specs.Grammar.{AreConjunctions, AreLetters, AreOperands, IsLetter, IsWord, alternative, distinct, letter, names_of, no_conjunction, no_letter, no_operand, operand}
+use Rattle.word_syntax.specs.Grammar.{AreConjunctions, AreLetters, AreConjuncts, IsLetter, IsWord, alternative, distinct, letter, token_names, no_conjunction, no_letter, no_operand, operand}
 use Rattle.word_syntax.specs.inner.Machine as machine
 use Rattle.word_syntax.specs.inner.Machine.{LetterState, LevelTree, WordState, is_fresh, is_none, is_of_letter, letter_step, level_label, whole_letter, with_letter, word_step}
 use Rattle.word_syntax.specs.declared.stage.Stage.{Stage}
@@ -28,7 +28,7 @@ no_conjunctions : {names : List (List ℕ)} {room : ℕ} {w : List Token} {ts : 
 no_conjunctions no_conjunction e = refl
 no_conjunctions (alternative {ts = ts} {us = us} {t = t} before one spelled parts) e = absurd (not_pushed ts us t e parts)
 
-no_operands : {names : List (List ℕ)} {room : ℕ} {w : List Token} {ts : List LabelTree} → AreOperands names room w ts → ts ≡ [] → w ≡ []
+no_operands : {names : List (List ℕ)} {room : ℕ} {w : List Token} {ts : List LabelTree} → AreConjuncts names room w ts → ts ≡ [] → w ≡ []
 no_operands no_operand e = refl
 no_operands (operand {ts = ts} {us = us} {t = t} before one spelled parts) e = absurd (not_pushed ts us t e parts)
 
@@ -98,7 +98,7 @@ pub record CyclePart (names : List (List ℕ)) (s : WordState) (tokens : List To
 
 -- behind the closing brace: a word, where the names are those of its tokens
 abbrev pub EndPart : List (List ℕ) → WordState → List Token → Type 0
-EndPart names s tokens = names ≡ distinct (names_of tokens) → IsWord tokens (record { names = names; stem = s.stem; cycle = s.cycle })
+EndPart names s tokens = names ≡ distinct (token_names tokens) → IsWord tokens (record { names = names; stem = s.stem; cycle = s.cycle })
 
 abbrev pub PartAt : Stage → List (List ℕ) → WordState → List Token → Type 0
 PartAt Stem names s tokens = StemPart names s tokens
@@ -124,7 +124,7 @@ five : (v a w : List Token) (x y z : Token) → (v ++ (x ∷ y ∷ (a ++ w))) ++
 five v a w x y z = simp (append_assoc, append-nil)
 
 semicolon_part : (names : List (List ℕ)) (stem cycle : List LabelTree) (stage : Stage) (l : LetterState) (next : WordState) (t : LabelTree) (tokens : List Token)
-    → IsWordPart names (word stem cycle stage l) tokens → whole_letter l ≡ Some t → machine.ended_at stage (word stem cycle stage l) t ≡ Some next
+    → IsWordPart names (word stem cycle stage l) tokens → whole_letter l ≡ Some t → machine.letter_ended stage (word stem cycle stage l) t ≡ Some next
     → IsWordPart names next (tokens ++ token.Semicolon ∷ [])
 semicolon_part names stem cycle Stem l next t tokens p whole step = part_at names _ next (tokens ++ token.Semicolon ∷ []) step (record {
   stem_tokens = p.stem_tokens ++ (p.letter_tokens ++ token.Semicolon ∷ []);
@@ -236,7 +236,7 @@ lettered_part place names stem cycle End l next t tokens knows p step = absurd (
 -- one token more
 pub word_part_step : (place : List ℕ → ℕ) (names : List (List ℕ)) (s next : WordState) (t : Token) (tokens : List Token) → Knows place names t → IsWordPart names s tokens
     → word_step place s t ≡ Some next → IsWordPart names next (tokens ++ t ∷ [])
-word_part_step place names s next token.Semicolon tokens knows p step = option_and_then_some (machine.ended_at s.stage s) (whole_letter s.letter) next step
+word_part_step place names s next token.Semicolon tokens knows p step = option_and_then_some (machine.letter_ended s.stage s) (whole_letter s.letter) next step
     (λ t whole e. semicolon_part names s.stem s.cycle s.stage s.letter next t tokens p whole e)
 word_part_step place names s next token.RightBrace tokens knows p step = option_and_then_some (machine.closed_at s.stage s) (whole_letter s.letter) next step
     (λ t whole e. brace_part names s.stem s.cycle s.stage s.letter next t tokens p whole e)

@@ -9,12 +9,12 @@ use Rattle.aut_base.proofs.words.LetterNames.{insert_pushed}
 use Rattle.aut_base.proofs.lists.Lists.{slice_get-at, take-push}
 use Rattle.aut_base.proofs.numbers.Truth.{same_truth}
 use Rattle.aut_base.specs.Word.{NameSet}
-use Rattle.word_syntax.specs.inner.Periods.{IsWithin}
+use Rattle.word_syntax.specs.inner.Periods.{IsSubset}
 
-pub letters_same : (a b : NameSet) → IsWithin a b → IsWithin b a → a ≡ b
+pub letters_same : (a b : NameSet) → IsSubset a b → IsSubset b a → a ≡ b
 letters_same a b f g = set.same_set nat_list_cmp_total (slice_cmp-IsAntisymmetric nat_cmp-IsAntisymmetric) a b (λ q. same_truth (set.contains a q) (set.contains b q) (f q) (g q))
 
-pub letters_within : (a b : NameSet) → a ≡ b → IsWithin a b
+pub letters_within : (a b : NameSet) → a ≡ b → IsSubset a b
 letters_within a b e name h = ap (λ (x : NameSet). set.contains x name) (sym e) ∙ h
 
 -- one name more is copied

@@ -6,7 +6,7 @@ use Rattle.aut_base.proofs.lists.AllByRecursion.{AllByRecursion-push}
 use Rattle.aut_base.proofs.canonical.CanonicalBelow.{all_of_below, one_of_below}
 use Rattle.aut_base.specs.CanonicalLabel.{all_of, one_of}
 use Rattle.aut_base.specs.Label.{AllBelow, LabelTree}
-use Rattle.word_syntax.specs.Grammar.{AreConjunctions, AreLetters, AreOperands, IsConjunction, IsLetter, IsOperand, IsWord, WordPattern, alternative}
+use Rattle.word_syntax.specs.Grammar.{AreConjunctions, AreLetters, AreConjuncts, IsConjunction, IsLetter, IsOperand, IsWord, WordPattern, alternative}
 use Rattle.word_syntax.specs.Grammar.{always, either, group, joined, letter, negated, never, no_conjunction, no_letter, no_operand, operand}
 use Rattle.word_syntax.specs.Grammar.{proposition}
 use Rattle.word_syntax.specs.declared.token.Token.{Token}
@@ -25,7 +25,7 @@ mutual
   operand_below (negated inner) = operand_below inner
   operand_below (group inner) = letter_below inner
 
-  operands_below : {names : List (List ℕ)} {room : ℕ} {w : List Token} {ts : List LabelTree} → AreOperands names room w ts → AllByRecursion (AllBelow (length names)) ts
+  operands_below : {names : List (List ℕ)} {room : ℕ} {w : List Token} {ts : List LabelTree} → AreConjuncts names room w ts → AllByRecursion (AllBelow (length names)) ts
   operands_below no_operand = tt
   operands_below (operand {names = names} {ts = ts} {us = us} {t = t} before one spelled parts) =
       all_along (length names) us (ts ++ t ∷ []) parts (AllByRecursion-push (AllBelow (length names)) ts t (operands_below before) (operand_below one))

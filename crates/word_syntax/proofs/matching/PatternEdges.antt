@@ -7,7 +7,7 @@ use Rattle.std.specs.List.{AllByRecursion}
 use Rattle.std.specs.List.Sorted.{IsNonDecreasing}
 use Rattle.aut_base.proofs.lists.AllByRecursion.{AllByRecursion-append}
 use Rattle.aut_base.proofs.lists.Lists.{take-push}
-use Rattle.aut_base.specs.Automaton.{Automaton, IsEdgeOf, IsWellFormed, TreeEdge, tree_edge}
+use Rattle.aut_base.specs.Automaton.{Automaton, IsEdgeOf, IsWellFormed, LabelledEdge, labelled_edge}
 use Rattle.aut_base.specs.Formula as formula
 use Rattle.aut_base.specs.Formula.{FormulaTree}
 use Rattle.aut_core.specs.OtherNames.{AcceptTheSame}
@@ -23,20 +23,21 @@ pub edges_then : (back total place : ℕ) (ts us : List LabelTree) → edges_alo
 edges_then back total place [] us = let z : place ≡ place + 0 = omega arith in ap (λ (n : ℕ). edges_along back total n us) z
 edges_then back total place (t ∷ ts) us =
     let z : place + 1 + length ts ≡ place + length (t ∷ ts) = omega arith in
-    ap (λ (es : List TreeEdge). edge_at back total place t ∷ es) (edges_then back total (place + 1) ts us ∙ ap (λ (n : ℕ). edges_along back total (place + 1) ts ++ edges_along back total n us) z)
+    ap (λ (es : List LabelledEdge). edge_at back total place t ∷ es) (edges_then back total (place + 1) ts us ∙ ap (λ (n : ℕ). edges_along back total (place + 1) ts ++ edges_along back total n us) z)
 
 -- one edge more
 pub edge_more : (back total place i : ℕ) (start before now : List Edge) (labels : List Label) (label : Label) (e : Edge) → i < length labels → label ≡ get_or labels i label
-    → length start ≡ place → map tree_edge before ≡ map tree_edge start ++ edges_along back total place (map label_tree (take i labels))
-    → tree_edge e ≡ edge_at back total (place + i) (label_tree label) → now ≡ before ++ e ∷ []
-    → map tree_edge now ≡ map tree_edge start ++ edges_along back total place (map label_tree (take (i + 1) labels))
+    → length start ≡ place → map labelled_edge before ≡ map labelled_edge start ++ edges_along back total place (map label_tree (take i labels))
+    → labelled_edge e ≡ edge_at back total (place + i) (label_tree label) → now ≡ before ++ e ∷ []
+    → map labelled_edge now ≡ map labelled_edge start ++ edges_along back total place (map label_tree (take (i + 1) labels))
 edge_more back total place i start before now labels label e within is first so_far edge added =
     let size : length (map label_tree (take i labels)) ≡ i = length-map (take i labels) label_tree ∙ length-take-le i labels (omega arith) in
     let more : map label_tree (take (i + 1) labels) ≡ map label_tree (take i labels) ++ label_tree label ∷ [] = ap (map label_tree) (take-push labels i label within is)
     ∙ map-append label_tree (take i labels) (label ∷ []) in
-    ap (map tree_edge) added ∙ (map-append tree_edge before (e ∷ [])
-    ∙ (ap (λ (es : List TreeEdge). es ++ tree_edge e ∷ []) so_far ∙ (append_assoc (map tree_edge start) (edges_along back total place (map label_tree (take i labels))) (tree_edge e ∷ [])
-    ∙ ap (λ (es : List TreeEdge). map tree_edge start ++ es) (ap (λ (f : TreeEdge). edges_along back total place (map label_tree (take i labels)) ++ f ∷ []) edge
+    ap (map labelled_edge) added ∙ (map-append labelled_edge before (e ∷ [])
+    ∙ (ap (λ (es : List LabelledEdge). es ++ labelled_edge e ∷ []) so_far
+    ∙ (append_assoc (map labelled_edge start) (edges_along back total place (map label_tree (take i labels))) (labelled_edge e ∷ [])
+    ∙ ap (λ (es : List LabelledEdge). map labelled_edge start ++ es) (ap (λ (f : LabelledEdge). edges_along back total place (map label_tree (take i labels)) ++ f ∷ []) edge
     ∙ (ap (λ (n : ℕ). edges_along back total place (map label_tree (take i labels)) ++ edge_at back total (place + n) (label_tree label) ∷ []) (sym size)
     ∙ (sym (edges_then back total place (map label_tree (take i labels)) (label_tree label ∷ [])) ∙ ap (edges_along back total place) (sym more)))))))
 
@@ -95,16 +96,17 @@ made_edge back total place from to t u marks e f g h =
         ∙ (ap (λ (n : ℕ). record { from = place; label = u; to = n; marks = marks }) goes ∙ ap (λ (ms : List ℕ). record { from = place; label = u; to = next_state back total place; marks = ms }) h))
 
 -- how many edges there are then
-pub edges_number : (back total place : ℕ) (old new : List Edge) (ts : List LabelTree) → map tree_edge new ≡ map tree_edge old ++ edges_along back total place ts → length new ≡ length old + length ts
+pub edges_number : (back total place : ℕ) (old new : List Edge) (ts : List LabelTree) → map labelled_edge new ≡ map labelled_edge old ++ edges_along back total place ts
+    → length new ≡ length old + length ts
 edges_number back total place old new ts e =
-    let sizes : length (map tree_edge new) ≡ length (map tree_edge old ++ edges_along back total place ts) = ap (λ (es : List TreeEdge). length es) e in
-    omega (arith, length-map new tree_edge, length-map old tree_edge, length-append (map tree_edge old) (edges_along back total place ts), edges_long back total place ts)
+    let sizes : length (map labelled_edge new) ≡ length (map labelled_edge old ++ edges_along back total place ts) = ap (λ (es : List LabelledEdge). length es) e in
+    omega (arith, length-map new labelled_edge, length-map old labelled_edge, length-append (map labelled_edge old) (edges_along back total place ts), edges_long back total place ts)
 
 -- the edges of the stem and then those of the cycle
 pub all_edges : (back total : ℕ) (none first second : List Edge) (stem cycle : List Label) → none ≡ [] → back ≡ length stem → total ≡ length stem + length cycle
-    → map tree_edge first ≡ map tree_edge none ++ edges_along back total (length none) (map label_tree stem)
-    → map tree_edge second ≡ map tree_edge first ++ edges_along back total (length first) (map label_tree cycle)
-    → map tree_edge second ≡ (word_automaton (record { names = []; stem = map label_tree stem; cycle = map label_tree cycle })).edges
+    → map labelled_edge first ≡ map labelled_edge none ++ edges_along back total (length none) (map label_tree stem)
+    → map labelled_edge second ≡ map labelled_edge first ++ edges_along back total (length first) (map label_tree cycle)
+    → map labelled_edge second ≡ (word_automaton (record { names = []; stem = map label_tree stem; cycle = map label_tree cycle })).edges
 all_edges back total none first second stem cycle nothing back_is total_is one two =
     let s : List LabelTree = map label_tree stem in
     let c : List LabelTree = map label_tree cycle in
@@ -113,22 +115,22 @@ all_edges back total none first second stem cycle nothing back_is total_is one t
     let back' : back ≡ length (map label_tree stem) = back_is ∙ sym (length-map stem label_tree) in
     let total' : total ≡ length (map label_tree stem ++ map label_tree cycle) =
     omega (arith, length-append (map label_tree stem) (map label_tree cycle), length-map stem label_tree, length-map cycle label_tree) in
-    two ∙ (ap (λ (es : List TreeEdge). es ++ edges_along back total (length first) (map label_tree cycle))
-    (one ∙ (ap (λ (es : List Edge). map tree_edge es ++ edges_along back total (length none) (map label_tree stem)) nothing ∙ ap (λ (n : ℕ). edges_along back total n (map label_tree stem)) empty))
+    two ∙ (ap (λ (es : List LabelledEdge). es ++ edges_along back total (length first) (map label_tree cycle))
+    (one ∙ (ap (λ (es : List Edge). map labelled_edge es ++ edges_along back total (length none) (map label_tree stem)) nothing ∙ ap (λ (n : ℕ). edges_along back total n (map label_tree stem)) empty))
     ∙ (ap (λ (n : ℕ). edges_along back total 0 (map label_tree stem) ++ edges_along back total n (map label_tree cycle)) begun
     ∙ (sym (edges_then back total 0 (map label_tree stem) (map label_tree cycle))
     ∙ (ap (λ (n : ℕ). edges_along n total 0 (map label_tree stem ++ map label_tree cycle)) back'
     ∙ ap (λ (n : ℕ). edges_along (length (map label_tree stem)) n 0 (map label_tree stem ++ map label_tree cycle)) total'))))
 
 -- the automaton of these parts
-pub made_automaton : (names names' : List (List ℕ)) (starts : List ℕ) (states : ℕ) (edges : List TreeEdge) (f : FormulaTree) (stem cycle : List LabelTree) → names ≡ names' → starts ≡ 0 ∷ []
+pub made_automaton : (names names' : List (List ℕ)) (starts : List ℕ) (states : ℕ) (edges : List LabelledEdge) (f : FormulaTree) (stem cycle : List LabelTree) → names ≡ names' → starts ≡ 0 ∷ []
     → states ≡ length (stem ++ cycle) → edges ≡ (word_automaton (record { names = []; stem = stem; cycle = cycle })).edges → f ≡ formula.True
     → record { names = names; starts = starts; states = states; edges = edges; sets = 0; formula = f } ≡ word_automaton (record { names = names'; stem = stem; cycle = cycle })
 made_automaton names names' starts states edges f stem cycle a b c d e =
     ap (λ (x : List (List ℕ)). record { names = x; starts = starts; states = states; edges = edges; sets = 0; formula = f }) a
     ∙ (ap (λ (x : List ℕ). record { names = names'; starts = x; states = states; edges = edges; sets = 0; formula = f }) b
     ∙ (ap (λ (x : ℕ). record { names = names'; starts = 0 ∷ []; states = x; edges = edges; sets = 0; formula = f }) c
-    ∙ (ap (λ (x : List TreeEdge). record { names = names'; starts = 0 ∷ []; states = length (stem ++ cycle); edges = x; sets = 0; formula = f }) d
+    ∙ (ap (λ (x : List LabelledEdge). record { names = names'; starts = 0 ∷ []; states = length (stem ++ cycle); edges = x; sets = 0; formula = f }) d
     ∙ ap (λ (x : FormulaTree). record {
       names = names';
       starts = 0 ∷ [];

@@ -5,7 +5,7 @@ use Rattle.std.proofs.Math.Nat.{mod-add-mod, mod-eq_of_lt, mod-lt, mod_self}
 use Rattle.std.proofs.lemmas.Bool.{cases_lt, cond-false, cond-true, le-ltb, lt-ltb}
 use Rattle.std.proofs.lemmas.Option.{get_or_from_slice_get, none-some, same_Some, slice_get_within}
 use Rattle.aut_base.specs.Acceptance.{IsPath}
-use Rattle.aut_base.specs.Automaton.{TreeEdge}
+use Rattle.aut_base.specs.Automaton.{LabelledEdge}
 use Rattle.aut_base.specs.Label.{LabelTree, holds_at, truth}
 use Rattle.aut_base.specs.Word.{NameSet}
 use Rattle.word_syntax.specs.Grammar.{WordPattern}
@@ -73,10 +73,10 @@ state_next p some k = elim (cases_lt (k + 1) (length p.stem)) [
 ]
 
 -- the edge that leaves a place
-abbrev pub edge_at : ℕ → ℕ → ℕ → LabelTree → TreeEdge
+abbrev pub edge_at : ℕ → ℕ → ℕ → LabelTree → LabelledEdge
 edge_at back total place t = record { from = place; label = t; to = next_state back total place; marks = [] }
 
-edges_get : (back total place : ℕ) (ts : List LabelTree) (i : ℕ) (e : TreeEdge) → slice_get (edges_along back total place ts) i ≡ Some e
+edges_get : (back total place : ℕ) (ts : List LabelTree) (i : ℕ) (e : LabelledEdge) → slice_get (edges_along back total place ts) i ≡ Some e
     → (t : LabelTree) × (slice_get ts i ≡ Some t) × (e ≡ edge_at back total (place + i) t)
 edges_get back total place [] i e h = absurd (none-some e h)
 edges_get back total place (t ∷ ts) zero e h = let z : place ≡ place + 0 = omega arith in (t, refl, sym (same_Some _ e h) ∙ ap (λ (n : ℕ). edge_at back total n t) z)
@@ -93,15 +93,15 @@ edges_has back total place (u ∷ ts) (suc i) t h =
     let z : place + 1 + i ≡ place + suc i = omega arith in
     edges_has back total (place + 1) ts i t h ∙ ap (λ (n : ℕ). Some (edge_at back total n t)) z
 
-contains_get : (es : List TreeEdge) (e : TreeEdge) → Contains es e → (i : ℕ) × (slice_get es i ≡ Some e)
+contains_get : (es : List LabelledEdge) (e : LabelledEdge) → Contains es e → (i : ℕ) × (slice_get es i ≡ Some e)
 contains_get es e c = (c.0, get_is es c.0 e c.1 c.2)
   where
-    get_is : (es : List TreeEdge) (i : ℕ) (e : TreeEdge) → i < length es → get_or es i e ≡ e → slice_get es i ≡ Some e
+    get_is : (es : List LabelledEdge) (i : ℕ) (e : LabelledEdge) → i < length es → get_or es i e ≡ e → slice_get es i ≡ Some e
     get_is [] i e h is = absurd (omega arith)
     get_is (f ∷ fs) zero e h is = ap Some is
     get_is (f ∷ fs) (suc i) e h is = get_is fs i e (omega arith) is
 
-get_contains : (es : List TreeEdge) (i : ℕ) (e : TreeEdge) → slice_get es i ≡ Some e → Contains es e
+get_contains : (es : List LabelledEdge) (i : ℕ) (e : LabelledEdge) → slice_get es i ≡ Some e → Contains es e
 get_contains es i e h = (i, slice_get_within es i e h, get_or_from_slice_get es i e e h)
 
 -- the letters meet the formulas from the k-th on
@@ -110,7 +110,7 @@ MeetsFrom p k [] = Unit {0}
 MeetsFrom p k (x ∷ xs) = ((t : LabelTree) → slice_get (labels p) (state_at p k) ≡ Some t → truth (holds_at p.names x) t ≡ true) × MeetsFrom p (k + 1) xs
 
 -- a path reads letters that meet the formulas, and ends after them
-pub walked : (p : WordPattern) → 0 < length p.cycle → (k q : ℕ) (xs : List NameSet) (es : List TreeEdge) → IsPath (word_automaton p) (state_at p k) xs es q
+pub walked : (p : WordPattern) → 0 < length p.cycle → (k q : ℕ) (xs : List NameSet) (es : List LabelledEdge) → IsPath (word_automaton p) (state_at p k) xs es q
     → MeetsFrom p k xs × (q ≡ state_at p (k + length xs))
 walked p some k q [] [] path = let z : k ≡ k + 0 = omega arith in (tt, sym path ∙ ap (state_at p) z)
 walked p some k q [] (e ∷ es) path = absurd path
@@ -118,12 +118,12 @@ walked p some k q (x ∷ xs) [] path = absurd path
 walked p some k q (x ∷ xs) (e ∷ es) path =
     let there = contains_get (word_automaton p).edges e path.1 in
     let edge = edges_get (length p.stem) (length (labels p)) 0 (labels p) there.0 e there.1 in
-    let from : e.from ≡ 0 + there.0 = ap (λ (f : TreeEdge). f.from) edge.2 in
+    let from : e.from ≡ 0 + there.0 = ap (λ (f : LabelledEdge). f.from) edge.2 in
     let place : there.0 ≡ state_at p k = omega (arith, from, path.0) in
-    let label : e.label ≡ edge.0 = ap (λ (f : TreeEdge). f.label) edge.2 in
+    let label : e.label ≡ edge.0 = ap (λ (f : LabelledEdge). f.label) edge.2 in
     let stands : slice_get (labels p) (state_at p k) ≡ Some edge.0 = ap (slice_get (labels p)) (sym place) ∙ edge.1 in
     let z : 0 + there.0 ≡ state_at p k = omega (arith, place) in
-    let goes : e.to ≡ state_at p (k + 1) = ap (λ (f : TreeEdge). f.to) edge.2 ∙ (ap (next_state (length p.stem) (length (labels p))) z ∙ state_next p some k) in
+    let goes : e.to ≡ state_at p (k + 1) = ap (λ (f : LabelledEdge). f.to) edge.2 ∙ (ap (next_state (length p.stem) (length (labels p))) z ∙ state_next p some k) in
     let P : ℕ → Type 0 = λ n. IsPath (word_automaton p) n xs es q in
     let rest = walked p some (k + 1) q xs es (subst P goes path.3) in
     let far : k + 1 + length xs ≡ k + length (x ∷ xs) = omega arith in
@@ -131,7 +131,7 @@ walked p some k q (x ∷ xs) (e ∷ es) path =
 
 -- and letters that meet the formulas are read by a path
 pub record Walk (p : WordPattern) (k : ℕ) (xs : List NameSet) : Type 0 where
-  pub way : List TreeEdge
+  pub way : List LabelledEdge
   pub path : IsPath (word_automaton p) (state_at p k) xs way (state_at p (k + length xs))
 
 label_there : (ts : List LabelTree) (i : ℕ) → i < length ts → (t : LabelTree) × (slice_get ts i ≡ Some t)
@@ -144,7 +144,7 @@ walk p some k [] meets = let z : k ≡ k + 0 = omega arith in record { way = [];
 walk p some k (x ∷ xs) meets =
     let label = label_there (labels p) (state_at p k) (state_within p some k) in
     let rest = walk p some (k + 1) xs meets.1 in
-    let e : TreeEdge = edge_at (length p.stem) (length (labels p)) (state_at p k) label.0 in
+    let e : LabelledEdge = edge_at (length p.stem) (length (labels p)) (state_at p k) label.0 in
     let z : 0 + state_at p k ≡ state_at p k = omega arith in
     let has : slice_get (word_automaton p).edges (state_at p k) ≡ Some e = edges_has (length p.stem) (length (labels p)) 0 (labels p) (state_at p k) label.0 label.1
     ∙ ap (λ (n : ℕ). Some (edge_at (length p.stem) (length (labels p)) n label.0)) z in

@@ -23,8 +23,8 @@ use Rattle.aut_base.specs.Word.{NameSet, SpellsSame, copies}
 use Rattle.word_syntax.proofs.lassos.Cyclic.{at_cycle, copies_at, mod_of_multiple}
 use Rattle.word_syntax.proofs.grammar.NamePlaces.{Differ, Has, contains_has, has_contains, mutual_push, names_of-append, others}
 use Rattle.word_syntax.proofs.printing.PrintedTokens.{cycle_tokens, letter_tokens, literal_tokens, literals_tokens, printed_tokens, stem_tokens, word_tokens}
-use Rattle.word_syntax.specs.Grammar.{AreLetters, AreOperands, IsConjunction, IsLetter, IsOperand, IsWord, WordPattern, always, distinct, either}
-use Rattle.word_syntax.specs.Grammar.{joined, letter, names_of, negated, no_conjunction, no_letter, no_operand, operand, proposition}
+use Rattle.word_syntax.specs.Grammar.{AreLetters, AreConjuncts, IsConjunction, IsLetter, IsOperand, IsWord, WordPattern, always, distinct, either}
+use Rattle.word_syntax.specs.Grammar.{joined, letter, token_names, negated, no_conjunction, no_letter, no_operand, operand, proposition}
 use Rattle.word_syntax.specs.Matching.{AllMeet, Matches}
 use Rattle.word_syntax.specs.ReadBack.{AgreesOn, AgreesUnrolled, AllAgree, PrintedIsReadBack}
 use Rattle.word_syntax.specs.declared.token.Token.{Token}
@@ -50,14 +50,14 @@ literal_operand names x i n stands = elim (cases_Bool (contains x n)) [
 ]
 
 conjunction_from : (names : List (List ℕ)) (x : NameSet) (pre : List (List ℕ)) (i : ℕ) (n : List ℕ) (ns : List (List ℕ)) (v : List Token) (ts : List LabelTree) → names ≡ pre ++ (n ∷ ns)
-    → i ≡ length pre → AreOperands names MOST_DEPTH v ts → IsConjunction names MOST_DEPTH (v ++ literals_tokens x (n ∷ ns)) (all_of (ts ++ literal_trees x i (n ∷ ns)))
+    → i ≡ length pre → AreConjuncts names MOST_DEPTH v ts → IsConjunction names MOST_DEPTH (v ++ literals_tokens x (n ∷ ns)) (all_of (ts ++ literal_trees x i (n ∷ ns)))
 conjunction_from names x pre i n [] v ts is at before =
     let z : i ≡ length pre + 0 = omega arith in
     joined before (literal_operand names x i n (ap (λ (w : List (List ℕ)). slice_get w i) is ∙ slice_get-append_right pre (n ∷ []) 0 i z)) refl refl
 conjunction_from names x pre i n (m ∷ ms) v ts is at before =
     let z : i ≡ length pre + 0 = omega arith in
     let lit = literal_operand names x i n (ap (λ (w : List (List ℕ)). slice_get w i) is ∙ slice_get-append_right pre (n ∷ m ∷ ms) 0 i z) in
-    let more : AreOperands names MOST_DEPTH (v ++ (literal_tokens x n ++ token.And ∷ [])) (ts ++ literal_tree x i n ∷ []) = operand before lit refl refl in
+    let more : AreConjuncts names MOST_DEPTH (v ++ (literal_tokens x n ++ token.And ∷ [])) (ts ++ literal_tree x i n ∷ []) = operand before lit refl refl in
     let rest = conjunction_from names x (pre ++ n ∷ []) (i + 1) m ms (v ++ (literal_tokens x n ++ token.And ∷ [])) (ts ++ literal_tree x i n ∷ [])
     (is ∙ sym (append_assoc pre (n ∷ []) (m ∷ ms))) (omega (arith, length-append pre (n ∷ []))) more in
     let tokens : (v ++ (literal_tokens x n ++ token.And ∷ [])) ++ literals_tokens x (m ∷ ms) ≡ v ++ (literal_tokens x n ++ (token.And ∷ literals_tokens x (m ∷ ms))) =
@@ -122,15 +122,15 @@ cycle_written names x (y ∷ ys) v ts before =
     }
 
 -- the names of the tokens
-literal_names : (x : NameSet) (n : List ℕ) → names_of (literal_tokens x n) ≡ n ∷ []
-literal_names x n = elim (cases_Bool (contains x n)) [ inl e ↦ ap names_of (cond-true _ _ _ e) | inr e ↦ ap names_of (cond-false _ _ _ e) ]
+literal_names : (x : NameSet) (n : List ℕ) → token_names (literal_tokens x n) ≡ n ∷ []
+literal_names x n = elim (cases_Bool (contains x n)) [ inl e ↦ ap token_names (cond-true _ _ _ e) | inr e ↦ ap token_names (cond-false _ _ _ e) ]
 
-literals_names : (x : NameSet) (n : List ℕ) (ns : List (List ℕ)) → names_of (literals_tokens x (n ∷ ns)) ≡ n ∷ ns
+literals_names : (x : NameSet) (n : List ℕ) (ns : List (List ℕ)) → token_names (literals_tokens x (n ∷ ns)) ≡ n ∷ ns
 literals_names x n [] = literal_names x n
 literals_names x n (m ∷ ms) = names_of-append (literal_tokens x n) (token.And ∷ literals_tokens x (m ∷ ms))
-    ∙ (ap (λ (w : List (List ℕ)). w ++ names_of (literals_tokens x (m ∷ ms))) (literal_names x n) ∙ ap (λ (w : List (List ℕ)). n ∷ w) (literals_names x m ms))
+    ∙ (ap (λ (w : List (List ℕ)). w ++ token_names (literals_tokens x (m ∷ ms))) (literal_names x n) ∙ ap (λ (w : List (List ℕ)). n ∷ w) (literals_names x m ms))
 
-letter_names : (names : List (List ℕ)) (x : NameSet) → names_of (letter_tokens names x) ≡ names
+letter_names : (names : List (List ℕ)) (x : NameSet) → token_names (letter_tokens names x) ≡ names
 letter_names [] x = refl
 letter_names (n ∷ ns) x = literals_names x n ns
 
@@ -144,19 +144,19 @@ has_all names = has_each names names (λ n h. h)
 abbrev Within : List (List ℕ) → List (List ℕ) → Type 0
 Within names ns = AllByRecursion (λ n. Has n names) ns
 
-letter_within : (names : List (List ℕ)) (x : NameSet) (ts : List Token) → Within names (names_of ts) → Within names (names_of (letter_tokens names x ++ ts))
+letter_within : (names : List (List ℕ)) (x : NameSet) (ts : List Token) → Within names (token_names ts) → Within names (token_names (letter_tokens names x ++ ts))
 letter_within names x ts all = subst (λ (w : List (List ℕ)). Within names w)
-    (sym (names_of-append (letter_tokens names x) ts ∙ ap (λ (w : List (List ℕ)). w ++ names_of ts) (letter_names names x)))
-    (AllByRecursion-append (λ n. Has n names) names (names_of ts) (has_all names) all)
+    (sym (names_of-append (letter_tokens names x) ts ∙ ap (λ (w : List (List ℕ)). w ++ token_names ts) (letter_names names x)))
+    (AllByRecursion-append (λ n. Has n names) names (token_names ts) (has_all names) all)
 
-stem_within : (names : List (List ℕ)) (xs : List NameSet) (ts : List Token) → Within names (names_of ts) → Within names (names_of (stem_tokens names xs ++ ts))
+stem_within : (names : List (List ℕ)) (xs : List NameSet) (ts : List Token) → Within names (token_names ts) → Within names (token_names (stem_tokens names xs ++ ts))
 stem_within names [] ts all = all
-stem_within names (x ∷ xs) ts all = subst (λ (w : List Token). Within names (names_of w)) (sym (append_assoc (letter_tokens names x) (token.Semicolon ∷ stem_tokens names xs) ts))
+stem_within names (x ∷ xs) ts all = subst (λ (w : List Token). Within names (token_names w)) (sym (append_assoc (letter_tokens names x) (token.Semicolon ∷ stem_tokens names xs) ts))
     (letter_within names x (token.Semicolon ∷ (stem_tokens names xs ++ ts)) (stem_within names xs ts all))
 
-cycle_within : (names : List (List ℕ)) (x : NameSet) (xs : List NameSet) (ts : List Token) → Within names (names_of ts) → Within names (names_of (cycle_tokens names (x ∷ xs) ++ ts))
+cycle_within : (names : List (List ℕ)) (x : NameSet) (xs : List NameSet) (ts : List Token) → Within names (token_names ts) → Within names (token_names (cycle_tokens names (x ∷ xs) ++ ts))
 cycle_within names x [] ts all = letter_within names x ts all
-cycle_within names x (y ∷ ys) ts all = subst (λ (w : List Token). Within names (names_of w)) (sym (append_assoc (letter_tokens names x) (token.Semicolon ∷ cycle_tokens names (y ∷ ys)) ts))
+cycle_within names x (y ∷ ys) ts all = subst (λ (w : List Token). Within names (token_names w)) (sym (append_assoc (letter_tokens names x) (token.Semicolon ∷ cycle_tokens names (y ∷ ys)) ts))
     (letter_within names x (token.Semicolon ∷ (cycle_tokens names (y ∷ ys) ++ ts)) (cycle_within names y ys ts all))
 
 -- names that differ, each where it first stands
@@ -187,12 +187,12 @@ differ_from (n ∷ ns) p = (lacks ns p.0, differ_from ns p.1)
     lacks (m ∷ ms) all (inr h) = lacks ms all.1 h
 
 -- the first letter's names and those that follow
-letter_first : (names : List (List ℕ)) (x : NameSet) (ts all : List Token) → Differ names → all ≡ letter_tokens names x ++ ts → Within names (names_of ts) → distinct (names_of all) ≡ names
-letter_first names x ts all d is within = ap (λ (w : List Token). distinct (names_of w)) is
-    ∙ (ap distinct (names_of-append (letter_tokens names x) ts ∙ ap (λ (w : List (List ℕ)). w ++ names_of ts) (letter_names names x))
-    ∙ distinct_more names names (names_of ts) (distinct_own names d) within)
+letter_first : (names : List (List ℕ)) (x : NameSet) (ts all : List Token) → Differ names → all ≡ letter_tokens names x ++ ts → Within names (token_names ts) → distinct (token_names all) ≡ names
+letter_first names x ts all d is within = ap (λ (w : List Token). distinct (token_names w)) is
+    ∙ (ap distinct (names_of-append (letter_tokens names x) ts ∙ ap (λ (w : List (List ℕ)). w ++ token_names ts) (letter_names names x))
+    ∙ distinct_more names names (token_names ts) (distinct_own names d) within)
 
-word_names : (names : List (List ℕ)) (u : List NameSet) (x : NameSet) (xs : List NameSet) → Differ names → distinct (names_of (word_tokens names u (x ∷ xs))) ≡ names
+word_names : (names : List (List ℕ)) (u : List NameSet) (x : NameSet) (xs : List NameSet) → Differ names → distinct (token_names (word_tokens names u (x ∷ xs))) ≡ names
 word_names names [] x [] d = letter_first names x (token.RightBrace ∷ []) (cycle_tokens names (x ∷ []) ++ token.RightBrace ∷ []) d refl tt
 word_names names [] x (y ∷ ys) d = letter_first names x (token.Semicolon ∷ (cycle_tokens names (y ∷ ys) ++ token.RightBrace ∷ [])) (cycle_tokens names (x ∷ y ∷ ys) ++ token.RightBrace ∷ [])
     d (append_assoc (letter_tokens names x) (token.Semicolon ∷ cycle_tokens names (y ∷ ys)) (token.RightBrace ∷ [])) (cycle_within names y ys (token.RightBrace ∷ []) tt)

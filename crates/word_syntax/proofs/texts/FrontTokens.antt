@@ -11,10 +11,10 @@ use Rattle.aut_base.proofs.words.Texts as texts
 use Rattle.aut_base.proofs.words.Texts.{differ_texts}
 use Rattle.aut_base.specs.Text.{same_text}
 use Rattle.word_syntax.proofs.texts.Prefixes.{dropped, prefix_all, prefix_before, prefix_stops}
-use Rattle.word_syntax.specs.inner.Nexts.{StopsAt}
+use Rattle.word_syntax.specs.inner.Nexts.{StopsAtHead}
 use Rattle.word_syntax.proofs.texts.Strings.{unquoted_close, unquoted_escaped, unquoted_plain}
-use Rattle.word_syntax.specs.Tokens.{Ends, IsBare, IsBareName, IsFront, IsQuotedName, Quotes, Spells, escaped, extends, is_letter, is_word, nothing, plain}
-use Rattle.word_syntax.specs.inner.Fronts.{bare_token, doubled, front_token, quoted_more, sign_token, token_from, unquoted}
+use Rattle.word_syntax.specs.Tokens.{EndsWord, IsBare, IsBareName, IsWordFront, IsQuotedName, Quotes, SpellsWordToken, escaped, extends, is_letter, is_alphanumeric, nothing, plain}
+use Rattle.word_syntax.specs.inner.Fronts.{bare_token, sign_count, front_token, quoted_more, sign_token, token_from, unquoted}
 use Rattle.word_syntax.specs.declared.token.Token.{Token}
 use Rattle.word_syntax.specs.declared.token.Token.TheVariants as token
 
@@ -22,12 +22,12 @@ use Rattle.word_syntax.specs.declared.token.Token.TheVariants as token
 pub record HasFront (bytes : List ℕ) (t : Token) (size : ℕ) : Type 0 where
   pub some : 0 < size
   pub within : size ≤ length bytes
-  pub front : IsFront bytes t (drop size bytes)
+  pub front : IsWordFront bytes t (drop size bytes)
 
 pub front_cons : (b : ℕ) (bs : List ℕ) → front_token (b ∷ bs) ≡ token_from b (b ∷ bs)
 front_cons b bs = let some : length (b ∷ bs) ≡ 0 → ⊥ = λ e. omega arith in cond-false _ _ _ (ne_eqb (length (b ∷ bs)) 0 some)
 
-letter_is_word : (b : ℕ) → is_letter b ≡ true → is_word b ≡ true
+letter_is_word : (b : ℕ) → is_letter b ≡ true → is_alphanumeric b ≡ true
 letter_is_word b e = or_left _ _ e
 
 not_sign : (b sign : ℕ) → is_letter b ≡ true → is_letter sign ≡ false → (b == sign) ≡ false
@@ -38,57 +38,58 @@ not_sign b sign e f = ne_eqb b sign (λ h. both (is_letter sign) (ap is_letter (
     both false e f = cc
 
 -- a bare word ends where no byte of a name follows
-pub bare_ends : (b : ℕ) (bs rest : List ℕ) → is_letter b ≡ true → StopsAt is_word rest → Ends (b ∷ bs) rest
+pub bare_ends : (b : ℕ) (bs rest : List ℕ) → is_letter b ≡ true → StopsAtHead is_alphanumeric rest → EndsWord (b ∷ bs) rest
 bare_ends b bs [] e stop = tt
-bare_ends b [] (c ∷ cs) e stop = or_from _ _ (and_right (is_letter b) (is_word c) stop) (or_from _ _ (and_left _ _ (not_sign b 38 e refl)) (and_left _ _ (not_sign b 124 e refl)))
-bare_ends b (d ∷ ds) (c ∷ cs) e stop = and_right (is_letter b) (is_word c) stop
+bare_ends b [] (c ∷ cs) e stop = or_from _ _ (and_right (is_letter b) (is_alphanumeric c) stop) (or_from _ _ (and_left _ _ (not_sign b 38 e refl)) (and_left _ _ (not_sign b 124 e refl)))
+bare_ends b (d ∷ ds) (c ∷ cs) e stop = and_right (is_letter b) (is_alphanumeric c) stop
 
 not_letter_or : (b c : Bool) → b ≡ true → (b && c) ≡ false → c ≡ false
 not_letter_or true c e f = f
 not_letter_or false c e f = cc
 
-ends_bare : (b : ℕ) (bs rest : List ℕ) → is_letter b ≡ true → Ends (b ∷ bs) rest → StopsAt is_word rest
+ends_bare : (b : ℕ) (bs rest : List ℕ) → is_letter b ≡ true → EndsWord (b ∷ bs) rest → StopsAtHead is_alphanumeric rest
 ends_bare b bs [] e ends = tt
-ends_bare b [] (c ∷ cs) e ends = not_letter_or (is_letter b) (is_word c) e (or_parts _ _ ends).0
-ends_bare b (d ∷ ds) (c ∷ cs) e ends = not_letter_or (is_letter b) (is_word c) e ends
+ends_bare b [] (c ∷ cs) e ends = not_letter_or (is_letter b) (is_alphanumeric c) e (or_parts _ _ ends).0
+ends_bare b (d ∷ ds) (c ∷ cs) e ends = not_letter_or (is_letter b) (is_alphanumeric c) e ends
 
-bare_spells : (w : List ℕ) → IsBare w → Spells (bare_token w) w
+bare_spells : (w : List ℕ) → IsBare w → SpellsWordToken (bare_token w) w
 bare_spells w bare = elim (cases_Bool (same_text w (codes "true"))) [
-  | inl e ↦ subst (λ (t : Token). Spells t w) (sym (cond-true _ _ _ e)) (inr (texts.same_text w (codes "true") e))
+  | inl e ↦ subst (λ (t : Token). SpellsWordToken t w) (sym (cond-true _ _ _ e)) (inr (texts.same_text w (codes "true") e))
   | inr e ↦ (elim (cases_Bool (same_text w (codes "false"))) [
-    | inl f ↦ subst (λ (t : Token). Spells t w) (sym (cond-false _ _ _ e ∙ cond-true _ _ _ f)) (inr (texts.same_text w (codes "false") f))
+    | inl f ↦ subst (λ (t : Token). SpellsWordToken t w) (sym (cond-false _ _ _ e ∙ cond-true _ _ _ f)) (inr (texts.same_text w (codes "false") f))
     | inr f ↦ (elim (cases_Bool (same_text w (codes "cycle"))) [
-      | inl g ↦ subst (λ (t : Token). Spells t w) (sym (cond-false _ _ _ e ∙ (cond-false _ _ _ f ∙ cond-true _ _ _ g))) (texts.same_text w (codes "cycle") g)
-      | inr g ↦ subst (λ (t : Token). Spells t w) (sym (cond-false _ _ _ e ∙ (cond-false _ _ _ f ∙ cond-false _ _ _ g)))
+      | inl g ↦ subst (λ (t : Token). SpellsWordToken t w) (sym (cond-false _ _ _ e ∙ (cond-false _ _ _ f ∙ cond-true _ _ _ g))) (texts.same_text w (codes "cycle") g)
+      | inr g ↦ subst (λ (t : Token). SpellsWordToken t w) (sym (cond-false _ _ _ e ∙ (cond-false _ _ _ f ∙ cond-false _ _ _ g)))
           (inl (record { bare = bare; not_true = texts.other_text w (codes "true") e; not_false = texts.other_text w (codes "false") f; not_cycle = texts.other_text w (codes "cycle") g }, refl))
     ])
   ])
 ]
 
-bare_front : (b : ℕ) (bs : List ℕ) → is_letter b ≡ true → HasFront (b ∷ bs) (bare_token (take (prefix_len is_word (b ∷ bs)) (b ∷ bs))) (prefix_len is_word (b ∷ bs))
+bare_front : (b : ℕ) (bs : List ℕ) → is_letter b ≡ true → HasFront (b ∷ bs) (bare_token (take (prefix_len is_alphanumeric (b ∷ bs)) (b ∷ bs))) (prefix_len is_alphanumeric (b ∷ bs))
 bare_front b bs e =
-    let n : prefix_len is_word (b ∷ bs) ≡ suc (prefix_len is_word bs) = let k : 1 + prefix_len is_word bs ≡ suc (prefix_len is_word bs) = omega arith in cond-true _ _ _ (letter_is_word b e) ∙ k in
-    let word : List ℕ = b ∷ take (prefix_len is_word bs) bs in
-    let bare : IsBare word = (e, prefix_all is_word bs) in
+    let n : prefix_len is_alphanumeric (b ∷ bs) ≡ suc (prefix_len is_alphanumeric bs) = let k : 1 + prefix_len is_alphanumeric bs ≡ suc (prefix_len is_alphanumeric bs) =
+    omega arith in cond-true _ _ _ (letter_is_word b e) ∙ k in
+    let word : List ℕ = b ∷ take (prefix_len is_alphanumeric bs) bs in
+    let bare : IsBare word = (e, prefix_all is_alphanumeric bs) in
     let P : ℕ → Type 0 = λ k. HasFront (b ∷ bs) (bare_token (take k (b ∷ bs))) k in
     subst P (sym n) (record {
       some = omega arith;
-      within = omega (arith, prefix_len-le-length is_word bs);
+      within = omega (arith, prefix_len-le-length is_alphanumeric bs);
       front = record {
         word = word;
-        split = ap (λ (x : List ℕ). b ∷ x) (sym (take-append-drop (prefix_len is_word bs) bs));
+        split = ap (λ (x : List ℕ). b ∷ x) (sym (take-append-drop (prefix_len is_alphanumeric bs) bs));
         spells = bare_spells word bare;
-        ends = bare_ends b (take (prefix_len is_word bs) bs) (drop (prefix_len is_word bs) bs) e (prefix_stops is_word bs);
+        ends = bare_ends b (take (prefix_len is_alphanumeric bs) bs) (drop (prefix_len is_alphanumeric bs) bs) e (prefix_stops is_alphanumeric bs);
       };
     })
 
 -- a word that no byte extends
-pub ends_anyhow : (word rest : List ℕ) → ((c : ℕ) → extends word c ≡ false) → Ends word rest
+pub ends_anyhow : (word rest : List ℕ) → ((c : ℕ) → extends word c ≡ false) → EndsWord word rest
 ends_anyhow word [] h = tt
 ends_anyhow word (c ∷ cs) h = h c
 
 -- a byte that is a token
-sign_front : (b : ℕ) (bs : List ℕ) (t : Token) → Spells t (b ∷ []) → ((c : ℕ) → extends (b ∷ []) c ≡ false) → HasFront (b ∷ bs) t 1
+sign_front : (b : ℕ) (bs : List ℕ) (t : Token) → SpellsWordToken t (b ∷ []) → ((c : ℕ) → extends (b ∷ []) c ≡ false) → HasFront (b ∷ bs) t 1
 sign_front b bs t spells alone = record {
   some = omega arith;
   within = omega arith;
@@ -123,8 +124,8 @@ signs_hold b bs =
     holds_map (b ∷ bs) (b == 125) _ _ (λ e. holds_sign b 125 bs token.RightBrace e (sign_front 125 bs token.RightBrace refl (λ c. refl))) (λ _. tt))))))))
 
 -- a sign that may double
-sign_holds : (b : ℕ) (t : Token) → Spells t (b ∷ []) → Spells t (b ∷ b ∷ []) → ((c : ℕ) → (c == b) ≡ false → extends (b ∷ []) c ≡ false) → ((c : ℕ) → extends (b ∷ b ∷ []) c ≡ false)
-    → (bs : List ℕ) → HasFront (b ∷ bs) t (doubled b (b ∷ bs))
+sign_holds : (b : ℕ) (t : Token) → SpellsWordToken t (b ∷ []) → SpellsWordToken t (b ∷ b ∷ []) → ((c : ℕ) → (c == b) ≡ false → extends (b ∷ []) c ≡ false) → ((c : ℕ) → extends (b ∷ b ∷ []) c ≡ false)
+    → (bs : List ℕ) → HasFront (b ∷ bs) t (sign_count b (b ∷ bs))
 sign_holds b t once twice alone both [] = record { some = omega arith; within = omega arith; front = record { word = b ∷ []; split = refl; spells = once; ends = tt } }
 sign_holds b t once twice alone both (c ∷ cs) = elim (cases_Bool (c == b)) [
   | inl e ↦ (let long : nat_lt 1 (length (b ∷ c ∷ cs)) ≡ true = lt-ltb 1 (length (b ∷ c ∷ cs)) (omega arith) in
@@ -138,10 +139,10 @@ sign_holds b t once twice alone both (c ∷ cs) = elim (cases_Bool (c == b)) [
       (record { some = omega arith; within = omega arith; front = record { word = b ∷ []; split = refl; spells = once; ends = alone c e } })
 ]
 
-and_holds : (bs : List ℕ) → HasFront (38 ∷ bs) token.And (doubled 38 (38 ∷ bs))
+and_holds : (bs : List ℕ) → HasFront (38 ∷ bs) token.And (sign_count 38 (38 ∷ bs))
 and_holds = sign_holds 38 token.And (inl refl) (inr refl) (λ c e. or_from _ _ e refl) (λ c. refl)
 
-or_holds : (bs : List ℕ) → HasFront (124 ∷ bs) token.Or (doubled 124 (124 ∷ bs))
+or_holds : (bs : List ℕ) → HasFront (124 ∷ bs) token.Or (sign_count 124 (124 ∷ bs))
 or_holds = sign_holds 124 token.Or (inl refl) (inr refl) (λ c e. e) (λ c. refl)
 
 -- what stands up to the closing quote
@@ -225,8 +226,9 @@ from_byte b bs =
     holds_cond (b ∷ bs) (b == 34) _ _ (λ e. (let P : ℕ
     → Type 0 = λ y. HasFound (y ∷ bs) (option_map (λ (s : List ℕ × ℕ). (token.Name s.0, 1 + s.1)) (unquoted bs)) in
     subst P (sym (eqb-true b 34 e)) (string_holds bs (unquoted bs) (unquoted_is bs)))) (λ _.
-    holds_cond (b ∷ bs) (b == 38) _ _ (λ e. (let P : ℕ → Type 0 = λ y. HasFront (y ∷ bs) token.And (doubled 38 (y ∷ bs)) in subst P (sym (eqb-true b 38 e)) (and_holds bs))) (λ _.
-    holds_cond (b ∷ bs) (b == 124) _ _ (λ e. (let P : ℕ → Type 0 = λ y. HasFront (y ∷ bs) token.Or (doubled 124 (y ∷ bs)) in subst P (sym (eqb-true b 124 e)) (or_holds bs))) (λ _. signs_hold b bs))))
+    holds_cond (b ∷ bs) (b == 38) _ _ (λ e. (let P : ℕ → Type 0 = λ y. HasFront (y ∷ bs) token.And (sign_count 38 (y ∷ bs)) in subst P (sym (eqb-true b 38 e)) (and_holds bs))) (λ _.
+    holds_cond (b ∷ bs) (b == 124) _ _ (λ e. (let P : ℕ → Type 0 = λ y. HasFront (y ∷ bs) token.Or (sign_count 124 (y ∷ bs)) in subst P (sym (eqb-true b 124 e)) (or_holds bs)))
+    (λ _. signs_hold b bs))))
 
 fronts_hold : (bytes : List ℕ) → HasFound bytes (front_token bytes)
 fronts_hold [] = tt
@@ -245,11 +247,11 @@ take_word : (w rest : List ℕ) → take (length w) (w ++ rest) ≡ w
 take_word [] rest = refl
 take_word (x ∷ w) rest = ap (λ (y : List ℕ). x ∷ y) (take_word w rest)
 
-bare_found : (w rest : List ℕ) → IsBare w → Ends w rest → Finds (w ++ rest) (bare_token w) rest
+bare_found : (w rest : List ℕ) → IsBare w → EndsWord w rest → Finds (w ++ rest) (bare_token w) rest
 bare_found [] rest bare ends = absurd bare
 bare_found (b ∷ bs) rest bare ends =
     let all = and_from _ _ (letter_is_word b bare.0) bare.1 in
-    let size = prefix_before is_word (b ∷ bs) rest all (ends_bare b bs rest bare.0 ends) in
+    let size = prefix_before is_alphanumeric (b ∷ bs) rest all (ends_bare b bs rest bare.0 ends) in
     record {
       size = length (b ∷ bs);
       found = front_cons b (bs ++ rest) ∙ (cond-true _ _ _ bare.0
@@ -285,22 +287,22 @@ string_found name word rest q =
 one_found : (b : ℕ) (rest : List ℕ) (t : Token) → token_from b (b ∷ rest) ≡ Some (t, 1) → Finds (b ∷ rest) t rest
 one_found b rest t e = record { size = 1; found = front_cons b rest ∙ e; behind = refl }
 
-single_and : (rest : List ℕ) → Ends (codes "&") rest → doubled 38 (38 ∷ rest) ≡ 1
+single_and : (rest : List ℕ) → EndsWord (codes "&") rest → sign_count 38 (38 ∷ rest) ≡ 1
 single_and [] ends = refl
 single_and (c ∷ cs) ends = cond-false _ _ _ (and_right (nat_lt 1 (length (38 ∷ c ∷ cs))) _ (or_parts _ _ ends).0)
 
-single_or : (rest : List ℕ) → Ends (codes "|") rest → doubled 124 (124 ∷ rest) ≡ 1
+single_or : (rest : List ℕ) → EndsWord (codes "|") rest → sign_count 124 (124 ∷ rest) ≡ 1
 single_or [] ends = refl
 single_or (c ∷ cs) ends = cond-false _ _ _ (and_right (nat_lt 1 (length (124 ∷ c ∷ cs))) _ ends)
 
-double_sign : (sign : ℕ) (rest : List ℕ) → (sign == sign) ≡ true → doubled sign (sign ∷ sign ∷ rest) ≡ 2
+double_sign : (sign : ℕ) (rest : List ℕ) → (sign == sign) ≡ true → sign_count sign (sign ∷ sign ∷ rest) ≡ 2
 double_sign sign rest e = cond-true _ _ _ (and_from _ _ (lt-ltb 1 (length (sign ∷ sign ∷ rest)) (omega arith)) e)
 
 bare_name : (w : List ℕ) → IsBareName w → bare_token w ≡ token.Name w
 bare_name w b = cond-false _ _ _ (differ_texts w (codes "true") b.not_true)
     ∙ (cond-false _ _ _ (differ_texts w (codes "false") b.not_false) ∙ cond-false _ _ _ (differ_texts w (codes "cycle") b.not_cycle))
 
-pub front_stands : (bytes : List ℕ) (t : Token) (rest : List ℕ) → IsFront bytes t rest → Finds bytes t rest
+pub front_stands : (bytes : List ℕ) (t : Token) (rest : List ℕ) → IsWordFront bytes t rest → Finds bytes t rest
 front_stands bytes t rest f = finds_along bytes f.word rest t f.split (word_found t f.word rest f.spells f.ends)
   where
     renamed : (bytes rest : List ℕ) (t u : Token) → t ≡ u → Finds bytes t rest → Finds bytes u rest
@@ -309,10 +311,10 @@ front_stands bytes t rest f = finds_along bytes f.word rest t f.split (word_foun
     sized : (bytes rest : List ℕ) (t : Token) (b n : ℕ) (bs : List ℕ) → token_from b (b ∷ bs) ≡ Some (t, n) → rest ≡ drop n (b ∷ bs) → Finds (b ∷ bs) t rest
     sized bytes rest t b n bs e d = record { size = n; found = front_cons b bs ∙ e; behind = d }
 
-    at_word : (t : Token) (word w rest : List ℕ) → word ≡ w → (Ends w rest → Finds (w ++ rest) t rest) → Ends word rest → Finds (word ++ rest) t rest
-    at_word t word w rest is h ends = subst (λ (x : List ℕ). Finds (x ++ rest) t rest) (sym is) (h (subst (λ (x : List ℕ). Ends x rest) is ends))
+    at_word : (t : Token) (word w rest : List ℕ) → word ≡ w → (EndsWord w rest → Finds (w ++ rest) t rest) → EndsWord word rest → Finds (word ++ rest) t rest
+    at_word t word w rest is h ends = subst (λ (x : List ℕ). Finds (x ++ rest) t rest) (sym is) (h (subst (λ (x : List ℕ). EndsWord x rest) is ends))
 
-    word_found : (t : Token) (word rest : List ℕ) → Spells t word → Ends word rest → Finds (word ++ rest) t rest
+    word_found : (t : Token) (word rest : List ℕ) → SpellsWordToken t word → EndsWord word rest → Finds (word ++ rest) t rest
     word_found token.True word rest (inl e) ends = at_word token.True word (codes "1") rest e (λ _. one_found 49 rest token.True refl) ends
     word_found token.True word rest (inr e) ends = at_word token.True word (codes "true") rest e (λ h. bare_found (codes "true") rest (refl, refl) h) ends
     word_found token.False word rest (inl e) ends = at_word token.False word (codes "0") rest e (λ _. one_found 48 rest token.False refl) ends
@@ -335,7 +337,7 @@ front_stands bytes t rest f = finds_along bytes f.word rest t f.split (word_foun
     word_found token.RightBrace word rest e ends = at_word token.RightBrace word (codes "}") rest e (λ _. one_found 125 rest token.RightBrace refl) ends
 
 -- at most one token stands at the front
-pub one_front : (bytes : List ℕ) (t u : Token) (rest rest' : List ℕ) → IsFront bytes t rest → IsFront bytes u rest' → (t ≡ u) × (rest ≡ rest')
+pub one_front : (bytes : List ℕ) (t u : Token) (rest rest' : List ℕ) → IsWordFront bytes t rest → IsWordFront bytes u rest' → (t ≡ u) × (rest ≡ rest')
 one_front bytes t u rest rest' f g =
     let x = front_stands bytes t rest f in
     let y = front_stands bytes u rest' g in
@@ -343,5 +345,5 @@ one_front bytes t u rest rest' f g =
     (same.0, x.behind ∙ (ap (λ (n : ℕ). drop n bytes) same.1 ∙ sym y.behind))
 
 -- and none where none is found
-pub none_found : (bytes : List ℕ) → front_token bytes ≡ None → (t : Token) (rest : List ℕ) → IsFront bytes t rest → ⊥
+pub none_found : (bytes : List ℕ) → front_token bytes ≡ None → (t : Token) (rest : List ℕ) → IsWordFront bytes t rest → ⊥
 none_found bytes e t rest f = let x = front_stands bytes t rest f in none-some (t, x.size) (sym e ∙ x.found)

@@ -10,32 +10,33 @@ use Rattle.word_syntax.proofs.grammar.NamePlaces.{agrees_front, distinct_differ,
 use Rattle.word_syntax.proofs.texts.Readings.{bad_writes_nothing}
 use Rattle.word_syntax.proofs.grammar.Runs.{runs_push}
 use Rattle.word_syntax.proofs.grammar.Words.{begins, begins_not, no_word, whole_word}
-use Rattle.word_syntax.specs.Grammar.{IsWord, distinct, names_of}
-use Rattle.word_syntax.specs.Tokens.{AfterBlanks, IsFront, Lexes, is_blank}
-use Rattle.word_syntax.specs.Writing.{IsBadAt, IsStoppedAt, Stops, Writes, WritesNothing, ended, misplaced, no_token}
+use Rattle.word_syntax.specs.Grammar.{IsWord, distinct, token_names}
+use Rattle.word_syntax.specs.Tokens.{FollowsBlanks, IsWordFront, LexesWord, is_blank}
+use Rattle.word_syntax.specs.Writing.{IsBadAt, IsStoppedAt, StopsWord, WritesWord, WritesNothing, ended, misplaced, no_token}
 use Rattle.word_syntax.specs.inner.Chains.{Agrees, HasTaken, NamesGo, word_state}
 use Rattle.word_syntax.specs.inner.Machine as machine
 use Rattle.word_syntax.specs.inner.Machine.{LetterState, WordState, letter_step, whole_letter, with_letter, word_start, word_step}
-use Rattle.word_syntax.specs.inner.Nexts.{IsNext, IsNothing, NoBlankFirst}
-use Rattle.word_syntax.specs.inner.Reading.{HasRead, IsMidway, IsThrough}
+use Rattle.word_syntax.specs.inner.Nexts.{IsTokenNext, IsNothing, NoBlankFirst}
+use Rattle.word_syntax.specs.inner.Reading.{HasReadTokens, HasReadTo, IsThrough}
 use Rattle.word_syntax.specs.declared.stage.Stage.{Stage}
 use Rattle.word_syntax.specs.declared.stage.Stage.TheVariants.{Stem, Brace, Cycle, End}
 use Rattle.word_syntax.specs.declared.word.WordReader.{WordReader}
 use Rattle.word_syntax.specs.declared.token.Token.{Token}
 use Rattle.word_syntax.specs.declared.token.Token.TheVariants as token
 
-lexes_push : (text : List ℕ) (ts : List Token) (rest bytes next : List ℕ) (t : Token) → Lexes text ts rest → AfterBlanks rest bytes → IsFront bytes t next → Lexes text (ts ++ t ∷ []) next
-lexes_push text [] rest bytes next t l a f = subst (λ (x : List ℕ). Lexes x (t ∷ []) next) (sym l) (bytes, next, a, f, refl)
+lexes_push : (text : List ℕ) (ts : List Token) (rest bytes next : List ℕ) (t : Token) → LexesWord text ts rest → FollowsBlanks rest bytes → IsWordFront bytes t next
+    → LexesWord text (ts ++ t ∷ []) next
+lexes_push text [] rest bytes next t l a f = subst (λ (x : List ℕ). LexesWord x (t ∷ []) next) (sym l) (bytes, next, a, f, refl)
 lexes_push text (u ∷ ts) rest bytes next t l a f = (l.0, l.1, l.2, l.3, lexes_push l.1 ts rest bytes next t l.4 a f)
 
 -- one token more, whatever the places
-read_push : (tokens : List Token) (s next : WordState) (t : Token) (old new : List (List ℕ)) → old ≡ distinct (names_of tokens) → NamesGo t old new → HasRead tokens s
-    → ((place : List ℕ → ℕ) → Agrees place new → word_step place s t ≡ Some next) → HasRead (tokens ++ t ∷ []) next
+read_push : (tokens : List Token) (s next : WordState) (t : Token) (old new : List (List ℕ)) → old ≡ distinct (token_names tokens) → NamesGo t old new → HasReadTokens tokens s
+    → ((place : List ℕ → ℕ) → Agrees place new → word_step place s t ≡ Some next) → HasReadTokens (tokens ++ t ∷ []) next
 read_push tokens s next t old new is go read step place agrees =
-    let more = distinct_front (names_of tokens) (names_of (t ∷ [])) in
+    let more = distinct_front (token_names tokens) (token_names (t ∷ [])) in
     let P : List (List ℕ) → Type 0 = λ x. Agrees place x in
     let here : Agrees place new = subst P (sym (names_go tokens old new t is go)) agrees in
-    let before : Agrees place (distinct (names_of tokens)) = agrees_front place (distinct (names_of tokens)) more.0 (subst P (ap distinct (names_of-append tokens (t ∷ [])) ∙ more.1) agrees) in
+    let before : Agrees place (distinct (token_names tokens)) = agrees_front place (distinct (token_names tokens)) more.0 (subst P (ap distinct (names_of-append tokens (t ∷ [])) ∙ more.1) agrees) in
     runs_push (word_step place) word_start s next tokens t (read place before) (step place here)
 
 -- a token adds one name at most, and one letter
@@ -60,7 +61,7 @@ letters s = length s.stem + length s.cycle
 same_letters : (s next : WordState) (n : ℕ) → Some s ≡ Some next → letters s ≤ n → letters next ≤ n
 same_letters s next n e h = let P : WordState → Type 0 = λ x. letters x ≤ n in subst P (same_Some s next e) h
 
-ended_letters : (stage : Stage) (s next : WordState) (t : LabelTree) → machine.ended_at stage s t ≡ Some next → letters next ≤ letters s + 1
+ended_letters : (stage : Stage) (s next : WordState) (t : LabelTree) → machine.letter_ended stage s t ≡ Some next → letters next ≤ letters s + 1
 ended_letters Stem s next t e = same_letters _ next (letters s + 1) e (omega (arith, length-append s.stem (t ∷ [])))
 ended_letters Cycle s next t e = same_letters _ next (letters s + 1) e (omega (arith, length-append s.cycle (t ∷ [])))
 ended_letters Brace s next t e = absurd (none-some next e)
@@ -94,7 +95,7 @@ inner_letters true s next None e = absurd (none-some next e)
 inner_letters false s next o e = absurd (none-some next e)
 
 one_letter : (place : List ℕ → ℕ) (s next : WordState) (t : Token) → word_step place s t ≡ Some next → letters next ≤ letters s + 1
-one_letter place s next token.Semicolon e = option_and_then_some (machine.ended_at s.stage s) (whole_letter s.letter) next e (λ t whole f. ended_letters s.stage s next t f)
+one_letter place s next token.Semicolon e = option_and_then_some (machine.letter_ended s.stage s) (whole_letter s.letter) next e (λ t whole f. ended_letters s.stage s next t f)
 one_letter place s next token.RightBrace e = option_and_then_some (machine.closed_at s.stage s) (whole_letter s.letter) next e (λ t whole f. closed_letters s.stage s next t f)
 one_letter place s next token.Cycle e = cycle_letters s.stage s next e
 one_letter place s next token.LeftBrace e = brace_letters s.stage s next e
@@ -108,12 +109,13 @@ one_letter place s next token.LeftParen e = inner_letters (machine.has_letters s
 one_letter place s next token.RightParen e = inner_letters (machine.has_letters s.stage) s next (letter_step place s.letter token.RightParen) e
 
 -- one token more
-pub midway_more : (text : List ℕ) (at start end : ℕ) (before after : WordReader) (t : Token) → IsMidway text at before → IsNext text at t start end → HasTaken before t after → IsMidway text end after
+pub midway_more : (text : List ℕ) (at start end : ℕ) (before after : WordReader) (t : Token) → HasReadTo text at before → IsTokenNext text at t start end → HasTaken before t after
+    → HasReadTo text end after
 midway_more text at start end before after t m n taken =
     let names = names_go m.tokens before.names after.names t m.names taken.names in
     let place = place_in after.names in
     let P : List (List ℕ) → Type 0 = λ x. Agrees (place_in x) x in
-    let agrees : Agrees (place_in after.names) after.names = subst P (sym names) (places_agree (distinct (names_of (m.tokens ++ t ∷ []))) (distinct_differ (names_of (m.tokens ++ t ∷ [])))) in
+    let agrees : Agrees (place_in after.names) after.names = subst P (sym names) (places_agree (distinct (token_names (m.tokens ++ t ∷ []))) (distinct_differ (token_names (m.tokens ++ t ∷ [])))) in
     let longer = one_letter (place_in after.names) (word_state before) (word_state after) t (taken.steps (place_in after.names) agrees) in
     let more = grown t before.names after.names taken.names in
     let a = length-map before.stem label_tree in
@@ -131,8 +133,8 @@ midway_more text at start end before after t m n taken =
     }
 
 -- it goes no further behind these blanks
-stopped : (text : List ℕ) (at start : ℕ) (before : WordReader) → (m : IsMidway text at before) → AfterBlanks (drop at text) (drop start text) → start ≤ length text
-    → Stops m.tokens (drop start text) → IsStoppedAt text start
+stopped : (text : List ℕ) (at start : ℕ) (before : WordReader) → (m : HasReadTo text at before) → FollowsBlanks (drop at text) (drop start text) → start ≤ length text
+    → StopsWord m.tokens (drop start text) → IsStoppedAt text start
 stopped text at start before m blanks within stops = record {
   tokens = m.tokens;
   rest = drop at text;
@@ -145,22 +147,22 @@ stopped text at start before m blanks within stops = record {
 }
 
 -- a token that can't stand there
-pub stopped_at_token : (text : List ℕ) (at start end : ℕ) (before : WordReader) (t : Token) → IsMidway text at before → IsNext text at t start end
+pub stopped_at_token : (text : List ℕ) (at start end : ℕ) (before : WordReader) (t : Token) → HasReadTo text at before → IsTokenNext text at t start end
     → ((place : List ℕ → ℕ) → word_step place (word_state before) t ≡ None) → IsStoppedAt text start
 stopped_at_token text at start end before t m n stuck =
     stopped text at start before m n.blanks (omega (arith, n.some, n.within)) (misplaced t n.front (begins_not m.tokens (word_state before) t m.read stuck))
 
-some_bytes : (bytes : List ℕ) (tokens : List Token) → 0 < length bytes → NoBlankFirst bytes → ((t : Token) (rest : List ℕ) → IsFront bytes t rest → ⊥) → Stops tokens bytes
+some_bytes : (bytes : List ℕ) (tokens : List Token) → 0 < length bytes → NoBlankFirst bytes → ((t : Token) (rest : List ℕ) → IsWordFront bytes t rest → ⊥) → StopsWord tokens bytes
 some_bytes [] tokens some first none = absurd (omega arith)
 some_bytes (b ∷ bs) tokens some first none = no_token first none
 
 -- bytes that are no token
-pub stopped_at_bytes : (text : List ℕ) (at start : ℕ) (before : WordReader) → IsMidway text at before → IsNothing text at start → start < length text → IsStoppedAt text start
+pub stopped_at_bytes : (text : List ℕ) (at start : ℕ) (before : WordReader) → HasReadTo text at before → IsNothing text at start → start < length text → IsStoppedAt text start
 stopped_at_bytes text at start before m n some =
     stopped text at start before m n.blanks n.within (some_bytes (drop start text) m.tokens (omega (arith, length-drop start text)) n.first n.none)
 
 -- the end of the text
-pub through : (text : List ℕ) (at start : ℕ) (r : WordReader) → IsMidway text at r → IsNothing text at start → length text ≤ start → IsThrough text r
+pub through : (text : List ℕ) (at start : ℕ) (r : WordReader) → HasReadTo text at r → IsNothing text at start → length text ≤ start → IsThrough text r
 through text at start r m n all =
     let none : drop start text ≡ [] = drop_all start text all in
     let blank : drop at text ≡ n.blanks.before = n.blanks.split ∙ (ap (λ (x : List ℕ). n.blanks.before ++ x) none ∙ append-nil n.blanks.before) in
@@ -176,7 +178,7 @@ through text at start r m n all =
 
 -- all is read, and it is a word
 pub written : (text : List ℕ) (r : WordReader) → length text < 2 ^ 32 → IsThrough text r → r.stage ≡ End
-    → Writes text (record { names = r.names; stem = map label_tree r.stem; cycle = map label_tree r.cycle })
+    → WritesWord text (record { names = r.names; stem = map label_tree r.stem; cycle = map label_tree r.cycle })
 written text r short t is_end =
     let P : List (List ℕ) → Type 0 = λ x. IsWord t.tokens (record { names = x; stem = map label_tree r.stem; cycle = map label_tree r.cycle }) in
     record { short = short; tokens = t.tokens; rest = t.rest; lexes = t.lexes; blank = t.blank; word = subst P (sym t.names) (whole_word t.tokens (word_state r) t.read is_end) }

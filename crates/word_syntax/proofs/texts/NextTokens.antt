@@ -5,9 +5,9 @@ use Rattle.std.proofs.lemmas.List.Sums.{prefix_len-le-length}
 use Rattle.std.specs.List.{list_all, prefix_len}
 use Rattle.word_syntax.proofs.texts.FrontTokens.{front_found, none_found}
 use Rattle.word_syntax.proofs.texts.Prefixes.{prefix_all, prefix_stops}
-use Rattle.word_syntax.specs.Tokens.{AfterBlanks, IsFront, is_blank}
+use Rattle.word_syntax.specs.Tokens.{FollowsBlanks, IsWordFront, is_blank}
 use Rattle.word_syntax.specs.inner.Fronts.{front_token}
-use Rattle.word_syntax.specs.inner.Nexts.{IsNext, IsNothing, NoBlankFirst}
+use Rattle.word_syntax.specs.inner.Nexts.{IsTokenNext, IsNothing, NoBlankFirst}
 use Rattle.word_syntax.specs.declared.token.Token.{Token}
 
 pub blank_bound : (text rest : List ℕ) (at n : ℕ) → at ≤ length text → rest ≡ drop at text → n ≡ prefix_len is_blank rest → at + n ≤ length text
@@ -17,7 +17,7 @@ blank_bound text rest at n within is count =
     let left = length-drop at text in
     omega arith
 
-after_blanks : (text rest : List ℕ) (at n : ℕ) → rest ≡ drop at text → n ≡ prefix_len is_blank rest → AfterBlanks (drop at text) (drop (at + n) text)
+after_blanks : (text rest : List ℕ) (at n : ℕ) → rest ≡ drop at text → n ≡ prefix_len is_blank rest → FollowsBlanks (drop at text) (drop (at + n) text)
 after_blanks text rest at n is count =
     let size : n ≡ prefix_len is_blank (drop at text) = count ∙ ap (prefix_len is_blank) is in
     record {
@@ -27,14 +27,14 @@ after_blanks text rest at n is count =
     }
 
 pub found_next : (text rest front : List ℕ) (at n : ℕ) (t : Token) (size : ℕ) (o : Option (Token × ℕ)) → at ≤ length text → rest ≡ drop at text → n ≡ prefix_len is_blank rest
-    → front ≡ drop (at + n) text → o ≡ front_token front → o ≡ Some (t, size) → IsNext text at t (at + n) (at + n + size)
+    → front ≡ drop (at + n) text → o ≡ front_token front → o ≡ Some (t, size) → IsTokenNext text at t (at + n) (at + n + size)
 found_next text rest front at n t size o within is count there found some =
     let f = front_found (drop (at + n) text) t size (ap front_token (sym there) ∙ (sym found ∙ some)) in
     let bound = blank_bound text rest at n within is count in
     let left = length-drop (at + n) text in
     record {
       blanks = after_blanks text rest at n is count;
-      front = subst (λ (x : List ℕ). IsFront (drop (at + n) text) t x) (drop-drop size (at + n) text) f.front;
+      front = subst (λ (x : List ℕ). IsWordFront (drop (at + n) text) t x) (drop-drop size (at + n) text) f.front;
       later = omega arith;
       some = omega (arith, f.some);
       within = omega (arith, f.within);

@@ -6,8 +6,8 @@ use Rattle.aut_base.proofs.Outcomes.{hands_on}
 use Rattle.aut_base.specs.Label.{label_tree}
 use Rattle.word_syntax.proofs.texts.FrontTokens.{front_found, front_stands, none_found}
 use Rattle.word_syntax.proofs.texts.Midways.{ended_early, stopped_bad, written}
-use Rattle.word_syntax.specs.Tokens.{IsFront}
-use Rattle.word_syntax.specs.Writing.{AnswersWord, IsBadAt, IsNameAtFront, NoNameAtFront, Writes, WritesNothing}
+use Rattle.word_syntax.specs.Tokens.{IsWordFront}
+use Rattle.word_syntax.specs.Writing.{AnswersWord, IsBadAt, IsNameAtFront, NoNameAtFront, WritesWord, WritesNothing}
 use Rattle.word_syntax.specs.inner.Fronts.{front_token}
 use Rattle.word_syntax.specs.inner.Reading.{IsThrough, StopsOrGoes}
 use Rattle.word_syntax.specs.declared.pattern.Pattern.{Pattern}
@@ -27,9 +27,9 @@ pub passed_on : (text bytes : List ℕ) (r : Result Pattern WordFault) (f : Word
 passed_on text bytes r f is short h s = hands_on r f (λ x. AnswersWord x text) h (subst (AnswersWord (Err f)) is (fault_said bytes f short s))
 
 pub word_written : (text bytes : List ℕ) (r : WordReader) → bytes ≡ text → length bytes < 2 ^ 32 → IsThrough bytes r → r.stage ≡ End
-    → Writes text (record { names = r.names; stem = map label_tree r.stem; cycle = map label_tree r.cycle })
+    → WritesWord text (record { names = r.names; stem = map label_tree r.stem; cycle = map label_tree r.cycle })
 word_written text bytes r is short t e = let P : List ℕ
-    → Type 0 = λ x. Writes x (record { names = r.names; stem = map label_tree r.stem; cycle = map label_tree r.cycle }) in subst P is (written bytes r short t e)
+    → Type 0 = λ x. WritesWord x (record { names = r.names; stem = map label_tree r.stem; cycle = map label_tree r.cycle }) in subst P is (written bytes r short t e)
 
 pub word_ended : (text bytes : List ℕ) (r : WordReader) → bytes ≡ text → length bytes < 2 ^ 32 → IsThrough bytes r → r.stage ≢ End → IsBadAt text (length bytes) × WritesNothing text
 word_ended text bytes r is short t e =
@@ -41,7 +41,7 @@ pub name_found : (text bytes : List ℕ) (o : Option (Token × ℕ)) (t : Token)
     → IsNameAtFront text name size
 name_found text bytes o t name size is found some e =
     let f = front_found text t size (ap front_token (sym is) ∙ (sym found ∙ some)) in
-    let P : Token → Type 0 = λ x. IsFront text x (drop size text) in
+    let P : Token → Type 0 = λ x. IsWordFront text x (drop size text) in
     record { within = f.within; front = subst P e f.front }
 
 pub no_name : (text bytes : List ℕ) (o : Option (Token × ℕ)) (t : Token) (size : ℕ) → bytes ≡ text → o ≡ front_token bytes → o ≡ Some (t, size) → ((name : List ℕ) → t ≡ token.Name name → ⊥)

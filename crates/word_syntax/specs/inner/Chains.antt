@@ -29,7 +29,7 @@ abbrev pub GrowsBy : List ℕ → List (List ℕ) → List (List ℕ) → Type 0
 GrowsBy name old new = (Contains old name × (new ≡ old)) ⊎ (All (λ other. other ≢ name) old × (new ≡ old ++ name ∷ []))
 
 -- the name has this place in the list with it
-pub record IsPlaced (old new : List (List ℕ)) (name : List ℕ) (place : ℕ) : Type 0 where
+pub record IsNamePlaced (old new : List (List ℕ)) (name : List ℕ) (place : ℕ) : Type 0 where
   pub grows : GrowsBy name old new
   pub stands : slice_get new place ≡ Some name
 
@@ -52,6 +52,6 @@ pub record HasTaken (before : WordReader) (t : Token) (after : WordReader) : Typ
   pub names : NamesGo t before.names after.names
   pub steps : (place : List ℕ → ℕ) → Agrees place after.names → word_step place (word_state before) t ≡ Some (word_state after)
 
-abbrev pub Takes : WordReader → Token → Option WordReader → Type 0
-Takes before t None = (place : List ℕ → ℕ) → word_step place (word_state before) t ≡ None
-Takes before t (Some after) = HasTaken before t after
+abbrev pub TakesToken : WordReader → Token → Option WordReader → Type 0
+TakesToken before t None = (place : List ℕ → ℕ) → word_step place (word_state before) t ≡ None
+TakesToken before t (Some after) = HasTaken before t after

@@ -3,7 +3,7 @@ use Rattle.std.specs.Prelude.{ℕ, ◌+◌, ◌==◌, ◌&&◌, if◌then◌else
 use Rattle.std.specs.List.{prefix_len}
 use Rattle.std.specs.Option.{option_map}
 use Rattle.aut_base.specs.Text.{same_text}
-use Rattle.word_syntax.specs.Tokens.{is_letter, is_word}
+use Rattle.word_syntax.specs.Tokens.{is_letter, is_alphanumeric}
 use Rattle.word_syntax.specs.declared.token.Token.{Token}
 use Rattle.word_syntax.specs.declared.token.Token.TheVariants.{True, False, Name, Not, And, Or, LeftParen, RightParen, Semicolon, Cycle, LeftBrace, RightBrace}
 
@@ -42,16 +42,16 @@ unquoted (b ∷ c ∷ cs) =
     option_map (quoted_more b 1) (unquoted (c ∷ cs))
 
 -- how often a sign stands at the front, up to twice
-abbrev pub doubled : ℕ → List ℕ → ℕ
-doubled b bytes = if nat_lt 1 (length bytes) && (slice_index bytes 1 == b) then 2 else 1
+abbrev pub sign_count : ℕ → List ℕ → ℕ
+sign_count b bytes = if nat_lt 1 (length bytes) && (slice_index bytes 1 == b) then 2 else 1
 
 -- the token that begins with the byte at the front of these bytes, and how many of them spell it
 abbrev pub token_from : ℕ → List ℕ → Option (Token × ℕ)
 token_from b bytes =
-    if is_letter b then Some (bare_token (take (prefix_len is_word bytes) bytes), prefix_len is_word bytes) else
+    if is_letter b then Some (bare_token (take (prefix_len is_alphanumeric bytes) bytes), prefix_len is_alphanumeric bytes) else
     if b == 34 then option_map (λ (s : List ℕ × ℕ). (Name s.0, 1 + s.1)) (unquoted (drop 1 bytes)) else
-    if b == 38 then Some (And, doubled 38 bytes) else
-    if b == 124 then Some (Or, doubled 124 bytes) else
+    if b == 38 then Some (And, sign_count 38 bytes) else
+    if b == 124 then Some (Or, sign_count 124 bytes) else
     option_map (λ t. (t, 1)) (sign_token b)
 
 -- the token at the front of these bytes, and how many of them spell it

@@ -46,8 +46,8 @@ abbrev pub complete : LetterState → LabelTree → LetterState
 complete s t = record { outer = s.outer; level = complete_level s.level t; ready = true }
 
 -- one more may open
-abbrev pub has_room : LevelTree → Bool
-has_room l = nat_lt (l.around + l.nots) most_open
+abbrev pub may_nest : LevelTree → Bool
+may_nest l = nat_lt (l.around + l.nots) most_open
 
 -- what a whole level says
 abbrev pub level_label : LevelTree → LabelTree
@@ -74,10 +74,10 @@ ored s = with_level s (or_level s.level)
 
 -- `!` and `(`, where one more may open
 abbrev pub maybe_negated : LetterState → Option LetterState
-maybe_negated s = if has_room s.level then Some (negated s) else None
+maybe_negated s = if may_nest s.level then Some (negated s) else None
 
 abbrev pub maybe_opened : LetterState → Option LetterState
-maybe_opened s = if has_room s.level then Some (opened s) else None
+maybe_opened s = if may_nest s.level then Some (opened s) else None
 
 -- `)`
 abbrev pub closed : List LevelTree → LevelTree → Option LetterState
@@ -128,11 +128,11 @@ abbrev pub with_letter : WordState → LetterState → WordState
 with_letter s l = record { stem = s.stem; cycle = s.cycle; stage = s.stage; letter = l }
 
 -- `;` after a letter
-abbrev pub ended_at : Stage → WordState → LabelTree → Option WordState
-ended_at Stem s t = Some (record { stem = s.stem ++ t ∷ []; cycle = s.cycle; stage = Stem; letter = fresh })
-ended_at Cycle s t = Some (record { stem = s.stem; cycle = s.cycle ++ t ∷ []; stage = Cycle; letter = fresh })
-ended_at Brace s t = None
-ended_at End s t = None
+abbrev pub letter_ended : Stage → WordState → LabelTree → Option WordState
+letter_ended Stem s t = Some (record { stem = s.stem ++ t ∷ []; cycle = s.cycle; stage = Stem; letter = fresh })
+letter_ended Cycle s t = Some (record { stem = s.stem; cycle = s.cycle ++ t ∷ []; stage = Cycle; letter = fresh })
+letter_ended Brace s t = None
+letter_ended End s t = None
 
 -- `}` after a letter
 abbrev pub closed_at : Stage → WordState → LabelTree → Option WordState
@@ -163,7 +163,7 @@ has_letters Brace = false
 has_letters End = false
 
 abbrev pub word_step : (List ℕ → ℕ) → WordState → Token → Option WordState
-word_step place s token.Semicolon = option_and_then (ended_at s.stage s) (whole_letter s.letter)
+word_step place s token.Semicolon = option_and_then (letter_ended s.stage s) (whole_letter s.letter)
 word_step place s token.RightBrace = option_and_then (closed_at s.stage s) (whole_letter s.letter)
 word_step place s token.Cycle = cycle_at s.stage s
 word_step place s token.LeftBrace = brace_at s.stage s

@@ -1,35 +1,35 @@
 -- What stands next in a text.
 use Rattle.std.specs.Prelude.{◌≡◌, ℕ, ◌<◌, ◌≤◌, Bool, false, List, [], ◌∷◌, length, drop}
-use Rattle.word_syntax.specs.Tokens.{AfterBlanks, IsFront, is_blank}
+use Rattle.word_syntax.specs.Tokens.{FollowsBlanks, IsWordFront, is_blank}
 use Rattle.word_syntax.specs.declared.next.Next.{Next}
 use Rattle.word_syntax.specs.declared.next.Next.TheVariants as next
 use Rattle.word_syntax.specs.declared.token.Token.{Token}
 
 -- no element that passes stands first
-abbrev pub StopsAt : (ℕ → Bool) → List ℕ → Type 0
-StopsAt p [] = Unit {0}
-StopsAt p (b ∷ bs) = p b ≡ false
+abbrev pub StopsAtHead : (ℕ → Bool) → List ℕ → Type 0
+StopsAtHead p [] = Unit {0}
+StopsAtHead p (b ∷ bs) = p b ≡ false
 
 -- no blank stands first
 abbrev pub NoBlankFirst : List ℕ → Type 0
-NoBlankFirst = StopsAt is_blank
+NoBlankFirst = StopsAtHead is_blank
 
 -- the token stands next, and these are the places of its first byte and behind its last
-pub record IsNext (text : List ℕ) (at : ℕ) (t : Token) (start end : ℕ) : Type 0 where
-  pub blanks : AfterBlanks (drop at text) (drop start text)
-  pub front : IsFront (drop start text) t (drop end text)
+pub record IsTokenNext (text : List ℕ) (at : ℕ) (t : Token) (start end : ℕ) : Type 0 where
+  pub blanks : FollowsBlanks (drop at text) (drop start text)
+  pub front : IsWordFront (drop start text) t (drop end text)
   pub later : at ≤ start
   pub some : start < end
   pub within : end ≤ length text
 
 -- no token stands next
 pub record IsNothing (text : List ℕ) (at start : ℕ) : Type 0 where
-  pub blanks : AfterBlanks (drop at text) (drop start text)
+  pub blanks : FollowsBlanks (drop at text) (drop start text)
   pub first : NoBlankFirst (drop start text)
   pub later : at ≤ start
   pub within : start ≤ length text
-  pub none : (t : Token) (rest : List ℕ) → IsFront (drop start text) t rest → ⊥
+  pub none : (t : Token) (rest : List ℕ) → IsWordFront (drop start text) t rest → ⊥
 
-abbrev pub StandsNext : List ℕ → ℕ → Next → Type 0
-StandsNext text at (next.Token t start end) = IsNext text at t start end
-StandsNext text at (next.Nothing start) = IsNothing text at start
+abbrev pub IsNextAnswer : List ℕ → ℕ → Next → Type 0
+IsNextAnswer text at (next.Token t start end) = IsTokenNext text at t start end
+IsNextAnswer text at (next.Nothing start) = IsNothing text at start

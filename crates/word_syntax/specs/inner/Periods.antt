@@ -56,5 +56,5 @@ pub record ArePeriods (v : List NameSet) (periods : List ℕ) : Type 0 where
   pub least : AreLeastPeriods v (length v + 1) periods
 
 -- each name of the first letter is in the second
-abbrev pub IsWithin : NameSet → NameSet → Type 0
-IsWithin a b = (name : List ℕ) → contains a name ≡ true → contains b name ≡ true
+abbrev pub IsSubset : NameSet → NameSet → Type 0
+IsSubset a b = (name : List ℕ) → contains a name ≡ true → contains b name ≡ true

@@ -1,28 +1,28 @@
 -- How far a text is read.
 use Rattle.std.specs.Prelude.{◌≡◌, ℕ, ◌+◌, ◌≤◌, true, List, length, drop, Result, Ok, Err}
 use Rattle.std.specs.List.{list_all}
-use Rattle.word_syntax.specs.Grammar.{distinct, names_of}
-use Rattle.word_syntax.specs.Tokens.{Lexes, is_blank}
+use Rattle.word_syntax.specs.Grammar.{distinct, token_names}
+use Rattle.word_syntax.specs.Tokens.{LexesWord, is_blank}
 use Rattle.word_syntax.specs.Writing.{IsStoppedAt}
 use Rattle.word_syntax.specs.declared.pattern.WordFault.{WordFault}
 use Rattle.word_syntax.specs.declared.pattern.WordFault.TheVariants.{BadWord, Memory}
 use Rattle.word_syntax.specs.inner.Chains.{Agrees, word_state}
 use Rattle.word_syntax.specs.inner.Machine.{WordState, word_start, word_step}
-use Rattle.word_syntax.specs.inner.Runs.{Runs}
+use Rattle.word_syntax.specs.inner.Runs.{RunsTokens}
 use Rattle.word_syntax.specs.declared.word.WordReader.{WordReader}
 use Rattle.word_syntax.specs.declared.token.Token.{Token}
 
 -- the reader has read these tokens, whatever function gives the places of their names
-abbrev pub HasRead : List Token → WordState → Type 0
-HasRead tokens s = (place : List ℕ → ℕ) → Agrees place (distinct (names_of tokens)) → Runs (word_step place) word_start tokens s
+abbrev pub HasReadTokens : List Token → WordState → Type 0
+HasReadTokens tokens s = (place : List ℕ → ℕ) → Agrees place (distinct (token_names tokens)) → RunsTokens (word_step place) word_start tokens s
 
 -- So many bytes of the text are read.
-pub record IsMidway (text : List ℕ) (at : ℕ) (r : WordReader) : Type 0 where
+pub record HasReadTo (text : List ℕ) (at : ℕ) (r : WordReader) : Type 0 where
   pub tokens : List Token
-  pub lexes : Lexes text tokens (drop at text)
+  pub lexes : LexesWord text tokens (drop at text)
   pub within : at ≤ length text
-  pub names : r.names ≡ distinct (names_of tokens)
-  pub read : HasRead tokens (word_state r)
+  pub names : r.names ≡ distinct (token_names tokens)
+  pub read : HasReadTokens tokens (word_state r)
   pub few_names : length r.names ≤ at
   pub few_letters : length r.stem + length r.cycle ≤ at
 
@@ -30,10 +30,10 @@ pub record IsMidway (text : List ℕ) (at : ℕ) (r : WordReader) : Type 0 where
 pub record IsThrough (text : List ℕ) (r : WordReader) : Type 0 where
   pub tokens : List Token
   pub rest : List ℕ
-  pub lexes : Lexes text tokens rest
+  pub lexes : LexesWord text tokens rest
   pub blank : list_all is_blank rest ≡ true
-  pub names : r.names ≡ distinct (names_of tokens)
-  pub read : HasRead tokens (word_state r)
+  pub names : r.names ≡ distinct (token_names tokens)
+  pub read : HasReadTokens tokens (word_state r)
   pub few_letters : length r.stem + length r.cycle ≤ length text
 
 -- What each answer to a text's tokens says of it.

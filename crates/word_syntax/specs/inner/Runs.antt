@@ -3,6 +3,6 @@ use Rattle.std.specs.Prelude.{◌≡◌, List, [], ◌∷◌, Option, Some}
 use Rattle.word_syntax.specs.declared.token.Token.{Token}
 
 -- the tokens lead from the first state to the last
-abbrev pub Runs : {S : Type 0} → (S → Token → Option S) → S → List Token → S → Type 0
-Runs step s [] end = s ≡ end
-Runs {S} step s (t ∷ ts) end = (next : S) × (step s t ≡ Some next) × Runs step next ts end
+abbrev pub RunsTokens : {S : Type 0} → (S → Token → Option S) → S → List Token → S → Type 0
+RunsTokens step s [] end = s ≡ end
+RunsTokens {S} step s (t ∷ ts) end = (next : S) × (step s t ≡ Some next) × RunsTokens step next ts end

@@ -1,7 +1,7 @@
 use Rattle.std.proofs.Common.{◌∙◌, ap, subst, sym}
 use Rattle.std.proofs.lemmas.Result.{IfOk-weaker}
 use Rattle.aut_base.specs.Automaton.{Automaton}
-use Rattle.aut_core.specs.Core.{automaton_of}
+use Rattle.aut_core.specs.SymbolicAutomata.{automaton_of}
 use Rattle.ap_project.proofs.HiddenAutomata.{hidden_accepts, names_hidden, sets_hidden, states_hidden}
 use Rattle.ap_project.specs.Hiding.{AcceptsHidden}
 use Rattle.ap_project.proofs.removal.remove_ap.Goals as goal
@@ -10,7 +10,7 @@ pub returns-clause-accepts : goal.returns-clause-accepts
 returns-clause-accepts c =
     let a = automaton_of c.args.a.now in
     IfOk-weaker c.without_name.result _ _ (λ made same. subst (λ (h : Automaton). AcceptsHidden c.args.how c.args.name.now a h) (sym same)
-    (hidden_accepts c.args.how c.args.name.now a c.whole.ensures.well_formed)) c.without_name.ensures
+    (hidden_accepts c.args.how c.args.name.now a c.well_formed.ensures.well_formed)) c.without_name.ensures
 
 pub returns-clause-names : goal.returns-clause-names
 returns-clause-names c = IfOk-weaker c.without_name.result _ _ (λ made same. ap (λ (h : Automaton). h.names) same

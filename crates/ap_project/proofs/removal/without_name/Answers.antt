@@ -1,7 +1,7 @@
 use Rattle.std.proofs.Common.{◌≢◌, ◌∙◌, All, List, ap, subst, sym, ℕ}
 use Rattle.std.proofs.lemmas.Result.{IfOk-weaker}
 use Rattle.aut_core.proofs.JoinedNames.{not_among}
-use Rattle.aut_core.specs.Core.{automaton_of}
+use Rattle.aut_core.specs.SymbolicAutomata.{automaton_of}
 use Rattle.ap_project.proofs.HiddenAutomata.{hidden_lacking}
 use Rattle.ap_project.proofs.removal.without_name.Goals as goal
 

@@ -4,10 +4,10 @@ use Rattle.std.proofs.lemmas.Result.{IfOk-weaker}
 use Rattle.aut_base.proofs.lists.Members.{placed_there}
 use Rattle.aut_base.specs.Formula.{formula_tree}
 use Rattle.aut_core.proofs.JoinedNames.{among}
-use Rattle.aut_core.specs.Core.{Core, automaton_of}
+use Rattle.aut_core.specs.SymbolicAutomata.{SymbolicAutomaton, automaton_of}
 use Rattle.ap_project.proofs.HiddenAutomata.{hidden_edges, hidden_there, others_parts, over_others}
 use Rattle.ap_project.specs.Hiding.{names_without}
-use Rattle.ap_project.specs.inner.HiddenGuards.{ArePlaces}
+use Rattle.ap_project.specs.inner.HiddenGuards.{ArePlacesOfNames}
 use Rattle.ap_project.proofs.removal.without_prop.Goals.{After-sets, In_ok-names}
 use Rattle.ap_project.proofs.removal.without_prop.Goals as goal
 
@@ -28,11 +28,11 @@ hidden_links-requires-clause-names c =
 pub hidden_links-requires-clause-places : goal.hidden_links-requires-clause-places
 hidden_links-requires-clause-places c =
     let a = c.args.a.now in
-    subst (λ (ns : List (List ℕ)). ArePlaces a.names ns c.in_ok-to.to) (listed_are (goal.at.hidden_links-requires-clause-places c).In_ok-names)
-    (subst (λ (ns : List (List ℕ)). ArePlaces ns c.in_ok-names.names c.in_ok-to.to) c.names-2.ensures c.in_ok-to.ensures)
+    subst (λ (ns : List (List ℕ)). ArePlacesOfNames a.names ns c.in_ok-to.to) (listed_are (goal.at.hidden_links-requires-clause-places c).In_ok-names)
+    (subst (λ (ns : List (List ℕ)). ArePlacesOfNames ns c.in_ok-names.names c.in_ok-to.to) c.names-2.ensures c.in_ok-to.ensures)
 
 -- the automaton as it is handed on
-abbrev core : After-sets → Core
+abbrev core : After-sets → SymbolicAutomaton
 core c = record {
   names = c.in_ok-names.names;
   starts = c.in_ok-starts.starts;
@@ -57,7 +57,7 @@ pub from_parts-requires : goal.from_parts-requires
 from_parts-requires c =
     let at = (goal.at.from_parts-requires c).After-sets in
     let names = c.in_ok-names.ensures.others ∙ ap (names_without c.args.name.now) c.names.ensures in
-    others_parts c.args.how c.args.name.now c.args.a.now (core at) c.whole.ensures (same at) (c.in_ok-links.ensures.names ∙ (c.in_ok-guards.ensures.names ∙ (c.len.ensures ∙ ap length names)))
+    others_parts c.args.how c.args.name.now c.args.a.now (core at) c.well_formed.ensures (same at) (c.in_ok-links.ensures.names ∙ (c.in_ok-guards.ensures.names ∙ (c.len.ensures ∙ ap length names)))
     c.in_ok-links.ensures.has
 
 pub returns : goal.returns

@@ -1,6 +1,6 @@
 use Rattle.std.proofs.Common.{arith, rules}
 use Rattle.std.proofs.lemmas.List.Elements.{All-map}
-use Rattle.aut_base.specs.Automaton.{tree_edge, automaton, IsEdgeOf}
+use Rattle.aut_base.specs.Automaton.{labelled_edge, automaton, IsEdgeOf}
 use Rattle.aut_base.proofs.order.WellFormed.{one_of_all}
 use Rattle.aut_base.proofs.well_formed.are_edges.Goals as goal
 
@@ -13,4 +13,4 @@ returns-then-not-is_edge c = (
 )
 
 pub returns : goal.returns
-returns c = (λ h. All-map (IsEdgeOf (automaton c.args.description.now)) tree_edge c.args.edges.now (λ k d near. c.edges.invariant k d (omega arith)), λ all. search rules)
+returns c = (λ h. All-map (IsEdgeOf (automaton c.args.description.now)) labelled_edge c.args.edges.now (λ k d near. c.edges.invariant k d (omega arith)), λ all. search rules)

@@ -2,7 +2,7 @@ use Rattle.std.proofs.Common.{◌∙◌, ◌==◌, List, All, filter, map, subst
 use Rattle.std.proofs.lemmas.List.Elements.{All-filter, All-weaker}
 use Rattle.label_guards.specs.Store.{Has}
 use Rattle.aut_core.specs.Surveys.{IsSurvey}
-use Rattle.aut_core.specs.Core.{edge_of}
+use Rattle.aut_core.specs.SymbolicAutomata.{edge_of}
 use Rattle.aut_core.specs.declared.link.Link.{Link}
 use Rattle.aut_core.proofs.Growth.{keeps_on}
 use Rattle.aut_core.proofs.Rows.{row_indexed}

@@ -1,6 +1,6 @@
 use Rattle.std.proofs.Common.{◌≡◌, map}
 use Rattle.label_guards.specs.Store.{Keeps}
-use Rattle.aut_core.specs.Core.{edge_of}
+use Rattle.aut_core.specs.SymbolicAutomata.{edge_of}
 use Rattle.aut_core.specs.Surveys.{AreSurveyed}
 use Rattle.aut_core.proofs.survey.survey_states.Given as goal
 

@@ -4,7 +4,7 @@ use Rattle.aut_ops.proofs.pairs.Listings.{beyond_front, listed_one, listed_then,
 use Rattle.aut_ops.proofs.pairs.Pairings.{beyond_one}
 use Rattle.aut_base.proofs.Outcomes.{passed_on}
 use Rattle.aut_base.specs.declared.limit.TheConstants.{MOST_PAIRS}
-use Rattle.aut_ops.specs.inner.Pairings.{AreListed}
+use Rattle.aut_ops.specs.inner.Pairings.{ArePairsListed}
 use Rattle.aut_ops.proofs.breadth_first.list_row.Goals as goal
 
 pub returns-in_err-place-clause-many : goal.returns-in_err-place-clause-many
@@ -31,6 +31,6 @@ seconds-preserved c =
     record {
       store = c.number.ensures.store ∙ c.seconds.invariant.store;
       links = c.number.ensures.links ∙ c.seconds.invariant.links;
-      listed = subst (AreListed c.args.pairing.now.pairs c.number.new.self.pairs c.args.starts.now c.push.new.self) (sym (row_next f qs i q c.seconds-test.true at)) all;
+      listed = subst (ArePairsListed c.args.pairing.now.pairs c.number.new.self.pairs c.args.starts.now c.push.new.self) (sym (row_next f qs i q c.seconds-test.true at)) all;
       few = c.in_ok-place.ensures.few;
     }

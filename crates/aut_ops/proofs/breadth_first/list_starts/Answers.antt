@@ -4,7 +4,7 @@ use Rattle.aut_ops.proofs.pairs.Listings.{beyond_front, listed_none, listed_then
 use Rattle.aut_ops.specs.Products.{all_pairs}
 use Rattle.aut_base.proofs.Outcomes.{passed_on}
 use Rattle.aut_base.specs.declared.limit.TheConstants.{MOST_PAIRS}
-use Rattle.aut_ops.specs.inner.Pairings.{AreBeyond, AreListed, ArePlaces, with_pairs}
+use Rattle.aut_ops.specs.inner.Pairings.{AreBeyond, ArePairsListed, ArePlacesOfPairs, with_pairs}
 use Rattle.aut_ops.proofs.breadth_first.list_starts.Goals.{After-as_slice}
 use Rattle.aut_ops.proofs.breadth_first.list_starts.Goals as goal
 
@@ -12,7 +12,7 @@ pub firsts-init : goal.firsts-init
 firsts-init c = record {
   store = refl;
   links = refl;
-  listed = subst (λ ps. AreListed [] ps [] c.new-starts.result []) (sym c.requires) (subst (λ ks. AreListed [] [] [] ks []) (sym c.new-starts.ensures) (listed_none [] []));
+  listed = subst (λ ps. ArePairsListed [] ps [] c.new-starts.result []) (sym c.requires) (subst (λ ks. ArePairsListed [] [] [] ks []) (sym c.new-starts.ensures) (listed_none [] []));
   few = omega (arith, ap (λ (xs : List (ℕ × ℕ)). length xs) c.requires);
 }
 
@@ -42,13 +42,13 @@ firsts-preserved c =
     let ps = c.args.firsts.now in
     let i = c.firsts.first-index in
     let p : ℕ = get_or ps i 0 in
-    let one = subst (AreListed c.firsts.pairing.pairs c.list_row.new.pairing.pairs c.firsts.starts c.list_row.new.starts) (same here) c.in_ok-list_row.ensures.listed in
+    let one = subst (ArePairsListed c.firsts.pairing.pairs c.list_row.new.pairing.pairs c.firsts.starts c.list_row.new.starts) (same here) c.in_ok-list_row.ensures.listed in
     let all = listed_then [] c.firsts.pairing.pairs c.list_row.new.pairing.pairs [] c.firsts.starts c.list_row.new.starts (all_pairs (take i ps) c.args.seconds.now) (row c.args.seconds.now p)
     c.firsts.invariant.listed one in
     record {
       store = c.list_row.ensures.store ∙ c.firsts.invariant.store;
       links = c.list_row.ensures.links ∙ c.firsts.invariant.links;
-      listed = subst (AreListed [] c.list_row.new.pairing.pairs [] c.list_row.new.starts)
+      listed = subst (ArePairsListed [] c.list_row.new.pairing.pairs [] c.list_row.new.starts)
           (sym (rows_next (row c.args.seconds.now) ps i p (within here) (get_or_default ps i 0 p (within here)))) all;
       few = c.in_ok-list_row.ensures.few;
     }
@@ -61,4 +61,4 @@ returns-clause-pairs c =
 pub returns-clause-places : goal.returns-clause-places
 returns-clause-places c =
     let end = take_all c.firsts.first-index c.args.firsts.now (omega (arith, c.firsts-test.false, ap (λ (xs : List ℕ). length xs) c.as_slice-first-items.ensures)) in
-    subst (λ ps. ArePlaces c.firsts.pairing.pairs c.firsts.starts (all_pairs ps c.args.seconds.now)) end (c.firsts.invariant.listed.places [] tt)
+    subst (λ ps. ArePlacesOfPairs c.firsts.pairing.pairs c.firsts.starts (all_pairs ps c.args.seconds.now)) end (c.firsts.invariant.listed.places [] tt)

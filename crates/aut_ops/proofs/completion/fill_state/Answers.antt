@@ -1,6 +1,6 @@
 use Rattle.std.proofs.Common.{◌∙◌, map}
 use Rattle.std.proofs.lemmas.Result.{on_ok_weaker}
-use Rattle.aut_core.specs.Core.{edge_of}
+use Rattle.aut_core.specs.SymbolicAutomata.{edge_of}
 use Rattle.aut_ops.proofs.sinks.FilledStates.{both_rows, gap_is, with_gap, without_gap}
 use Rattle.aut_ops.proofs.completion.fill_state.Goals as goal
 

@@ -1,7 +1,7 @@
 use Rattle.std.proofs.Common.{map, take}
 use Rattle.std.specs.List.{list_any}
 use Rattle.aut_base.specs.Label.{truth}
-use Rattle.aut_core.specs.Core.{edge_of}
+use Rattle.aut_core.specs.SymbolicAutomata.{edge_of}
 use Rattle.label_guards.specs.Guards.{IsGuardOf}
 use Rattle.label_guards.specs.Store.{Keeps}
 use Rattle.aut_ops.proofs.completion.gap_of.Given as goal

@@ -2,7 +2,7 @@ use Rattle.std.proofs.Common.{◌≡◌, ◌∙◌, ◌≤◌, Err, List, ℕ, A
 use Rattle.aut_base.proofs.Outcomes.{told_fault}
 use Rattle.aut_base.specs.Automaton.{Automaton}
 use Rattle.aut_base.specs.declared.limit.TheConstants.{MOST_NAMES}
-use Rattle.aut_core.specs.Core.{Core, automaton_of}
+use Rattle.aut_core.specs.SymbolicAutomata.{SymbolicAutomaton, automaton_of}
 use Rattle.aut_core.specs.OtherNames.{AcceptTheSame, joined_names, over_names}
 use Rattle.aut_ops.proofs.joint_runs.MadeProducts.{accepts_over}
 use Rattle.aut_ops.proofs.pairs.Faults.{never_names, pairs_fault}
@@ -38,9 +38,9 @@ returns-clause-accepts c =
     let has_too : All (Contains c.in_ok-names.names) c.args.b.now.names = subst (λ (ns : List (List ℕ)). All (Contains names) ns) c.names-2.ensures c.in_ok-names.ensures.both.second in
     let differ = c.as_slice-distinct.ensures.distinct in
     accepts_over c.args.join (automaton_of c.in_ok-product_over.field-0) a b (automaton_of c.in_ok-both.both.first) (automaton_of c.second.result.now) names
-    (record { differ = differ; has = has }) (record { differ = differ; has = has_too }) c.whole.ensures.well_formed c.whole-2.ensures.well_formed c.in_ok-both.ensures.first
+    (record { differ = differ; has = has }) (record { differ = differ; has = has_too }) c.well_formed.ensures.well_formed c.well_formed-2.ensures.well_formed c.in_ok-both.ensures.first
     (ap automaton_of c.second.ensures ∙ c.in_ok-both.ensures.second) c.in_ok-both.ensures.first_accepts
-    (subst (λ (x : Core). AcceptTheSame (automaton_of x) b) (sym c.second.ensures) c.in_ok-both.ensures.second_accepts) c.in_ok-product_over.ensures.accepts
+    (subst (λ (x : SymbolicAutomaton). AcceptTheSame (automaton_of x) b) (sym c.second.ensures) c.in_ok-both.ensures.second_accepts) c.in_ok-product_over.ensures.accepts
 
 pub returns-clause-within : goal.returns-clause-within
 returns-clause-within c = subst (λ (ns : List (List ℕ)). length ns ≤ MOST_NAMES) (λ i. joined_names (c.names.ensures i) (c.names-2.ensures i)) c.in_ok-names.ensures.within

@@ -2,7 +2,7 @@ use Rattle.std.proofs.Common.{Err, ap, refl, subst, sym}
 use Rattle.aut_base.proofs.Outcomes.{told_fault}
 use Rattle.aut_base.specs.Automaton.{Automaton}
 use Rattle.aut_core.proofs.Growth.{keeps_none}
-use Rattle.aut_core.specs.Core.{automaton_of}
+use Rattle.aut_core.specs.SymbolicAutomata.{automaton_of}
 use Rattle.aut_ops.proofs.joint_runs.PairRuns.{product_pairwise}
 use Rattle.aut_ops.proofs.pairs.Faults.{never_names, pairs_fault}
 use Rattle.aut_ops.specs.Languages.{ArePairwise}
@@ -14,7 +14,7 @@ product_parts-requires-clause-store c = keeps_none c.args.a.now.store
 pub returns-clause-accepts : goal.returns-clause-accepts
 returns-clause-accepts c =
     let a = automaton_of c.args.a.now in
-    let formed = c.whole.ensures.well_formed in
+    let formed = c.well_formed.ensures.well_formed in
     let made = c.in_ok-product_parts.ensures in
     subst (λ (m : Automaton). ArePairwise m c.in_ok-product_parts.field-0.pairs.keys a a) (sym made.made.shape)
     (product_pairwise a a refl formed formed c.in_ok-product_parts.field-0.pairs.keys made.pairs)

@@ -1,6 +1,6 @@
 use Rattle.std.proofs.Common.{◌&&◌}
 use Rattle.aut_ops.proofs.links.RangeSteps.{mapped_more}
-use Rattle.aut_ops.specs.Passable.{is_flagged}
+use Rattle.aut_ops.specs.Satisfiable.{is_flagged}
 use Rattle.aut_ops.proofs.pruning.both.Goals as goal
 
 pub places-preserved : goal.places-preserved

@@ -1,6 +1,6 @@
 use Rattle.std.proofs.Common.{◌≡◌, ◌&&◌, map}
 use Rattle.std.specs.List.{range_with_len}
-use Rattle.aut_ops.specs.Passable.{is_flagged}
+use Rattle.aut_ops.specs.Satisfiable.{is_flagged}
 use Rattle.aut_ops.proofs.pruning.both.Given as goal
 
 abbrev pub invariant-places : goal.invariant-places

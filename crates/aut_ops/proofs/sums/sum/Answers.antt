@@ -1,5 +1,5 @@
 use Rattle.std.proofs.Common.{◌∙◌, ap}
-use Rattle.aut_core.specs.Core.{automaton_of}
+use Rattle.aut_core.specs.SymbolicAutomata.{automaton_of}
 use Rattle.aut_core.specs.OtherNames.{joined_names, over_names}
 use Rattle.aut_ops.specs.Sums.{side_by_side}
 use Rattle.aut_ops.proofs.sums.sum.Goals as goal

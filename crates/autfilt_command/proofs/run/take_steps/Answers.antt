@@ -6,7 +6,7 @@ use Rattle.autfilt_command.specs.Notes.{aborted_line}
 use Rattle.autfilt_command.specs.declared.ended.End.TheVariants as end
 use Rattle.autfilt_run.specs.Plans.{prints_count}
 use Rattle.autfilt_run.specs.Points.{operands_in}
-use Rattle.autfilt_run.specs.Turns.{Turns, after, progress}
+use Rattle.autfilt_run.specs.Turns.{Turns, progress_after, progress}
 use Rattle.autfilt_run.specs.declared.session.Turn.{Turn}
 use Rattle.autfilt_run.specs.declared.session.Turn.TheVariants as turn
 use Rattle.filter_plan.specs.declared.plan.Plan.{Plan}
@@ -33,7 +33,7 @@ steps-preserved-in-Ok-Opened g c =
     let is = c.in-Ok-Opened.field-0-is in
     let inv = c.steps.invariant.0 in
     let did = subst (λ (x : Turn). Turns x old new m t p q) is said.step.steps in
-    let done = subst (λ (x : Turn). progress new ≡ after x (progress old)) is said.step.counts in
+    let done = subst (λ (x : Turn). progress new ≡ progress_after x (progress old)) is said.step.counts in
     let step = opened old new m t p q (steps_as old new said.step.plan) done did in
     let added = adds_nothing c.steps.noting (g.M.Sink.seen c.steps.notes) in (
       record {
@@ -56,7 +56,7 @@ steps-preserved-in-Ok-Kept g c =
     let is = c.in-Ok-Kept.field-0-is in
     let inv = c.steps.invariant.0 in
     let did = subst (λ (x : Turn). Turns x old new m t p q) is said.step.steps in
-    let done = subst (λ (x : Turn). progress new ≡ after x (progress old)) is said.step.counts in
+    let done = subst (λ (x : Turn). progress new ≡ progress_after x (progress old)) is said.step.counts in
     let step = kept old new m t p q (steps_as old new said.step.plan) done did in
     let added = adds_nothing c.steps.noting (g.M.Sink.seen c.steps.notes) in (
       record {
@@ -79,7 +79,7 @@ steps-preserved-in-Ok-Dropped g c =
     let is = c.in-Ok-Dropped.field-0-is in
     let inv = c.steps.invariant.0 in
     let did = subst (λ (x : Turn). Turns x old new m t p q) is said.step.steps in
-    let done = subst (λ (x : Turn). progress new ≡ after x (progress old)) is said.step.counts in
+    let done = subst (λ (x : Turn). progress new ≡ progress_after x (progress old)) is said.step.counts in
     let step = dropped old new m t p q (steps_as old new said.step.plan) done did in
     let added = adds_nothing c.steps.noting (g.M.Sink.seen c.steps.notes) in (
       record {
@@ -102,7 +102,7 @@ steps-preserved g c =
     let is = c.in-Ok-StreamEnd.field-0-is in
     let inv = c.steps.invariant.0 in
     let did = subst (λ (x : Turn). Turns x old new m t p q) is said.step.steps in
-    let done = subst (λ (x : Turn). progress new ≡ after x (progress old)) is said.step.counts in
+    let done = subst (λ (x : Turn). progress new ≡ progress_after x (progress old)) is said.step.counts in
     let step = ended old new m t p q (steps_as old new said.step.plan) done did in
     let added = adds_nothing c.steps.noting (g.M.Sink.seen c.steps.notes) in (
       record {
@@ -125,7 +125,7 @@ steps-preserved-in-Ok-Skipped g c =
     let is = c.in-Ok-Skipped.field-0-is in
     let inv = c.steps.invariant.0 in
     let did = subst (λ (x : Turn). Turns x old new m t p q) is said.step.steps in
-    let done = subst (λ (x : Turn). progress new ≡ after x (progress old)) is said.step.counts in
+    let done = subst (λ (x : Turn). progress new ≡ progress_after x (progress old)) is said.step.counts in
     let step = skipped old new m t p q (steps_as old new said.step.plan) done did in
     let added = subst (λ (x : List ℕ). Adds (aborted_line x) c.steps.noting c.note_skipped-noting.result (g.M.Sink.seen c.steps.notes) (g.M.Sink.seen c.note_skipped-noting.new.notes))
     c.name_in_hand-in-Ok-Skipped.ensures c.note_skipped-noting.ensures in (
@@ -149,7 +149,7 @@ returns-in-Ok-Done g c =
     let said = c.in-Ok-Done.ensures in
     let is = c.in-Ok-Done.field-0-is in
     let did = subst (λ (x : Turn). Turns x old new m t p r) is said.step.steps in
-    let done = subst (λ (x : Turn). progress new ≡ after x (progress old)) is said.step.counts in
+    let done = subst (λ (x : Turn). progress new ≡ progress_after x (progress old)) is said.step.counts in
     carries_as c.args.session c.args.noting c.note_end.result c.finish-end.result _ _ _ _ _ _ c.note_end.ensures.same
     (run_finished c.finish-end.result c.name_in_hand.result.now c.args.session old (g.I.Inputs.seen c.args.inputs.now) m t (g.W.Sink.seen c.args.out.now) p r q _ _ _ c.args.noting c.steps.noting
     c.steps.invariant.0.ran did.0 did.1 (λ is. subst (λ (x : Plan). prints_count x ≡ true) said.step.plan (c.finish-end.ensures.due is))

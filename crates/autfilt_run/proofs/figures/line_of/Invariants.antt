@@ -1,7 +1,7 @@
 -- What is written so far begins the line, and what was counted is so.
 use Rattle.std.proofs.Common.{drop}
 use Rattle.std.specs.Prelude.{IfSome}
-use Rattle.aut_core.specs.Core.{automaton_of}
+use Rattle.aut_core.specs.SymbolicAutomata.{automaton_of}
 use Rattle.aut_ops.specs.Trimming.{IsReachedSize}
 use Rattle.autfilt_run.proofs.printing.FigureLines.{IsBegun}
 use Rattle.autfilt_run.proofs.figures.line_of.Given as goal

@@ -1,5 +1,5 @@
 use Rattle.std.proofs.Common.{◌∙◌}
-use Rattle.aut_core.specs.Core.{automaton_of}
+use Rattle.aut_core.specs.SymbolicAutomata.{automaton_of}
 use Rattle.autfilt_run.proofs.printing.FigureLines.{shows_reached}
 use Rattle.autfilt_run.proofs.figures.states_text.Goals as goal
 

@@ -2,7 +2,7 @@ use Rattle.std.specs.Option.{option_copied}
 use Rattle.std.specs.Prelude.{map}
 use Rattle.std.proofs.Common.{◌∙◌, [], refl, sym}
 use Rattle.aut_base.proofs.Outcomes.{hands_on}
-use Rattle.aut_core.specs.Core.{automaton_of}
+use Rattle.aut_core.specs.SymbolicAutomata.{automaton_of}
 use Rattle.autfilt_run.proofs.printing.Gains.{nothing}
 use Rattle.autfilt_run.proofs.handling.Handling.{is_unwanted, is_wanted, is_wanted_silent, not_judged, not_printed}
 use Rattle.autfilt_run.specs.Faults.{fault_of_plan}

@@ -1,5 +1,5 @@
 use Rattle.std.proofs.Common.{map}
-use Rattle.aut_core.specs.Core.{automaton_of}
+use Rattle.aut_core.specs.SymbolicAutomata.{automaton_of}
 use Rattle.autfilt_run.proofs.printing.RefutationLines.{is_line, of_cycle, of_stem}
 use Rattle.plan_meaning.specs.Operands.{refuted_operand}
 use Rattle.autfilt_run.proofs.refuted.refutation_line.Goals as goal

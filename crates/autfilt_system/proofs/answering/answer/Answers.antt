@@ -1,6 +1,6 @@
 use Rattle.std.proofs.Common.{ℕ, List, inl}
 use Rattle.autfilt_system.proofs.Arguments.{holds_of_words}
-use Rattle.autfilt_system.specs.Answers.{Answers}
+use Rattle.autfilt_system.specs.Answers.{EndsProgram}
 use Rattle.autfilt_system.proofs.answering.answer.Goals as goal
 
 pub returns-in-Ok-clause-ran : goal.returns-in-Ok-clause-ran
@@ -9,7 +9,7 @@ returns-in-Ok-clause-ran g c =
     let written = g.W.Sink.seen in
     let noted = g.M.Sink.seen in
     holds_of_words _ _ c.args.args _
-    (λ (words : List (List ℕ)). Answers words c.exit_code.result (seen c.args.inputs.now) (seen c.autfilt.new.inputs) (written c.args.out.now) (written c.autfilt.new.out)
+    (λ (words : List (List ℕ)). EndsProgram words c.exit_code.result (seen c.args.inputs.now) (seen c.autfilt.new.inputs) (written c.args.out.now) (written c.autfilt.new.out)
     (noted c.args.notes.now) (noted c.autfilt.new.notes))
     c.in-Ok.ensures.words
     (inl (record {

@@ -1,5 +1,5 @@
 use Rattle.std.proofs.Common.{arith}
-use Rattle.aut_core.specs.Core.{automaton_of}
+use Rattle.aut_core.specs.SymbolicAutomata.{automaton_of}
 use Rattle.aut_ops.proofs.sinks.CompletedSizes.{completed_sets, completed_states}
 use Rattle.construction_rows.proofs.made.either.Goals as goal
 

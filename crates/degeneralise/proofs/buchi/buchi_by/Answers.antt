@@ -1,6 +1,6 @@
 use Rattle.std.proofs.Common.{◌≡◌, ◌∙◌, ◌*◌, ◌<◌, ◌≤◌, All, List, ap, arith, false, length, subst, sym, ℕ}
 use Rattle.aut_base.specs.declared.limit.TheConstants.{MOST_BUCHI_STATES}
-use Rattle.aut_core.specs.Core.{automaton_of}
+use Rattle.aut_core.specs.SymbolicAutomata.{automaton_of}
 use Rattle.degeneralise.specs.Buchi.{Watch, is_generalised_buchi, levels}
 use Rattle.degeneralise.proofs.BuchiLaw.{copies_as_watches, few_copies, few_levels}
 use Rattle.degeneralise.proofs.WatchLists.{room_in, some_room}

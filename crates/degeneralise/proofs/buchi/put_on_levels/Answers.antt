@@ -3,7 +3,7 @@ use Rattle.std.proofs.lemmas.Result.{IfOk-weaker}
 use Rattle.aut_base.proofs.trees.FormulaTrees.{formula_tree-Inf}
 use Rattle.aut_base.specs.Formula.{formula_tree}
 use Rattle.aut_base.specs.declared.formula.Formula.TheVariants.{Inf}
-use Rattle.aut_core.specs.Core.{Core, automaton_of}
+use Rattle.aut_core.specs.SymbolicAutomata.{SymbolicAutomaton, automaton_of}
 use Rattle.degeneralise.specs.Buchi.{state_at, watch_of}
 use Rattle.degeneralise.proofs.LevelSteps.{AreLevelledParts, are_levelled, levelled_parts}
 use Rattle.degeneralise.proofs.WatchLists.{room_of}
@@ -11,7 +11,7 @@ use Rattle.degeneralise.proofs.buchi.put_on_levels.Goals.{After-states}
 use Rattle.degeneralise.proofs.buchi.put_on_levels.Goals as goal
 
 -- the levels as they are handed on
-abbrev new : After-states → Core
+abbrev new : After-states → SymbolicAutomaton
 new c = record {
   names = c.in_ok-copy_names.field-0;
   starts = c.in_ok-starts.starts;
@@ -38,7 +38,7 @@ pub from_parts-requires : goal.from_parts-requires
 from_parts-requires c =
     let at = (goal.at.from_parts-requires c).After-states in
     let room = room_of c.args.k c.args.states c.args.watches.now c.requires.some c.requires.room in
-    levelled_parts c.args.k (watch_of c.args.states c.args.watches.now) c.args.a.now (new at) c.whole.ensures room (are at)
+    levelled_parts c.args.k (watch_of c.args.states c.args.watches.now) c.args.a.now (new at) c.well_formed.ensures room (are at)
 
 pub returns : goal.returns
 returns c =

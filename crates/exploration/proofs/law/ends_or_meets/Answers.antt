@@ -1,4 +1,4 @@
-use Rattle.exploration.proofs.Ends as ends
+use Rattle.exploration.proofs.Finished as ends
 use Rattle.exploration.proofs.law.ends_or_meets.Goals as goal
 
 pub returns : goal.returns

@@ -1,4 +1,4 @@
-use Rattle.exploration.proofs.Ends.{has_one_outcome}
+use Rattle.exploration.proofs.Finished.{has_one_outcome}
 use Rattle.exploration.proofs.law.outcome_is_one.Goals as goal
 
 pub returns : goal.returns

@@ -1,8 +1,8 @@
 use Rattle.std.proofs.Common.{◌∷◌, map, take}
-use Rattle.aut_core.specs.Core.{edge_of}
+use Rattle.aut_core.specs.SymbolicAutomata.{edge_of}
 use Rattle.fin_removal.specs.Copies.{enter, stay}
-use Rattle.fin_removal.specs.inner.Links.{Adds}
+use Rattle.fin_removal.specs.inner.Links.{AddsLinks}
 use Rattle.fin_removal.proofs.links.push_main.Given as goal
 
 abbrev pub invariant-copies : goal.invariant-copies
-invariant-copies l = Adds l.a.store l.fn.links l.links (stay (edge_of l.a.store l.link) ∷ map (enter l.a.states (edge_of l.a.store l.link)) (take l.copy-index l.copy-items))
+invariant-copies l = AddsLinks l.a.store l.fn.links l.links (stay (edge_of l.a.store l.link) ∷ map (enter l.a.states (edge_of l.a.store l.link)) (take l.copy-index l.copy-items))

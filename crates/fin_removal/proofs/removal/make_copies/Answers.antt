@@ -5,11 +5,11 @@ use Rattle.std.proofs.lemmas.Result.{IfOk-weaker}
 use Rattle.acc_forms.specs.Terms.{count}
 use Rattle.acc_forms.specs.declared.literal.Literal.{Literal}
 use Rattle.aut_base.specs.Formula.{formula_tree}
-use Rattle.aut_core.specs.Core.{Core, automaton_of}
+use Rattle.aut_core.specs.SymbolicAutomata.{SymbolicAutomaton, automaton_of}
 use Rattle.fin_removal.specs.Copies.{sets_of}
 use Rattle.fin_removal.specs.Meeting.{literal_places}
 use Rattle.fin_removal.specs.declared.term_copy.TermCopy.{TermCopy}
-use Rattle.fin_removal.specs.inner.Links.{IsNumbered}
+use Rattle.fin_removal.specs.inner.Links.{IsCopyInRange}
 use Rattle.fin_removal.proofs.CopiedParts.{AreCopiedParts, are_copied, copied_parts}
 use Rattle.fin_removal.proofs.TermCopies.{are_numbered, copies_sets, sets_within}
 use Rattle.fin_removal.proofs.removal.make_copies.Goals.{After-all_sets}
@@ -23,13 +23,13 @@ copied_links-requires c =
     let n = c.args.a.now.states in
     let few : count c.args.listed.now ≤ 1024 = c.requires.few in
     let fits = subst (λ (ts : List (List Literal)). count ts ≤ 1024 → (1 + length ts) * n < 2 ^ 32) (sym c.requires.terms) c.requires.fit few in
-    subst (λ (cs : List TermCopy). All (IsNumbered n) cs) (sym c.in_ok-copies.ensures) (are_numbered n c.args.listed.now fits (omega (arith, sets_within c.args.listed.now few)))
+    subst (λ (cs : List TermCopy). All (IsCopyInRange n) cs) (sym c.in_ok-copies.ensures) (are_numbered n c.args.listed.now fits (omega (arith, sets_within c.args.listed.now few)))
 
 pub sets_owned-requires : goal.sets_owned-requires
 sets_owned-requires c =
     let numbered = are_numbered 0 c.args.listed.now (omega arith) (omega (arith, sets_within c.args.listed.now c.requires.few)) in
     subst (λ (cs : List TermCopy). All (λ copy. copy.first + literal_places copy.infs < 2 ^ 32) cs) (sym c.in_ok-copies.ensures)
-    (All-weaker (IsNumbered 0) (λ copy. copy.first + literal_places copy.infs < 2 ^ 32) (λ copy h. h.sets) _ numbered)
+    (All-weaker (IsCopyInRange 0) (λ copy. copy.first + literal_places copy.infs < 2 ^ 32) (λ copy h. h.sets) _ numbered)
 
 pub all_sets-requires : goal.all_sets-requires
 all_sets-requires c =
@@ -38,7 +38,7 @@ all_sets-requires c =
     omega (arith, sets, sets_within c.args.listed.now c.requires.few)
 
 -- the copies as they are handed on
-abbrev new : After-all_sets → Core
+abbrev new : After-all_sets → SymbolicAutomaton
 new c = record {
   names = c.in_ok-copy_names.field-0;
   starts = c.in_ok-copy_numbers.field-0;
@@ -67,7 +67,7 @@ are c = record {
 pub from_parts-requires : goal.from_parts-requires
 from_parts-requires c =
     let at = (goal.at.from_parts-requires c).After-all_sets in
-    copied_parts c.args.a.now (new at) c.args.listed.now c.in_ok-copies.copies c.in_ok-owned.owned c.whole.ensures (are at)
+    copied_parts c.args.a.now (new at) c.args.listed.now c.in_ok-copies.copies c.in_ok-owned.owned c.well_formed.ensures (are at)
 
 pub returns : goal.returns
 returns c =

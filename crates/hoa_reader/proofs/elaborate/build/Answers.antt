@@ -1,5 +1,5 @@
 use Rattle.std.proofs.Common.{◌∙◌, ap}
-use Rattle.aut_core.specs.Core.{Core, automaton_of}
+use Rattle.aut_core.specs.SymbolicAutomata.{SymbolicAutomaton, automaton_of}
 use Rattle.hoa_parser.specs.Raw.{written}
 use Rattle.hoa_reader.proofs.description.Built.{built, built_one_way, built_parts}
 use Rattle.hoa_reader.proofs.description.Refusals.{builds_none}
@@ -30,7 +30,7 @@ returns c =
     record {
       valid = c.in_ok-body.ensures.valid;
       within = c.in_ok-body.ensures.within;
-      same = ap (λ (core : Core). automaton_of core) c.in_ok-automaton.ensures
+      same = ap (λ (core : SymbolicAutomaton). automaton_of core) c.in_ok-automaton.ensures
           ∙ built w c.header_of-header.result c.in_ok-body.body c.header_of-header.ensures c.in_ok-body.ensures;
       formed = valid_is_well_formed w c.in_ok-body.ensures.valid;
       named = c.header_of-header.ensures.name;

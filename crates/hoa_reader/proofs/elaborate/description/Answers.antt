@@ -1,6 +1,6 @@
 use Rattle.std.proofs.Common.{◌≡◌, ◌≢◌, ◌∙◌, ℕ, List, AllPairs, ap, map, subst, sym}
 use Rattle.std.specs.List.{list_all}
-use Rattle.aut_base.specs.Automaton.{tree_edge}
+use Rattle.aut_base.specs.Automaton.{labelled_edge}
 use Rattle.hoa_parser.specs.Raw.{written, written_state}
 use Rattle.hoa_parser.specs.declared.raw.RawState.{RawState}
 use Rattle.hoa_reader.proofs.description.Framed.{framed_edges, framed_marks}
@@ -26,7 +26,7 @@ returns c =
     let w = written c.args.raw.now in
     let frame = c.in_ok-frame.frame in
     let of = c.in_ok-frame.ensures in
-    let edges : map tree_edge c.in_ok-edges.edges ≡ edges_of w = c.in_ok-edges.ensures
+    let edges : map labelled_edge c.in_ok-edges.edges ≡ edges_of w = c.in_ok-edges.ensures
     ∙ ap (λ (ss : List RawState). edges_for frame.shared (map written_state ss) frame.states) c.as_slice.ensures ∙ framed_edges w frame of in
     let names = c.in_ok-names.ensures ∙ c.requires.parts.names in
     let formula = c.in_ok-formula.ensures in

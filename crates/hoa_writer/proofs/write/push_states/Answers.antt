@@ -1,4 +1,4 @@
-use Rattle.aut_core.specs.Core.{automaton_of}
+use Rattle.aut_core.specs.SymbolicAutomata.{automaton_of}
 use Rattle.hoa_writer.proofs.text.Lines.{state_written}
 use Rattle.hoa_writer.proofs.write.push_states.Goals as goal
 

@@ -1,4 +1,4 @@
-use Rattle.aut_core.specs.Core.{automaton_of}
+use Rattle.aut_core.specs.SymbolicAutomata.{automaton_of}
 use Rattle.inclusion.proofs.Common.{of_both}
 use Rattle.inclusion.proofs.search.counterexample.Goals as goal
 

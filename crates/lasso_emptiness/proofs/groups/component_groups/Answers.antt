@@ -2,7 +2,7 @@ use Rattle.std.proofs.Common.{◌≡◌, ◌∙◌, ◌<◌, ℕ, [], ap, get_or
 use Rattle.std.specs.List.{filter}
 use Rattle.std.proofs.lemmas.List.Elements.{All-weaker}
 use Rattle.std.proofs.lemmas.Result.{IfOk-weaker}
-use Rattle.lasso_emptiness.specs.declared.live.LiveEdge.{LiveEdge}
+use Rattle.lasso_emptiness.specs.declared.live.EdgeRef.{EdgeRef}
 use Rattle.lasso_emptiness.specs.inner.Edges.{arc_of}
 use Rattle.lasso_emptiness.specs.inner.Groups.{AreGroups, is_inside}
 use Rattle.lasso_emptiness.proofs.components.Grouping.{are_groups, components_of}
@@ -15,7 +15,7 @@ components-requires c = has_nodes _ c.args.states _ c.args.edges.now c.in_ok-gra
 pub groups_by_number-requires : goal.groups_by_number-requires
 groups_by_number-requires c =
     let size = ap length c.as_slice.ensures ∙ c.in_ok-numbers.ensures.size ∙ c.in_ok-graph.ensures.nodes in
-    All-weaker (λ (e : LiveEdge). (e.from < c.args.states) × (e.to < c.args.states)) (λ (e : LiveEdge). (e.from < length c.as_slice.result.now) × (e.to < length c.as_slice.result.now))
+    All-weaker (λ (e : EdgeRef). (e.from < c.args.states) × (e.to < c.args.states)) (λ (e : EdgeRef). (e.from < length c.as_slice.result.now) × (e.to < length c.as_slice.result.now))
     (λ e ends. (subst (λ n. e.from < n) (sym size) ends.0, subst (λ n. e.to < n) (sym size) ends.1)) c.args.edges.now c.requires
 
 pub returns : goal.returns

@@ -8,7 +8,7 @@ use Rattle.aut_base.specs.declared.formula.Formula.{Formula}
 use Rattle.aut_base.proofs.trees.FormulaSizes.{formula_size-And, formula_size-Or, formula_size-at}
 use Rattle.aut_base.proofs.trees.FormulaTrees.{formula_tree-Fin, formula_tree-True}
 use Rattle.acc_forms.proofs.Parts.{met-And, met-Or}
-use Rattle.lasso_emptiness.specs.declared.live.LiveEdge.{LiveEdge}
+use Rattle.lasso_emptiness.specs.declared.live.EdgeRef.{EdgeRef}
 use Rattle.lasso_emptiness.specs.inner.Edges.{marks_of, met_along}
 use Rattle.lasso_emptiness.specs.inner.Needed.{Serves, ServesAll}
 use Rattle.lasso_emptiness.proofs.conditions.Sufficient.{fin_fewer, serves-And, serves-Or, suits_all_more, suits_same}

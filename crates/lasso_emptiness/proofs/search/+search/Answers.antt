@@ -5,10 +5,10 @@ use Rattle.std.proofs.lemmas.Result.{IfOk-weaker}
 use Rattle.aut_base.proofs.lists.Members.{each_there}
 use Rattle.aut_base.proofs.Outcomes.{none_said, some_said}
 use Rattle.aut_base.specs.Formula.{FormulaTree, formula_tree}
-use Rattle.lasso_emptiness.specs.declared.live.LiveEdge.{LiveEdge}
-use Rattle.lasso_emptiness.specs.inner.Carriers.{Finds, FindsInAny, IsCarrier}
-use Rattle.lasso_emptiness.specs.inner.Edges.{IsWithin}
-use Rattle.lasso_emptiness.specs.inner.Groups.{IsJoined}
+use Rattle.lasso_emptiness.specs.declared.live.EdgeRef.{EdgeRef}
+use Rattle.lasso_emptiness.specs.inner.AcceptingComponents.{Finds, FindsInAny, IsAcceptingComponent}
+use Rattle.lasso_emptiness.specs.inner.Edges.{IsEdgeInRange}
+use Rattle.lasso_emptiness.specs.inner.Groups.{IsStronglyConnected}
 use Rattle.lasso_emptiness.specs.inner.Splits.{IsSurveyed}
 use Rattle.lasso_emptiness.specs.inner.Trails.{NoneAccepting}
 use Rattle.lasso_emptiness.proofs.conditions.Conditions.{taken_fewer}
@@ -17,12 +17,12 @@ use Rattle.lasso_emptiness.proofs.search.+search.Goals as goal
 
 pub search-search_in-requires : goal.search-search_in-requires
 search-search_in-requires t c =
-    let Within = IsWithin (length c.args.links.now) c.args.states in (
+    let Within = IsEdgeInRange (length c.args.links.now) c.args.states in (
       omega arith,
       (
         each_there (All Within) c.in_ok-groups.groups.items
             (λ group listed. each_there Within group (λ e here. All-contains Within c.args.edges.now e c.requires ((c.in_ok-groups.ensures.each group listed).inside e here))),
-        each_there IsJoined c.in_ok-groups.groups.items (λ group listed. (c.in_ok-groups.ensures.each group listed).joined),
+        each_there IsStronglyConnected c.in_ok-groups.groups.items (λ group listed. (c.in_ok-groups.ensures.each group listed).joined),
       ),
     )
 
@@ -36,16 +36,16 @@ search-returns t c =
 pub search_in-divide-requires : goal.search_in-divide-requires
 search_in-divide-requires t c =
     let said = subst (IsSurveyed c.args.links.now c.args.groups.items (formula_tree c.args.condition.now)) c.in-Open.is c.in_ok-group.ensures in
-    let Linked = λ (e : LiveEdge). e.link < length c.args.links.now in
+    let Linked = λ (e : EdgeRef). e.link < length c.args.links.now in
     each_there (All Linked) c.in-Open.left.items
     (λ group listed. each_there Linked group (λ e here.
-    (within_all (IsWithin (length c.args.links.now) c.args.states) c.args.groups.items c.requires.within group (said.1.inside group listed) e here).link))
+    (within_all (IsEdgeInRange (length c.args.links.now) c.args.states) c.args.groups.items c.requires.within group (said.1.inside group listed) e here).link))
 
 pub search_in-search-requires : goal.search_in-search-requires
 search_in-search-requires t c =
     let said = subst (IsSurveyed c.args.links.now c.args.groups.items (formula_tree c.args.condition.now)) c.in-Open.is c.in_ok-group.ensures in
     let fewer = taken_fewer c.in-Open.side.set c.in-Open.side.neg true (formula_tree c.args.condition.now) _ c.in_ok-holds-in-Open.ensures said.0 in
-    let Within = IsWithin (length c.args.links.now) c.args.states in (
+    let Within = IsEdgeInRange (length c.args.links.now) c.args.states in (
       omega arith,
       subst (All Within) (sym c.as_slice.ensures) (each_there Within c.in_ok-parts-in-Open.parts.off (λ e here.
           let some = c.in_ok-parts-in-Open.ensures.off_some e here in
@@ -59,24 +59,25 @@ search_in-returns-in-Some t c =
     let side = c.in-Open.side in
     let said = subst (IsSurveyed links c.args.groups.items f) c.in-Open.is c.in_ok-group.ensures in
     let found = some_said (NoneAccepting links (Contains c.as_slice.result.now) (formula_tree c.in_ok-holds-in-Open.holds))
-    (IsCarrier links (Contains c.as_slice.result.now) (formula_tree c.in_ok-holds-in-Open.holds)) c.in_ok-group-in-Open.field-0 c.in-Some.group c.in-Some.is
+    (IsAcceptingComponent links (Contains c.as_slice.result.now) (formula_tree c.in_ok-holds-in-Open.holds)) c.in_ok-group-in-Open.field-0 c.in-Some.group c.in-Some.is
     c.in_ok-group-in-Open.ensures in
-    let off = subst (λ (es : List LiveEdge). IsCarrier links (Contains es) (formula_tree c.in_ok-holds-in-Open.holds) c.in-Some.group) c.as_slice.ensures found in
+    let off = subst (λ (es : List EdgeRef). IsAcceptingComponent links (Contains es) (formula_tree c.in_ok-holds-in-Open.holds) c.in-Some.group) c.as_slice.ensures found in
     found_off links side.set side.neg f c.args.groups.items c.in-Open.left.items c.in_ok-parts-in-Open.parts.crossed.items c.in_ok-parts-in-Open.parts.off said.1
     c.in_ok-parts-in-Open.ensures c.in-Some.group
-    (subst (λ (g : FormulaTree). IsCarrier links (Contains c.in_ok-parts-in-Open.parts.off) g c.in-Some.group) c.in_ok-holds-in-Open.ensures off)
+    (subst (λ (g : FormulaTree). IsAcceptingComponent links (Contains c.in_ok-parts-in-Open.parts.off) g c.in-Some.group) c.in_ok-holds-in-Open.ensures off)
 
 pub search_in-search_in-requires : goal.search_in-search_in-requires
 search_in-search_in-requires t c =
     let said = subst (IsSurveyed c.args.links.now c.args.groups.items (formula_tree c.args.condition.now)) c.in-Open.is c.in_ok-group.ensures in
     let fewer = taken_fewer c.in-Open.side.set c.in-Open.side.neg false (formula_tree c.args.condition.now) _ c.in_ok-fails-in-Open.ensures said.0 in
-    let Within = IsWithin (length c.args.links.now) c.args.states in
+    let Within = IsEdgeInRange (length c.args.links.now) c.args.states in
     let crossed = c.in_ok-parts-in-Open.parts.crossed.items in (
       omega arith,
       (
         each_there (All Within) crossed (λ group listed. All-contains (All Within) c.args.groups.items group c.requires.within
             (said.1.inside group (c.in_ok-parts-in-Open.ensures.inside group listed))),
-        each_there IsJoined crossed (λ group listed. All-contains IsJoined c.args.groups.items group c.requires.joined (said.1.inside group (c.in_ok-parts-in-Open.ensures.inside group listed))),
+        each_there IsStronglyConnected crossed (λ group listed. All-contains IsStronglyConnected c.args.groups.items group c.requires.joined
+            (said.1.inside group (c.in_ok-parts-in-Open.ensures.inside group listed))),
       ),
     )
 
@@ -86,7 +87,7 @@ search_in-returns-in-Met t c =
     record {
       some = said.some;
       kind = λ e here. record { group = c.in-Met.group; listed = said.listed; here = here };
-      joined = All-contains IsJoined c.args.groups.items c.in-Met.group c.requires.joined said.listed;
+      joined = All-contains IsStronglyConnected c.args.groups.items c.in-Met.group c.requires.joined said.listed;
       meets = said.meets;
     }
 
@@ -99,9 +100,9 @@ search_in-returns-in_ok-fails-in-Open t c =
     let crossed = c.in_ok-parts-in-Open.parts.crossed.items in
     let said = subst (IsSurveyed links c.args.groups.items f) c.in-Open.is c.in_ok-group.ensures in
     let none = none_said (NoneAccepting links (Contains c.as_slice.result.now) (formula_tree c.in_ok-holds-in-Open.holds))
-    (IsCarrier links (Contains c.as_slice.result.now) (formula_tree c.in_ok-holds-in-Open.holds)) c.in_ok-group-in-Open.field-0 c.in_default.is c.in_ok-group-in-Open.ensures in
+    (IsAcceptingComponent links (Contains c.as_slice.result.now) (formula_tree c.in_ok-holds-in-Open.holds)) c.in_ok-group-in-Open.field-0 c.in_default.is c.in_ok-group-in-Open.ensures in
     let none_off = subst (λ (g : FormulaTree). NoneAccepting links (Contains off) g) c.in_ok-holds-in-Open.ensures
-    (subst (λ (es : List LiveEdge). NoneAccepting links (Contains es) (formula_tree c.in_ok-holds-in-Open.holds)) c.as_slice.ensures none) in
+    (subst (λ (es : List EdgeRef). NoneAccepting links (Contains es) (formula_tree c.in_ok-holds-in-Open.holds)) c.as_slice.ensures none) in
     IfOk-weaker c.search_in.result (FindsInAny links crossed (formula_tree c.in_ok-fails-in-Open.fails)) (FindsInAny links c.args.groups.items f)
     (λ found finds. finds_of_split links side.set side.neg f c.args.groups.items c.in-Open.left.items crossed off said.1 c.in_ok-parts-in-Open.ensures none_off found
     (subst (λ (g : FormulaTree). FindsInAny links crossed g found) c.in_ok-fails-in-Open.ensures finds))

@@ -4,7 +4,7 @@ use Rattle.std.proofs.lemmas.Bool.{eqb-true}
 use Rattle.std.proofs.lemmas.List.Elements.{All-contains}
 use Rattle.aut_base.proofs.Outcomes.{some_in}
 use Rattle.aut_base.specs.Formula.{formula_tree}
-use Rattle.lasso_emptiness.specs.declared.live.LiveEdge.{LiveEdge}
+use Rattle.lasso_emptiness.specs.declared.live.EdgeRef.{EdgeRef}
 use Rattle.lasso_emptiness.specs.inner.Edges.{marks_of, met_along}
 use Rattle.lasso_emptiness.specs.inner.Judged.{IsNever}
 use Rattle.lasso_emptiness.proofs.components.Dividing.{JudgedSoFar, judged_all_never, judged_all_open, judged_met, judged_never, judged_open, none_in_empty, none_in_never, popped_item}
@@ -12,8 +12,8 @@ use Rattle.lasso_emptiness.proofs.search.judge_groups.Goals as goal
 
 pub judge-requires : goal.judge-requires
 judge-requires c =
-    subst (All (λ (e : LiveEdge). e.link < length c.args.links.now)) (sym c.as_slice.ensures)
-    (All-contains (All (λ (e : LiveEdge). e.link < length c.args.links.now)) c.args.groups.items c.in-Some.group c.requires
+    subst (All (λ (e : EdgeRef). e.link < length c.args.links.now)) (sym c.as_slice.ensures)
+    (All-contains (All (λ (e : EdgeRef). e.link < length c.args.links.now)) c.args.groups.items c.in-Some.group c.requires
     (c.groups.invariant.rest_inside c.in-Some.group (popped_item c.groups.groups.items c.pop.new.self.items c.in-Some.group c.in-Some.ensures.items)))
 
 pub groups-preserved-then-is_empty : goal.groups-preserved-then-is_empty
@@ -27,7 +27,7 @@ pub groups-preserved-in-Never : goal.groups-preserved-in-Never
 groups-preserved-in-Never c =
     let f = formula_tree c.args.condition.now in
     judged_never c.args.links.now f c.args.groups.items c.groups.groups.items c.pop.new.self.items c.groups.left.items c.groups.undecided c.in-Some.group c.in-Some.ensures.items
-    (none_in_never c.args.links.now f c.in-Some.group (subst (λ (es : List LiveEdge). IsNever (map (marks_of c.args.links.now) es) f) c.as_slice.ensures c.in-Never.ensures))
+    (none_in_never c.args.links.now f c.in-Some.group (subst (λ (es : List EdgeRef). IsNever (map (marks_of c.args.links.now) es) f) c.as_slice.ensures c.in-Never.ensures))
     c.groups.invariant
 
 pub returns-in-Met : goal.returns-in-Met
@@ -35,7 +35,7 @@ returns-in-Met c =
     let f = formula_tree c.args.condition.now in
     judged_met c.args.links.now f c.args.groups.items c.groups.groups.items c.pop.new.self.items c.groups.left.items c.groups.undecided c.in-Some.group c.in-Some.ensures.items
     (some_in c.in-Some.group c.if-is_empty.ensures)
-    (subst (λ (es : List LiveEdge). met_along c.args.links.now es f ≡ true) c.as_slice.ensures c.in-Met.ensures)
+    (subst (λ (es : List EdgeRef). met_along c.args.links.now es f ≡ true) c.as_slice.ensures c.in-Met.ensures)
     c.groups.invariant
 
 pub groups-preserved : goal.groups-preserved

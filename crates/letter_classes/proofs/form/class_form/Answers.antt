@@ -1,14 +1,14 @@
 use Rattle.std.proofs.Common.{◌≡◌, ◌∙◌, ◌++◌, ℕ, List, [], ◌∷◌, ap, length, map, subst, sym}
 use Rattle.std.proofs.lemmas.Result.{IfOk-weaker}
 use Rattle.aut_base.specs.Formula.{formula_tree}
-use Rattle.aut_core.specs.Core.{AreParts, Core}
+use Rattle.aut_core.specs.SymbolicAutomata.{AreSymbolicParts, SymbolicAutomaton}
 use Rattle.letter_classes.specs.ClassForms.{form_of, link_of}
 use Rattle.letter_classes.proofs.form.class_form.Given.{Over}
 use Rattle.letter_classes.proofs.form.class_form.Goals.{After-len}
 use Rattle.letter_classes.proofs.form.class_form.Goals as goal
 
 -- the parts as they are handed on
-abbrev core : (g : Over) → After-len g → Core
+abbrev core : (g : Over) → After-len g → SymbolicAutomaton
 core g c = record {
   names = c.in_ok-names.names;
   starts = c.push.new.self;
@@ -19,7 +19,7 @@ core g c = record {
   store = c.args.guards;
 }
 
-core_is : (g : Over) (c : After-len g) → core g c ≡ form_of c.args.b.now c.args.guards (length c.args.found.now.things.keys)
+core_is : (g : Over) (c : After-len g) → core g c ≡ form_of c.args.b.now c.args.guards (length c.args.found.now.states.keys)
     (map (link_of (g.M.Marking.marked c.args.marking.now)) c.args.found.now.edges.items) c.args.sets (formula_tree c.args.formula)
 core_is g c = λ j. record {
   names = (c.in_ok-names.ensures ∙ c.names.ensures) j;
@@ -32,7 +32,7 @@ core_is g c = λ j. record {
 }
 
 pub from_parts-requires : goal.from_parts-requires
-from_parts-requires g c = subst AreParts (sym (core_is g (goal.at.from_parts-requires g c).After-len)) c.requires.parts
+from_parts-requires g c = subst AreSymbolicParts (sym (core_is g (goal.at.from_parts-requires g c).After-len)) c.requires.parts
 
 pub returns : goal.returns
 returns g c = IfOk-weaker c.from_parts.result _ _ (λ made e. e ∙ core_is g (goal.at.returns g c).After-len) c.from_parts.ensures

@@ -2,11 +2,11 @@ use Rattle.std.proofs.Common.{◌∙◌, List, ap, arith, length, subst, sym}
 use Rattle.std.proofs.lemmas.List.Elements.{All-weaker}
 use Rattle.aut_base.proofs.Outcomes.{none_said, some_said}
 use Rattle.label_guards.proofs.alike.ClassLeastLaws.{more_by_leasts}
-use Rattle.label_guards.specs.Classes.{AreClasses, HasMoreClasses}
+use Rattle.label_guards.specs.Classes.{AreClasses, HasMoreLetterClasses}
 use Rattle.label_guards.specs.Store.{Has}
 use Rattle.label_guards.specs.declared.guard.Guard.{Guard}
 use Rattle.letter_classes.proofs.KnownLists.{all_later, found_known, put_known}
-use Rattle.letter_classes.specs.Known.{AreKnown, IsKnown}
+use Rattle.letter_classes.specs.Known.{AreClassesKnown, IsKnown}
 use Rattle.letter_classes.proofs.known.new_classes.Goals as goal
 
 pub returns-in_err-made-clause-known : goal.returns-in_err-made-clause-known
@@ -17,7 +17,7 @@ returns-in_default-clause-known c = all_later c.args.guards.now c.classes.new.se
 
 pub returns-in_default-clause-classes : goal.returns-in_default-clause-classes
 returns-in_default-clause-classes c =
-    more_by_leasts c.args.guards.now c.args.list c.args.most (none_said (HasMoreClasses c.args.guards.now c.args.list c.args.most) _ _ c.in_default.is c.in_ok-made.ensures.classes)
+    more_by_leasts c.args.guards.now c.args.list c.args.most (none_said (HasMoreLetterClasses c.args.guards.now c.args.list c.args.most) _ _ c.in_default.is c.in_ok-made.ensures.classes)
 
 pub returns-then-len-gt-MOST_KEPT-clause-known : goal.returns-then-len-gt-MOST_KEPT-clause-known
 returns-then-len-gt-MOST_KEPT-clause-known c = all_later c.args.guards.now c.classes.new.self c.classes.ensures.keeps c.args.known.now.entries c.requires.known
@@ -39,7 +39,7 @@ returns-in_err-found-clause-known c = all_later c.args.guards.now c.classes.new.
 
 pub returns-in_err-put-clause-known : goal.returns-in_err-put-clause-known
 returns-in_err-put-clause-known c =
-    subst (AreKnown c.classes.new.self) (sym c.in_err-put.ensures.err) (all_later c.args.guards.now c.classes.new.self c.classes.ensures.keeps c.args.known.now.entries c.requires.known)
+    subst (AreClassesKnown c.classes.new.self) (sym c.in_err-put.ensures.err) (all_later c.args.guards.now c.classes.new.self c.classes.ensures.keeps c.args.known.now.entries c.requires.known)
 
 pub returns-clause-known : goal.returns-clause-known
 returns-clause-known c =

@@ -1,6 +1,6 @@
 use Rattle.std.proofs.Common.{arith, get_or}
 use Rattle.std.proofs.lemmas.Option.{slice_get-get_or}
-use Rattle.aut_core.specs.Core.{automaton_of}
+use Rattle.aut_core.specs.SymbolicAutomata.{automaton_of}
 use Rattle.letter_classes.proofs.ReadEdges.{all_states, state_more}
 use Rattle.letter_classes.specs.Taken.{reads_at}
 use Rattle.letter_classes.proofs.taken.taken_at.Goals as goal

@@ -1,5 +1,5 @@
 use Rattle.std.proofs.Common.{◌≡◌, take}
-use Rattle.aut_core.specs.Core.{automaton_of}
+use Rattle.aut_core.specs.SymbolicAutomata.{automaton_of}
 use Rattle.letter_classes.specs.SetClasses.{set_edges}
 use Rattle.letter_classes.specs.Taken.{reads_at, taken_of}
 use Rattle.letter_classes.proofs.taken.taken_at.Given as goal

@@ -1,5 +1,5 @@
 use Rattle.std.proofs.lemmas.Result.{IfOk-weaker}
-use Rattle.aut_core.specs.Core.{automaton_of}
+use Rattle.aut_core.specs.SymbolicAutomata.{automaton_of}
 use Rattle.parity_det.proofs.ParityLaws.{determinisation_excludes, form_accepts, form_few, form_parity, on_ok_from, pruned_formula, same_through}
 use Rattle.parity_det.proofs.form.determinise.Goals as goal
 
@@ -8,7 +8,7 @@ returns-clause-accepts c =
     let b = automaton_of c.args.b.now in
     let pruned = automaton_of c.in_ok-pruned.pruned in
     IfOk-weaker c.tree_form.result _ _ (λ made form. same_through (automaton_of made) pruned b
-    (form_accepts pruned (automaton_of made) c.whole-2.ensures.well_formed (pruned_formula b pruned c.in_ok-pruned.ensures.shape c.requires.formula) form) c.in_ok-pruned.ensures.accepts)
+    (form_accepts pruned (automaton_of made) c.well_formed-2.ensures.well_formed (pruned_formula b pruned c.in_ok-pruned.ensures.shape c.requires.formula) form) c.in_ok-pruned.ensures.accepts)
     c.tree_form.ensures.shape
 
 pub returns-clause-shape : goal.returns-clause-shape

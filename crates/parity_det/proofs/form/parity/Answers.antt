@@ -1,4 +1,4 @@
-use Rattle.aut_core.specs.Core.{automaton_of}
+use Rattle.aut_core.specs.SymbolicAutomata.{automaton_of}
 use Rattle.parity_det.proofs.ParityLaws.{same_through}
 use Rattle.parity_det.proofs.form.parity.Goals as goal
 

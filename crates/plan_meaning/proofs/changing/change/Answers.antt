@@ -1,6 +1,6 @@
 use Rattle.std.proofs.Common.{List, map, subst, sym}
 use Rattle.std.proofs.lemmas.List.Elements.{All-contains}
-use Rattle.aut_core.specs.Core.{automaton_of}
+use Rattle.aut_core.specs.SymbolicAutomata.{automaton_of}
 use Rattle.plan_meaning.proofs.changes.PlanChanges.{sizes_of_plan}
 use Rattle.plan_meaning.proofs.changes.Promised.{few_sets_kept, promises_kept}
 use Rattle.plan_meaning.proofs.changes.Stepping.{makes_all}

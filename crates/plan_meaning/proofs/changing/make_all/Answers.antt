@@ -1,7 +1,7 @@
 use Rattle.std.proofs.Common.{◌∙◌, ◌+◌, drop, subst, sym, take}
-use Rattle.aut_core.specs.Core.{Core, automaton_of}
+use Rattle.aut_core.specs.SymbolicAutomata.{SymbolicAutomaton, automaton_of}
 use Rattle.plan_meaning.proofs.changes.ChangeLists.{can_be_made, left_out, made_on, none_made, stops_here}
-use Rattle.plan_meaning.specs.inner.Stepping.{IsMade, IsOfSizeFor, changes_asked}
+use Rattle.plan_meaning.specs.inner.Stepping.{IsMadeAsPromised, IsOfSizeFor, changes_asked}
 use Rattle.plan_meaning.proofs.changing.make_all.Goals.{in-Some+in_ok-made, in_default}
 use Rattle.plan_meaning.proofs.changing.make_all.Goals as goal
 
@@ -27,12 +27,12 @@ changes-preserved c =
     elim c.match-change.branch [
       | in-Some+in_ok-made w ↦
           let is = sym c.change-item.is ∙ w.in-Some.is in
-          subst (λ (x : Core). IsMade (changes_asked (take (i + 1) xs)) a (automaton_of x) × IsOfSizeFor (changes_asked (drop (i + 1) xs)) (automaton_of x)) (sym w.made-is) (
+          subst (λ (x : SymbolicAutomaton). IsMadeAsPromised (changes_asked (take (i + 1) xs)) a (automaton_of x) × IsOfSizeFor (changes_asked (drop (i + 1) xs)) (automaton_of x)) (sym w.made-is) (
             made_on xs i _ _ a b c.changes-test.true is c.changes.invariant.0 _ w.in_ok-made.ensures.steps,
             (can_be_made xs i _ b c.changes-test.true c.changes.invariant.1 w.in-Some.change is).2 _ w.in_ok-made.ensures.size,
           )
       | in_default w ↦
           let is = sym c.change-item.is ∙ w.in_default.is in
-          subst (λ (x : Core). IsMade (changes_asked (take (i + 1) xs)) a (automaton_of x) × IsOfSizeFor (changes_asked (drop (i + 1) xs)) (automaton_of x)) (sym w.made-is)
+          subst (λ (x : SymbolicAutomaton). IsMadeAsPromised (changes_asked (take (i + 1) xs)) a (automaton_of x) × IsOfSizeFor (changes_asked (drop (i + 1) xs)) (automaton_of x)) (sym w.made-is)
           (made_on xs i _ _ a b c.changes-test.true is c.changes.invariant.0 b (none_made b), left_out xs i _ b c.changes-test.true c.changes.invariant.1 is)
     ]

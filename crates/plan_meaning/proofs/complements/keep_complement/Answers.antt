@@ -1,4 +1,4 @@
-use Rattle.aut_core.specs.Core.{automaton_of}
+use Rattle.aut_core.specs.SymbolicAutomata.{automaton_of}
 use Rattle.plan_meaning.proofs.filters.Beside.{complement_within}
 use Rattle.plan_meaning.proofs.complements.keep_complement.Goals as goal
 

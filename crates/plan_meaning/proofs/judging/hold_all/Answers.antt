@@ -1,11 +1,11 @@
 use Rattle.std.proofs.Common.{◌≡◌, ◌<◌, Bool, true, false, List, Ok, Err, Result, map, refl, subst, sym}
-use Rattle.aut_core.specs.Core.{automaton_of}
+use Rattle.aut_core.specs.SymbolicAutomata.{automaton_of}
 use Rattle.plan_meaning.proofs.filters.FilterLists.{ends, goes_on, passed_on}
 use Rattle.plan_meaning.proofs.filters.Kept.{from_at, kept_on, stay_kept_on}
-use Rattle.plan_meaning.specs.Complements.{AreKept, StayKept}
+use Rattle.plan_meaning.specs.Complements.{AreComplementsKept, StayKept}
 use Rattle.plan_meaning.specs.Filters.{Filter}
 use Rattle.plan_meaning.specs.declared.fault.PlanFault.{PlanFault}
-use Rattle.plan_meaning.specs.inner.Judging.{Examines, JudgesWithin, filter_of}
+use Rattle.plan_meaning.specs.inner.Judging.{ExaminesFilter, JudgesWithin, filter_of}
 use Rattle.plan_meaning.proofs.judging.hold_all.Goals.{in-Some+in_ok-holds+else-not-branch, in_default}
 use Rattle.plan_meaning.proofs.judging.hold_all.Goals as goal
 
@@ -41,7 +41,7 @@ returns-then-not-branch-clause-judges c =
     let f = filter_of c.in-Some.filter in
     let drop : Result Bool PlanFault = Ok false in
     let ended = ends c.filters-asked.result c.filters.filter-index _ _ a within c.in-Some.is c.filters.invariant.0 c.in-Some.filter drop refl (λ same. let s : drop ≡ Ok true = same in cc)
-    (subst (λ (b : Bool). Examines (Ok b) f a) c.if-not-branch.true c.in_ok-holds.ensures.examines) in
+    (subst (λ (b : Bool). ExaminesFilter (Ok b) f a) c.if-not-branch.true c.in_ok-holds.ensures.examines) in
     subst (λ (fs : List Filter). JudgesWithin drop fs a) c.filters-asked.ensures.list ended
 
 pub filters-preserved : goal.filters-preserved
@@ -55,15 +55,15 @@ filters-preserved c =
       | in-Some+in_ok-holds+else-not-branch w ↦ (let there = w.in-Some.is in
           let from = from_at p ops xs c.filters.filter-index _ w.in-Some.filter c.filters-asked.ensures.from within there in (
             goes_on xs c.filters.filter-index _ _ a within there c.filters.invariant.0
-                (subst (λ (b : Bool). Examines (Ok b) (filter_of w.in-Some.filter) a) w.if-not-branch.false w.in_ok-holds.ensures.examines, tt),
-            subst (AreKept p ops) (sym w.complements-is)
+                (subst (λ (b : Bool). ExaminesFilter (Ok b) (filter_of w.in-Some.filter) a) w.if-not-branch.false w.in_ok-holds.ensures.examines, tt),
+            subst (AreComplementsKept p ops) (sym w.complements-is)
                 (kept_on p ops w.in-Some.filter c.filters.complements w.holds.new.complements from c.filters.invariant.1 w.in_ok-holds.ensures.ready w.in_ok-holds.ensures.others),
             c.filters.invariant.2,
             subst (StayKept c.args.complements.now) (sym w.complements-is) (stay_kept_on c.filters.invariant.3 w.in_ok-holds.ensures.stay),
           ))
       | in_default w ↦ (
         goes_on xs c.filters.filter-index _ _ a within w.in_default.is c.filters.invariant.0 tt,
-        subst (AreKept p ops) (sym w.complements-is) c.filters.invariant.1,
+        subst (AreComplementsKept p ops) (sym w.complements-is) c.filters.invariant.1,
         c.filters.invariant.2,
         subst (StayKept c.args.complements.now) (sym w.complements-is) c.filters.invariant.3,
       )

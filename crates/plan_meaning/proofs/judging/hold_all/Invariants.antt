@@ -1,6 +1,6 @@
 use Rattle.std.proofs.Common.{◌≡◌, length, map, take}
-use Rattle.aut_core.specs.Core.{automaton_of}
-use Rattle.plan_meaning.specs.Complements.{AreKept, StayKept}
+use Rattle.aut_core.specs.SymbolicAutomata.{automaton_of}
+use Rattle.plan_meaning.specs.Complements.{AreComplementsKept, StayKept}
 use Rattle.plan_meaning.specs.Filters.{AllHold}
 use Rattle.plan_meaning.specs.declared.judging.filter.TheConstants.{FILTERS}
 use Rattle.plan_meaning.specs.inner.Judging.{asked_for}
@@ -8,5 +8,6 @@ use Rattle.plan_meaning.proofs.judging.hold_all.Given as goal
 
 -- all filters that were looked at hold, what is kept is right, and there are so many filters
 abbrev pub invariant-filters : goal.invariant-filters
-invariant-filters l = AllHold (asked_for (take l.filter-index l.filter-items)) (automaton_of l.a) × AreKept l.plan (map automaton_of l.operands) l.complements × (length l.filter-items ≡ FILTERS)
+invariant-filters l = AllHold (asked_for (take l.filter-index l.filter-items)) (automaton_of l.a) × AreComplementsKept l.plan (map automaton_of l.operands) l.complements
+    × (length l.filter-items ≡ FILTERS)
     × StayKept l.fn.complements l.complements

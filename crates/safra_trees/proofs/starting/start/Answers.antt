@@ -1,13 +1,13 @@
 use Rattle.std.proofs.Common.{◌≡◌, ◌∙◌, ◌<◌, All, Contains, List, ap, length, min, replicate, subst, sym, ℕ}
 use Rattle.safra_trees.proofs.flat_step.First.{started_below, started_names, started_stored, started_tree}
 use Rattle.safra_trees.specs.Flat.{IsStored}
-use Rattle.safra_trees.specs.Step.{names}
+use Rattle.safra_trees.specs.Step.{names_where}
 use Rattle.safra_trees.specs.Trees.{has}
 use Rattle.safra_trees.proofs.starting.start.Goals.{After-from_vec-3}
 use Rattle.safra_trees.proofs.starting.start.Goals as goal
 
 -- the lists of the tree: the starts in rising order, and for each node that there is one parent, for each state one place
-states_are : (c : After-from_vec-3) → (n : ℕ) → All (λ s. s < n) c.args.starts.now → c.in_order-states.result ≡ names (has c.args.starts.now) n
+states_are : (c : After-from_vec-3) → (n : ℕ) → All (λ s. s < n) c.args.starts.now → c.in_order-states.result ≡ names_where (has c.args.starts.now) n
 states_are c n all =
     let is : c.from_vec.result ≡ c.args.starts.now = c.from_vec.ensures ∙ (c.in_ok-listed.ensures.items ∙ c.as_slice.ensures) in
     started_names n c.args.starts.now c.in_order-states.result c.in_order-states.ensures.rises

@@ -7,7 +7,7 @@ use Rattle.safra_trees.specs.Flat.{at}
 use Rattle.safra_trees.specs.Trees.{has, root_states}
 use Rattle.safra_trees.specs.View.{tree_of}
 use Rattle.safra_trees.specs.inner.Claims.{claim, grown_parent}
-use Rattle.safra_trees.specs.inner.Passes.{AreHomes, ends_at}
+use Rattle.safra_trees.specs.inner.Passes.{AreOwners, ends_at}
 use Rattle.safra_trees.proofs.stepping.passes.Goals as goal
 
 pub places_by_state-requires-clause-states : goal.places_by_state-requires-clause-states
@@ -23,11 +23,11 @@ claims-requires-clause-order c =
     subst (λ xs. All (λ x. x < MOST_NODES) xs) (sym c.deref.ensures.value)
     (all_below order MOST_NODES (λ k less. omega (arith, c.in_ok-order.ensures.order.below k (omega (arith, less, c.in_ok-order.ensures.size)), ap length c.as_slice-parents.ensures, tree.stored.few)))
 
-pub staying-requires-clause-low : goal.staying-requires-clause-low
-staying-requires-clause-low c =
-    let homes = c.in_ok-homes.homes.items in
+pub surviving-requires-clause-low : goal.surviving-requires-clause-low
+surviving-requires-clause-low c =
+    let owners = c.in_ok-owners.owners.items in
     subst (λ xs. All (λ x. x < length xs) xs) (sym c.deref-5.ensures.value)
-    (all_below homes (length homes) (λ k less. omega (arith, less, c.in_ok-homes.ensures.low k (omega (arith, less, c.in_ok-homes.ensures.size)))))
+    (all_below owners (length owners) (λ k less. omega (arith, less, c.in_ok-owners.ensures.low k (omega (arith, less, c.in_ok-owners.ensures.size)))))
 
 pub returns : goal.returns
 returns c =
@@ -41,9 +41,9 @@ returns c =
     let found = c.in_ok-places.places.items in
     let claims = c.in_ok-claims.claims.items in
     let own = c.in_ok-own.own.items in
-    let homes = c.in_ok-homes.homes.items in
+    let owners = c.in_ok-owners.owners.items in
     let stay = c.in_ok-stay.stay.items in
-    let survey : IsSurvey n ms p s o order found claims own homes stay = record {
+    let survey : IsSurvey n ms p s o order found claims own owners stay = record {
       order_size = c.in_ok-order.ensures.size;
       ordered = c.in_ok-order.ensures.order;
       found_size = c.in_ok-places.ensures.size;
@@ -54,14 +54,14 @@ returns c =
           (λ (ys : List ℕ). claim order (at ys) t ms (length order + length order)) c.deref-2.ensures.value);
       own_size = c.in_ok-own.ensures.size;
       own_claims = λ y less. c.in_ok-own.ensures.own y less ∙ ap (λ xs. has xs y) c.deref-3.ensures.value;
-      homes_size = c.in_ok-homes.ensures.size ∙ ap length c.deref-4.ensures.value;
-      low = λ x less. c.in_ok-homes.ensures.low x (omega (arith, less, ap length c.deref-4.ensures.value));
-      are_homes = subst (λ (b : List Bool). AreHomes b (grown_parent p) (length b) homes) c.deref-4.ensures.value c.in_ok-homes.ensures.homes;
+      homes_size = c.in_ok-owners.ensures.size ∙ ap length c.deref-4.ensures.value;
+      low = λ x less. c.in_ok-owners.ensures.low x (omega (arith, less, ap length c.deref-4.ensures.value));
+      are_homes = subst (λ (b : List Bool). AreOwners b (grown_parent p) (length b) owners) c.deref-4.ensures.value c.in_ok-owners.ensures.owners;
       stay_size = c.in_ok-stay.ensures.size ∙ ap length c.deref-5.ensures.value;
       stays = λ y less. c.in_ok-stay.ensures.stay y (omega (arith, less, ap length c.deref-5.ensures.value))
-          ∙ (ap (λ xs. list_any (ends_at xs y) c.deref-6.result.now) c.deref-5.ensures.value ∙ ap (λ (ys : List ℕ). list_any (ends_at homes y) ys) c.deref-6.ensures.value);
+          ∙ (ap (λ xs. list_any (ends_at xs y) c.deref-6.result.now) c.deref-5.ensures.value ∙ ap (λ (ys : List ℕ). list_any (ends_at owners y) ys) c.deref-6.ensures.value);
     } in
-    let one = subst (λ xs. IsSurvey n ms xs s o order found claims own homes stay) c.as_slice-parents.ensures survey in
-    let two = subst (λ xs. IsSurvey n ms tree.parents xs o order found claims own homes stay) c.as_slice.ensures one in
-    let three = subst (λ xs. IsSurvey n ms tree.parents tree.states xs order found claims own homes stay) c.as_slice-2.ensures two in
-    surveyed n ms tree.parents tree.states tree.places order found claims own homes stay tree.stored c.requires.moves three
+    let one = subst (λ xs. IsSurvey n ms xs s o order found claims own owners stay) c.as_slice-parents.ensures survey in
+    let two = subst (λ xs. IsSurvey n ms tree.parents xs o order found claims own owners stay) c.as_slice.ensures one in
+    let three = subst (λ xs. IsSurvey n ms tree.parents tree.states xs order found claims own owners stay) c.as_slice-2.ensures two in
+    surveyed n ms tree.parents tree.states tree.places order found claims own owners stay tree.stored c.requires.moves three

@@ -5,7 +5,7 @@ use Rattle.aut_base.proofs.Outcomes.{passed_on}
 use Rattle.aut_base.specs.declared.limit.TheConstants.{MOST_NODES}
 use Rattle.safra_trees.proofs.flat_step.Placed.{stored_root}
 use Rattle.safra_trees.proofs.flat_step.Sight.{IsSmall, is_sight, moves_seen, pruned_below, small_event, small_of, small_step, states_seen}
-use Rattle.safra_trees.specs.Events.{IsWithin, event_of}
+use Rattle.safra_trees.specs.Events.{IsMoveInRange, event_of}
 use Rattle.safra_trees.specs.Flat.{at}
 use Rattle.safra_trees.specs.Step.{grown, pruned}
 use Rattle.safra_trees.specs.Trees.{root_states}
@@ -43,7 +43,7 @@ pub stepped-requires-clause-states : goal.stepped-requires-clause-states
 stepped-requires-clause-states c = subst (λ n. All (λ s. s < n) (root_states (tree_of c.in_ok-small.small))) (sym c.count_of.ensures.is) c.in_ok-small.ensures.below
 
 pub stepped-requires-clause-moves : goal.stepped-requires-clause-moves
-stepped-requires-clause-moves c = subst (λ n. All (IsWithin n) c.in_ok-few.few) (sym c.count_of.ensures.is) c.in_ok-few.ensures.within
+stepped-requires-clause-moves c = subst (λ n. All (IsMoveInRange n) c.in_ok-few.few) (sym c.count_of.ensures.is) c.in_ok-few.ensures.within
 
 pub named_tree-requires-clause-rises : goal.named_tree-requires-clause-rises
 named_tree-requires-clause-rises c = subst IsStrictlyIncreasing (sym c.as_slice-seen.ensures) c.in_ok-sight.ensures.rises

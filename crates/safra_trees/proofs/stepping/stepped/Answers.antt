@@ -14,15 +14,15 @@ use Rattle.safra_trees.proofs.stepping.stepped.Goals as goal
 
 -- what the passes over the names and places gave
 passes : (c : In_ok-found) → ArePasses (grown c.args.states c.args.moves.now (tree_of c.args.tree.now)) c.in_ok-found.found.claims.items c.in_ok-found.found.own.items
-    c.in_ok-found.found.homes.items c.in_ok-found.found.stay.items
-passes c = subst (λ xs. ArePasses (grown c.args.states xs (tree_of c.args.tree.now)) c.in_ok-found.found.claims.items c.in_ok-found.found.own.items c.in_ok-found.found.homes.items
+    c.in_ok-found.found.owners.items c.in_ok-found.found.stay.items
+passes c = subst (λ xs. ArePasses (grown c.args.states xs (tree_of c.args.tree.now)) c.in_ok-found.found.claims.items c.in_ok-found.found.own.items c.in_ok-found.found.owners.items
     c.in_ok-found.found.stay.items)
     c.as_slice.ensures c.in_ok-found.ensures
 
 -- each list of names has room for those of the tree and for as many new ones
 stay_size : (c : In_ok-found) → length c.in_ok-found.found.stay.items ≡ length c.args.tree.now.parents + length c.args.tree.now.parents
 stay_size c = stay_sized c.args.states c.args.moves.now c.args.tree.now.parents c.args.tree.now.states c.args.tree.now.places
-    c.in_ok-found.found.claims.items c.in_ok-found.found.own.items c.in_ok-found.found.homes.items c.in_ok-found.found.stay.items (passes c)
+    c.in_ok-found.found.claims.items c.in_ok-found.found.own.items c.in_ok-found.found.owners.items c.in_ok-found.found.stay.items (passes c)
 
 -- each name has a rank
 ranks_size : (c : In_ok-names) → length c.in_ok-names.names.ranks.items ≡ length c.deref.result.now
@@ -31,14 +31,14 @@ ranks_size c = ap length c.in_ok-names.ensures.ranks
 
 -- the new tree is what is finished of them
 finish : (c : After-from_vec-3) → IsFinish c.args.states c.args.moves.now c.args.tree.now.parents c.args.tree.now.states c.args.tree.now.places
-    c.in_ok-found.found.claims.items c.in_ok-found.found.own.items c.in_ok-found.found.homes.items c.in_ok-found.found.stay.items
+    c.in_ok-found.found.claims.items c.in_ok-found.found.own.items c.in_ok-found.found.owners.items c.in_ok-found.found.stay.items
     c.in_ok-names.names.count c.in_ok-names.names.ranks.items c.from_vec.result c.from_vec-2.result c.from_vec-3.result
 finish c =
     let found = c.in_ok-found.found in
-    let passes : ArePasses (grown c.args.states c.args.moves.now (tree_of c.args.tree.now)) found.claims.items found.own.items found.homes.items found.stay.items =
-    subst (λ xs. ArePasses (grown c.args.states xs (tree_of c.args.tree.now)) found.claims.items found.own.items found.homes.items found.stay.items) c.as_slice.ensures c.in_ok-found.ensures in
+    let passes : ArePasses (grown c.args.states c.args.moves.now (tree_of c.args.tree.now)) found.claims.items found.own.items found.owners.items found.stay.items =
+    subst (λ xs. ArePasses (grown c.args.states xs (tree_of c.args.tree.now)) found.claims.items found.own.items found.owners.items found.stay.items) c.as_slice.ensures c.in_ok-found.ensures in
     finish_of c.args.states c.args.moves.now c.args.tree.now.parents c.args.tree.now.states c.args.tree.now.places
-    c.in_ok-found.found.claims.items c.in_ok-found.found.own.items c.in_ok-found.found.homes.items c.in_ok-found.found.stay.items
+    c.in_ok-found.found.claims.items c.in_ok-found.found.own.items c.in_ok-found.found.owners.items c.in_ok-found.found.stay.items
     c.in_ok-names.names.count c.in_ok-names.names.ranks.items c.from_vec.result c.from_vec-2.result c.from_vec-3.result
     c.deref.result.now c.deref-2.result.now c.deref-3.result.now c.as_slice-2.result.now c.deref-4.result.now c.deref-5.result.now c.deref-6.result.now passes (record {
       stay_one = c.deref.ensures.value;
@@ -62,7 +62,7 @@ pub returns-then-names-gt-MOST_NODES-clause-nodes : goal.returns-then-names-gt-M
 returns-then-names-gt-MOST_NODES-clause-nodes c =
     let counts = c.in_ok-names.ensures.count ∙ ap (λ xs. rank (flag xs) (length xs)) c.deref.ensures.value in
     let many = finished_count c.args.states c.args.moves.now c.args.tree.now.parents c.args.tree.now.states c.args.tree.now.places
-    c.in_ok-found.found.claims.items c.in_ok-found.found.own.items c.in_ok-found.found.homes.items c.in_ok-found.found.stay.items c.in_ok-names.names.count
+    c.in_ok-found.found.claims.items c.in_ok-found.found.own.items c.in_ok-found.found.owners.items c.in_ok-found.found.stay.items c.in_ok-names.names.count
     (passes (goal.at.returns-then-names-gt-MOST_NODES-clause-nodes c).In_ok-found) counts in
     λ is. omega (arith, c.if-names-gt-MOST_NODES.true, many)
 
@@ -79,7 +79,7 @@ new_parents-requires-clause-ranks c =
 pub new_places-requires-clause-few : goal.new_places-requires-clause-few
 new_places-requires-clause-few c =
     let claimed = claims_length (grown c.args.states c.args.moves.now (tree_of c.args.tree.now)) c.in_ok-found.found.claims.items c.in_ok-found.found.own.items
-    c.in_ok-found.found.homes.items c.in_ok-found.found.stay.items
+    c.in_ok-found.found.owners.items c.in_ok-found.found.stay.items
     (passes (goal.at.new_places-requires-clause-few c).In_ok-found) in
     omega (arith, ap length c.deref-4.ensures.value, claimed, c.requires.numbers)
 
@@ -87,7 +87,7 @@ pub new_places-requires-clause-size : goal.new_places-requires-clause-size
 new_places-requires-clause-size c =
     let at = (goal.at.new_places-requires-clause-size c).In_ok-found in
     let sized = homes_sized c.args.states c.args.moves.now c.args.tree.now.parents c.args.tree.now.states c.args.tree.now.places
-    c.in_ok-found.found.claims.items c.in_ok-found.found.own.items c.in_ok-found.found.homes.items c.in_ok-found.found.stay.items (passes at) in
+    c.in_ok-found.found.claims.items c.in_ok-found.found.own.items c.in_ok-found.found.owners.items c.in_ok-found.found.stay.items (passes at) in
     let stays = stay_size at in
     let ranks = ranks_size (goal.at.new_places-requires-clause-size c).In_ok-names in
     omega (arith, ap length c.deref-6.ensures.value, ap length c.deref-5.ensures.value, ap length c.deref.ensures.value, ranks, sized, stays)
@@ -95,26 +95,26 @@ new_places-requires-clause-size c =
 pub least_covered-requires-clause-fit : goal.least_covered-requires-clause-fit
 least_covered-requires-clause-fit c =
     let sized = own_sized c.args.states c.args.moves.now c.args.tree.now.parents c.args.tree.now.states c.args.tree.now.places
-    c.in_ok-found.found.claims.items c.in_ok-found.found.own.items c.in_ok-found.found.homes.items c.in_ok-found.found.stay.items (passes (goal.at.least_covered-requires-clause-fit c).In_ok-found) in
+    c.in_ok-found.found.claims.items c.in_ok-found.found.own.items c.in_ok-found.found.owners.items c.in_ok-found.found.stay.items (passes (goal.at.least_covered-requires-clause-fit c).In_ok-found) in
     omega (arith, ap length c.deref-9.ensures.value, sized, c.args.tree.now.stored.few)
 
 pub invariant_of-new : goal.invariant_of-new
 invariant_of-new c = record {
   stored = finished_stored c.args.states c.args.moves.now c.args.tree.now.parents c.args.tree.now.states c.args.tree.now.places
-      c.in_ok-found.found.claims.items c.in_ok-found.found.own.items c.in_ok-found.found.homes.items c.in_ok-found.found.stay.items
+      c.in_ok-found.found.claims.items c.in_ok-found.found.own.items c.in_ok-found.found.owners.items c.in_ok-found.found.stay.items
       c.in_ok-names.names.count c.in_ok-names.names.ranks.items c.from_vec.result c.from_vec-2.result c.from_vec-3.result
       c.args.tree.now.stored (finish (goal.at.invariant_of-new c).After-from_vec-3) c.if-names-gt-MOST_NODES.false;
 }
 
 pub returns-clause-tree : goal.returns-clause-tree
 returns-clause-tree c = finished_tree c.args.states c.args.moves.now c.args.tree.now.parents c.args.tree.now.states c.args.tree.now.places
-    c.in_ok-found.found.claims.items c.in_ok-found.found.own.items c.in_ok-found.found.homes.items c.in_ok-found.found.stay.items
+    c.in_ok-found.found.claims.items c.in_ok-found.found.own.items c.in_ok-found.found.owners.items c.in_ok-found.found.stay.items
     c.in_ok-names.names.count c.in_ok-names.names.ranks.items c.from_vec.result c.from_vec-2.result c.from_vec-3.result
     c.args.tree.now.stored (finish (goal.at.returns-clause-tree c).After-from_vec-3)
 
 pub returns-clause-states : goal.returns-clause-states
 returns-clause-states c = finished_below c.args.states c.args.moves.now c.args.tree.now.parents c.args.tree.now.states c.args.tree.now.places
-    c.in_ok-found.found.claims.items c.in_ok-found.found.own.items c.in_ok-found.found.homes.items c.in_ok-found.found.stay.items
+    c.in_ok-found.found.claims.items c.in_ok-found.found.own.items c.in_ok-found.found.owners.items c.in_ok-found.found.stay.items
     c.in_ok-names.names.count c.in_ok-names.names.ranks.items c.from_vec.result c.from_vec-2.result c.from_vec-3.result
     c.args.tree.now.stored (finish (goal.at.returns-clause-states c).After-from_vec-3) c.if-names-gt-MOST_NODES.false
 
@@ -122,7 +122,7 @@ pub returns-clause-few : goal.returns-clause-few
 returns-clause-few c =
     let counts = (finish (goal.at.returns-clause-few c).After-from_vec-3).counts in
     let many = finished_count c.args.states c.args.moves.now c.args.tree.now.parents c.args.tree.now.states c.args.tree.now.places
-    c.in_ok-found.found.claims.items c.in_ok-found.found.own.items c.in_ok-found.found.homes.items c.in_ok-found.found.stay.items c.in_ok-names.names.count
+    c.in_ok-found.found.claims.items c.in_ok-found.found.own.items c.in_ok-found.found.owners.items c.in_ok-found.found.stay.items c.in_ok-names.names.count
     (passes (goal.at.returns-clause-few c).In_ok-found) counts in
     let is = returns-clause-tree c in
     omega (arith, ap length is, c.if-names-gt-MOST_NODES.false, many)
@@ -136,12 +136,12 @@ returns-clause-event c =
     let passed = passes (goal.at.returns-clause-event c).In_ok-found in
     let red : c.least_gone.result ≡ least (reds (grown n ms (tree_of tree)) (length (tree_of tree))) =
     c.least_gone.ensures ∙ (ap (λ (xs : List Bool). least (filter (λ y. not (flag xs y)) (range_with_len 0 c.nodes.result))) c.deref-7.ensures.value
-    ∙ finished_red n ms tree.parents tree.states tree.places c.in_ok-found.found.claims.items c.in_ok-found.found.own.items c.in_ok-found.found.homes.items c.in_ok-found.found.stay.items
+    ∙ finished_red n ms tree.parents tree.states tree.places c.in_ok-found.found.claims.items c.in_ok-found.found.own.items c.in_ok-found.found.owners.items c.in_ok-found.found.stay.items
     c.nodes.result passed c.nodes.ensures) in
     let green : c.least_covered.result ≡ least (greens (grown n ms (tree_of tree))) =
     c.least_covered.ensures ∙ (ap (λ (xs : List Bool). least (filter (λ y. flag xs y && not (flag c.deref-9.result.now y)) (range_with_len 0 (length c.deref-9.result.now)))) c.deref-8.ensures.value
     ∙ (ap (λ (xs : List Bool). least (filter (λ y. flag stay y && not (flag xs y)) (range_with_len 0 (length xs)))) c.deref-9.ensures.value
-    ∙ finished_green n ms tree.parents tree.states tree.places c.in_ok-found.found.claims.items c.in_ok-found.found.own.items c.in_ok-found.found.homes.items c.in_ok-found.found.stay.items
+    ∙ finished_green n ms tree.parents tree.states tree.places c.in_ok-found.found.claims.items c.in_ok-found.found.own.items c.in_ok-found.found.owners.items c.in_ok-found.found.stay.items
     tree.stored passed)) in
     let with_red : Option ℕ → Event = λ r. record { red = r; green = c.least_covered.result } in
     let with_green : Option ℕ → Event = λ g. record { red = least (reds (grown n ms (tree_of tree)) (length (tree_of tree))); green = g } in

@@ -2,7 +2,7 @@ use Rattle.std.proofs.Common.{arith, subst, sym}
 use Rattle.std.proofs.lemmas.List.{length-map}
 use Rattle.aut_base.specs.Automaton.{Automaton, IsWellFormed, automaton}
 use Rattle.aut_base.specs.Label.{label_tree}
-use Rattle.aut_core.specs.Core.{automaton_of}
+use Rattle.aut_core.specs.SymbolicAutomata.{automaton_of}
 use Rattle.word_syntax.proofs.matching.PatternEdges.{pattern_well_formed, together}
 use Rattle.word_syntax.specs.Writing.{word_pattern}
 use Rattle.word_syntax.proofs.automaton.pattern_automaton.Goals as goal

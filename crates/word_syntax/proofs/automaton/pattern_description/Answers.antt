@@ -1,7 +1,7 @@
 use Rattle.std.proofs.Common.{List, [], ap, arith, length, map, ◌+◌, ◌++◌, ◌∷◌, ◌∙◌, ◌≡◌, ℕ}
 use Rattle.std.proofs.lemmas.List.{length-append, length-map}
 use Rattle.aut_base.proofs.trees.FormulaTrees.{formula_tree-True}
-use Rattle.aut_base.specs.Automaton.{tree_edge}
+use Rattle.aut_base.specs.Automaton.{labelled_edge}
 use Rattle.aut_base.specs.Label.{label_tree}
 use Rattle.aut_base.specs.declared.label.Label.{Label}
 use Rattle.word_syntax.proofs.matching.PatternEdges.{all_edges, edges_number, made_automaton}
@@ -37,9 +37,9 @@ returns c =
       length-map c.args.pattern.now.cycle label_tree,
     ) in
     let one = c.in_ok-push_edges.ensures ∙ ap
-    (λ (x : List Label). map tree_edge c.new-edges.result ++ edges_along c.len-back.result (c.len-back.result + c.len.result) (length c.new-edges.result) (map label_tree x)) c.as_slice.ensures in
+    (λ (x : List Label). map labelled_edge c.new-edges.result ++ edges_along c.len-back.result (c.len-back.result + c.len.result) (length c.new-edges.result) (map label_tree x)) c.as_slice.ensures in
     let two = c.in_ok-push_edges-2.ensures ∙ ap
-    (λ (x : List Label). map tree_edge c.push_edges.new.edges ++ edges_along c.len-back.result (c.len-back.result + c.len.result) (length c.push_edges.new.edges) (map label_tree x))
+    (λ (x : List Label). map labelled_edge c.push_edges.new.edges ++ edges_along c.len-back.result (c.len-back.result + c.len.result) (length c.push_edges.new.edges) (map label_tree x))
     c.as_slice-2.ensures in
     made_automaton _ c.args.pattern.now.names _ _ _ _ (map label_tree c.args.pattern.now.stem) (map label_tree c.args.pattern.now.cycle) c.in_ok-copy_names.ensures
     (c.in_ok-push.ensures.ok ∙ ap (λ (x : List ℕ). x ++ 0 ∷ []) c.new-starts.ensures) states

@@ -1,11 +1,11 @@
 use Rattle.std.proofs.Common.{◌∙◌, ap, arith, get_or, length, rules, subst, sym}
 use Rattle.std.proofs.lemmas.Simd.{map-map}
 use Rattle.std.specs.List.{slice_index_or}
-use Rattle.aut_base.specs.Automaton.{TreeEdge}
+use Rattle.aut_base.specs.Automaton.{LabelledEdge}
 use Rattle.label_guards.specs.Guards.{AreNames, IsGuardOf, truth_in}
 use Rattle.label_guards.specs.Store.{Store}
 use Rattle.label_guards.specs.Tables.{AreBrought}
-use Rattle.aut_core.specs.Core.{edge_of}
+use Rattle.aut_core.specs.SymbolicAutomata.{edge_of}
 use Rattle.aut_core.specs.OtherNames.{label_over}
 use Rattle.aut_core.specs.declared.link.Link.{Link}
 use Rattle.aut_core.proofs.Following.{stand_all, stand_more}
@@ -28,7 +28,7 @@ links-preserved c =
     let names : AreNames c.bring_more.new.self c.args.names.now = (c.requires.names.0 ∙ sym kept.names, c.requires.names.1) in
     let brought = subst (λ (s : Store). IsGuardOf c.bring_more.new.self (λ on. truth_in s link.guard (λ k. on (slice_index_or c.args.to.now k 0))) c.in_ok-bring_more.field-0) c.guards.ensures
     c.in_ok-bring_more.ensures.brought in
-    let label = brought_label old.store c.bring_more.new.self old.names c.args.names.now c.args.to.now link.guard c.in_ok-bring_more.field-0 c.whole.ensures.parts.store_names names
+    let label = brought_label old.store c.bring_more.new.self old.names c.args.names.now c.args.to.now link.guard c.in_ok-bring_more.field-0 c.well_formed.ensures.parts.store_names names
     c.requires.places brought in
     let marks = c.in_ok-copy_marks.ensures in
     record {
@@ -56,5 +56,5 @@ returns-clause-edges c =
     c.links.links (omega (arith, ap length c.links-link-items.ensures, c.links-test.false)) c.links.invariant.links in
     record {
       has = c.links.invariant.links.has;
-      edges = all ∙ sym (map-map (λ (e : TreeEdge). record e { label = label_over old.names c.args.names.now e.label }) (edge_of old.store) old.links);
+      edges = all ∙ sym (map-map (λ (e : LabelledEdge). record e { label = label_over old.names c.args.names.now e.label }) (edge_of old.store) old.links);
     }

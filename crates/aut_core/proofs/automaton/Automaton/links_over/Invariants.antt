@@ -1,5 +1,5 @@
 use Rattle.std.proofs.Common.{map, take}
-use Rattle.aut_core.specs.Core.{edge_of}
+use Rattle.aut_core.specs.SymbolicAutomata.{edge_of}
 use Rattle.aut_core.specs.OtherNames.{label_over}
 use Rattle.aut_core.specs.Links.{StandFor}
 use Rattle.label_guards.specs.Store.{Keeps}

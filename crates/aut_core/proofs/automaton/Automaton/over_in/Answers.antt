@@ -1,7 +1,7 @@
 use Rattle.std.proofs.Common.{◌∙◌, ◌≤◌, List, ℕ, All, Contains, ap, length, subst, sym}
 use Rattle.std.proofs.lemmas.Result.{IfOk-weaker}
 use Rattle.aut_base.specs.declared.limit.TheConstants.{MOST_NAMES}
-use Rattle.aut_core.specs.Core.{Core, automaton_of}
+use Rattle.aut_core.specs.SymbolicAutomata.{SymbolicAutomaton, automaton_of}
 use Rattle.aut_core.specs.Links.{StandFor}
 use Rattle.aut_core.specs.OtherNames.{over_names}
 use Rattle.aut_core.proofs.OtherNames.{over_accepts_the_same}
@@ -36,8 +36,8 @@ returns-clause-over c =
 pub returns-clause-accepts : goal.returns-clause-accepts
 returns-clause-accepts c =
     let same = relabelled_is c.args.self.now c.args.names.now c.in_ok-copy_names.field-0 c.links_over.new.guards c.in_ok-links.links c.in_ok-copy_names.ensures c.in_ok-links.ensures.edges in
-    IfOk-weaker c.relabelled.result _ _ (λ made e. over_accepts_the_same c.args.self.now made c.args.names.now c.whole.ensures
+    IfOk-weaker c.relabelled.result _ _ (λ made e. over_accepts_the_same c.args.self.now made c.args.names.now c.well_formed.ensures
     (record { differ = c.as_slice-distinct.ensures.distinct; has = c.requires.has }) (ap automaton_of e ∙ same)) c.relabelled.ensures
 
 pub returns-clause-keeps : goal.returns-clause-keeps
-returns-clause-keeps c = IfOk-weaker c.relabelled.result _ _ (λ made e. subst (λ (x : Core). Keeps c.args.guards x.store) (sym e) c.links_over.ensures.keeps) c.relabelled.ensures
+returns-clause-keeps c = IfOk-weaker c.relabelled.result _ _ (λ made e. subst (λ (x : SymbolicAutomaton). Keeps c.args.guards x.store) (sym e) c.links_over.ensures.keeps) c.relabelled.ensures

@@ -5,7 +5,7 @@ use Rattle.autfilt_run.proofs.turns.Turning.{not_handled, not_read, rises_whole,
 use Rattle.autfilt_run.specs.Faults.{fault_of_reading}
 use Rattle.autfilt_run.specs.Points.{operands_in}
 use Rattle.autfilt_run.specs.inner.Handling.{Handles}
-use Rattle.hoa_lexer.specs.Moves.{Moves}
+use Rattle.hoa_lexer.specs.Moves.{MovesLexer}
 use Rattle.hoa_parser.specs.Raw.{written}
 use Rattle.hoa_parser.specs.Reads.{stop_of_front}
 use Rattle.hoa_parser.specs.declared.read.Front.{Front}
@@ -28,7 +28,7 @@ returns-in-Aborted-clause-step g c =
     let s = g.I.Inputs.seen c.args.inputs.now in
     let t = g.I.Inputs.seen c.read_raw.new.inputs in
     let said = c.in_ok-read_raw.ensures in
-    let M : Front → Type 0 = λ x. Moves (stop_of_front (Ok x)) c.args.self.now.lexer c.read_raw.new.lexer s t in
+    let M : Front → Type 0 = λ x. MovesLexer (stop_of_front (Ok x)) c.args.self.now.lexer c.read_raw.new.lexer s t in
     let at = read_at (Ok c.in_ok-read_raw.field-0) c.args.self.now.lexer.since c.args.self.now.lexer.held c.read_raw.new.lexer.held s.left t.left c.requires.held said.answers said.shown in
     record {
       steps = record {
@@ -53,7 +53,7 @@ returns-in_err-handle-in-Whole-clause-step g c =
     let s = g.I.Inputs.seen c.args.inputs.now in
     let t = g.I.Inputs.seen c.read_raw.new.inputs in
     let said = c.in_ok-read_raw.ensures in
-    let M : Front → Type 0 = λ x. Moves (stop_of_front (Ok x)) c.args.self.now.lexer c.read_raw.new.lexer s t in
+    let M : Front → Type 0 = λ x. MovesLexer (stop_of_front (Ok x)) c.args.self.now.lexer c.read_raw.new.lexer s t in
     let at = read_at (Ok c.in_ok-read_raw.field-0) c.args.self.now.lexer.since c.args.self.now.lexer.held c.read_raw.new.lexer.held s.left t.left c.requires.held said.answers said.shown in
     let moves = subst M c.in-Whole.is said.moves in
     let whole = is_whole c.in_ok-read_raw.field-0 c.in-Whole.raw c.args.self.now.lexer.since c.read_raw.new.lexer.held s.left t.left c.in-Whole.is said.held at in
@@ -69,7 +69,7 @@ returns-else-branch-clause-step g c =
     let s = g.I.Inputs.seen c.args.inputs.now in
     let t = g.I.Inputs.seen c.read_raw.new.inputs in
     let said = c.in_ok-read_raw.ensures in
-    let M : Front → Type 0 = λ x. Moves (stop_of_front (Ok x)) c.args.self.now.lexer c.read_raw.new.lexer s t in
+    let M : Front → Type 0 = λ x. MovesLexer (stop_of_front (Ok x)) c.args.self.now.lexer c.read_raw.new.lexer s t in
     let at = read_at (Ok c.in_ok-read_raw.field-0) c.args.self.now.lexer.since c.args.self.now.lexer.held c.read_raw.new.lexer.held s.left t.left c.requires.held said.answers said.shown in
     let moves = subst M c.in-Whole.is said.moves in
     let whole = is_whole c.in_ok-read_raw.field-0 c.in-Whole.raw c.args.self.now.lexer.since c.read_raw.new.lexer.held s.left t.left c.in-Whole.is said.held at in
@@ -102,7 +102,7 @@ returns-in-Blank-clause-step g c =
     let s = g.I.Inputs.seen c.args.inputs.now in
     let t = g.I.Inputs.seen c.read_raw.new.inputs in
     let said = c.in_ok-read_raw.ensures in
-    let M : Front → Type 0 = λ x. Moves (stop_of_front (Ok x)) c.args.self.now.lexer c.read_raw.new.lexer s t in
+    let M : Front → Type 0 = λ x. MovesLexer (stop_of_front (Ok x)) c.args.self.now.lexer c.read_raw.new.lexer s t in
     let at = read_at (Ok c.in_ok-read_raw.field-0) c.args.self.now.lexer.since c.args.self.now.lexer.held c.read_raw.new.lexer.held s.left t.left c.requires.held said.answers said.shown in
     record {
       steps = record {
@@ -127,7 +127,7 @@ returns-then-branch-clause-step g c =
     let s = g.I.Inputs.seen c.args.inputs.now in
     let t = g.I.Inputs.seen c.read_raw.new.inputs in
     let said = c.in_ok-read_raw.ensures in
-    let M : Front → Type 0 = λ x. Moves (stop_of_front (Ok x)) c.args.self.now.lexer c.read_raw.new.lexer s t in
+    let M : Front → Type 0 = λ x. MovesLexer (stop_of_front (Ok x)) c.args.self.now.lexer c.read_raw.new.lexer s t in
     let at = read_at (Ok c.in_ok-read_raw.field-0) c.args.self.now.lexer.since c.args.self.now.lexer.held c.read_raw.new.lexer.held s.left t.left c.requires.held said.answers said.shown in
     let whole = is_whole c.in_ok-read_raw.field-0 c.in-Whole.raw c.args.self.now.lexer.since c.read_raw.new.lexer.held s.left t.left c.in-Whole.is said.held at in
     let H : Bool → Type 0 = λ x. Handles (Ok x) c.args.self.now.plan (operands_in c.args.self.now) (written c.in-Whole.raw) (g.W.Sink.seen c.args.out.now) (g.W.Sink.seen c.handle.new.out) in

@@ -3,14 +3,14 @@ use Rattle.std.specs.Prelude.{All, map}
 use Rattle.std.proofs.lemmas.Bool.{false≢true}
 use Rattle.std.proofs.lemmas.List.{length_push}
 use Rattle.std.proofs.lemmas.List.Elements.{All-push}
-use Rattle.aut_core.specs.Core.{automaton_of}
-use Rattle.autfilt_run.proofs.turns.OperandTurning.{not_over, not_read, not_taken, one_more, rises, turns_on}
+use Rattle.aut_core.specs.SymbolicAutomata.{automaton_of}
+use Rattle.autfilt_run.proofs.turns.OperandTurning.{not_over, not_read, not_taken, automata_of_pushed, rises, turns_on}
 use Rattle.autfilt_run.proofs.turns.Reading.{is_good, is_skipped, is_whole, read_at}
 use Rattle.autfilt_run.proofs.handling.Taking.{core_is}
 use Rattle.autfilt_run.specs.Faults.{fault_of_reading}
 use Rattle.autfilt_run.specs.declared.fault.RunFault.TheVariants as fault
 use Rattle.autfilt_run.specs.declared.session.Stage.TheVariants as stages
-use Rattle.hoa_lexer.specs.Moves.{Moves}
+use Rattle.hoa_lexer.specs.Moves.{MovesLexer}
 use Rattle.hoa_parser.specs.Raw.{written}
 use Rattle.hoa_parser.specs.Reads.{stop_of_front}
 use Rattle.hoa_parser.specs.declared.read.Front.{Front}
@@ -46,7 +46,7 @@ returns-in-Aborted-clause-turns g c =
     let s = g.I.Inputs.seen c.args.inputs.now in
     let t = g.I.Inputs.seen c.read_raw.new.inputs in
     let said = c.in_ok-read_raw.ensures in
-    let M : Front → Type 0 = λ x. Moves (stop_of_front (Ok x)) c.args.self.now.lexer c.read_raw.new.lexer s t in
+    let M : Front → Type 0 = λ x. MovesLexer (stop_of_front (Ok x)) c.args.self.now.lexer c.read_raw.new.lexer s t in
     let at = read_at (Ok c.in_ok-read_raw.field-0) c.args.self.now.lexer.since c.args.self.now.lexer.held c.read_raw.new.lexer.held s.left t.left c.requires.held said.answers said.shown in
     record {
       turns = record {
@@ -70,7 +70,7 @@ returns-in_err-push-in-Whole-clause-turns g c =
     let s = g.I.Inputs.seen c.args.inputs.now in
     let t = g.I.Inputs.seen c.read_raw.new.inputs in
     let said = c.in_ok-read_raw.ensures in
-    let M : Front → Type 0 = λ x. Moves (stop_of_front (Ok x)) c.args.self.now.lexer c.read_raw.new.lexer s t in
+    let M : Front → Type 0 = λ x. MovesLexer (stop_of_front (Ok x)) c.args.self.now.lexer c.read_raw.new.lexer s t in
     let at = read_at (Ok c.in_ok-read_raw.field-0) c.args.self.now.lexer.since c.args.self.now.lexer.held c.read_raw.new.lexer.held s.left t.left c.requires.held said.answers said.shown in
     let whole = is_whole c.in_ok-read_raw.field-0 c.in-Whole.raw c.args.self.now.lexer.since c.read_raw.new.lexer.held s.left t.left c.in-Whole.is said.held at in
     turns_on c.from_residual-in_err-push-in-Whole.result fault.Memory c.args.self.now _ s t c.from_residual-in_err-push-in-Whole.ensures.1
@@ -83,7 +83,7 @@ invariant_of-self-in-Whole g c =
     let pushed = c.in_ok-push-in-Whole.ensures.ok in
     let core = c.in_ok-read-in-Whole.read.automaton in
     let longer : length c.push.new.self ≡ length old.operands + 1 = ap length pushed ∙ length_push old.operands core in
-    let all = one_more old.operands c.push.new.self core (automaton_of core) pushed refl in
+    let all = automata_of_pushed old.operands c.push.new.self core (automaton_of core) pushed refl in
     record {
       opened_within = old.opened_within;
       tried_within = old.tried_within;
@@ -105,7 +105,7 @@ returns-in_ok-push-in-Whole-clause-turns g c =
     let t = g.I.Inputs.seen c.read_raw.new.inputs in
     let old = c.args.self.now in
     let said = c.in_ok-read_raw.ensures in
-    let M : Front → Type 0 = λ x. Moves (stop_of_front (Ok x)) old.lexer c.read_raw.new.lexer s t in
+    let M : Front → Type 0 = λ x. MovesLexer (stop_of_front (Ok x)) old.lexer c.read_raw.new.lexer s t in
     let at = read_at (Ok c.in_ok-read_raw.field-0) old.lexer.since old.lexer.held c.read_raw.new.lexer.held s.left t.left c.requires.held said.answers said.shown in
     let whole = is_whole c.in_ok-read_raw.field-0 c.in-Whole.raw old.lexer.since c.read_raw.new.lexer.held s.left t.left c.in-Whole.is said.held at in
     let pushed = c.in_ok-push-in-Whole.ensures.ok in
@@ -120,7 +120,7 @@ returns-in_ok-push-in-Whole-clause-turns g c =
           read = is_good (written c.in-Whole.raw) old.lexer.since s.left t.left read.valid read.within whole;
           moves = subst M c.in-Whole.is said.moves;
         };
-        taken = one_more old.operands c.push.new.self core _ pushed (core_is (written c.in-Whole.raw) (automaton_of core) read);
+        taken = automata_of_pushed old.operands c.push.new.self core _ pushed (core_is (written c.in-Whole.raw) (automaton_of core) read);
         one_more = ap length pushed ∙ length_push old.operands core;
         closed = refl;
         skipped = refl;

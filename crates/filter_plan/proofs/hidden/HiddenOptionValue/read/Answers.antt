@@ -1,7 +1,7 @@
 use Rattle.std.proofs.Common.{◌≡◌, ◌∙◌, ◌-◌, List, ℕ, MatchOption, Option, None, Some, arith, drop, length, length-drop, subst, take}
 use Rattle.std.proofs.lemmas.List.{take_all}
 use Rattle.word_syntax.proofs.texts.FrontTokens.{one_front}
-use Rattle.filter_plan.specs.Hiding.{IsHidden, suffix}
+use Rattle.filter_plan.specs.Hiding.{IsHideOption, suffix}
 use Rattle.filter_plan.specs.declared.plan.Hidden.{Hidden}
 use Rattle.ap_project.specs.declared.hide.Hide.{Hide}
 use Rattle.word_syntax.specs.Writing.{IsNameAtFront, NoNameAtFront}
@@ -11,11 +11,11 @@ use Rattle.filter_plan.proofs.hidden.HiddenOptionValue.read.Goals as goal
 abbrev Answers : List ℕ → Option (List ℕ × ℕ) → Type 0
 Answers text found = MatchOption found (NoNameAtFront text) (λ name. IsNameAtFront text name.0 name.1)
 
-no_name : (text : List ℕ) (found : Option (List ℕ × ℕ)) → Answers text found → found ≡ None → (h : Hidden) → IsHidden text h → ⊥
+no_name : (text : List ℕ) (found : Option (List ℕ × ℕ)) → Answers text found → found ≡ None → (h : Hidden) → IsHideOption text h → ⊥
 no_name text found answers none h is = (subst (Answers text) none answers) h.name (suffix h.how) is
 
 other_way : (text : List ℕ) (found : Option (List ℕ × ℕ)) (name : List ℕ) (size : ℕ) → Answers text found → found ≡ Some (name, size)
-    → ((how : Hide) → take (length text - size) (drop size text) ≡ suffix how → ⊥) → (h : Hidden) → IsHidden text h → ⊥
+    → ((how : Hide) → take (length text - size) (drop size text) ≡ suffix how → ⊥) → (h : Hidden) → IsHideOption text h → ⊥
 other_way text found name size answers some none h is =
     let front : IsNameAtFront text name size = subst (Answers text) some answers in
     let same = one_front text (Name name) (Name h.name) (drop size text) (suffix h.how) front.front is in

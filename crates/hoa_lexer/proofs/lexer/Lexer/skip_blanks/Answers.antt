@@ -4,12 +4,12 @@ use Rattle.hoa_lexer.proofs.next_token.Moving.{handed_on, moves_nowhere}
 use Rattle.hoa_lexer.proofs.spelling.Comments.{byte_read}
 use Rattle.hoa_lexer.proofs.next_token.Fronts.{skips_none, skip_space, skips_then, fails_after, blanks_begun, blanks_err, blanks_to, comment_begun, length_unread}
 use Rattle.hoa_lexer.specs.Reading.{held_count, unread, Between}
-use Rattle.hoa_lexer.specs.inner.Steps.{BeginsNone, Peeks, Skips, SkipsBlanks}
+use Rattle.hoa_lexer.specs.inner.Steps.{BeginsNone, Peeks, PassesBlanks, SkipsBlanks}
 use Rattle.hoa_lexer.proofs.lexer.Lexer.skip_blanks.Goals as goal
 
 -- a `/` behind blanks
-slash_behind : {o : Option ℕ} (old at read : Option (List ℕ)) (held held' : Option ℕ) → o ≡ Some 47 → Between old at (λ x y. Skips (unread held x) (unread held' y))
-    → Between at read (λ y z. Peeks (Ok o) (unread held' y) z) → Between old read (λ x z. Skips (unread held x) (47 ∷ z))
+slash_behind : {o : Option ℕ} (old at read : Option (List ℕ)) (held held' : Option ℕ) → o ≡ Some 47 → Between old at (λ x y. PassesBlanks (unread held x) (unread held' y))
+    → Between at read (λ y z. Peeks (Ok o) (unread held' y) z) → Between old read (λ x z. PassesBlanks (unread held x) (47 ∷ z))
 slash_behind old at read held held' is blanks peeks = between_then old at read _ _ _ (λ x y z p q. blanks_to 47 _ _ z p (byte_read _ 47 _ z is q)) blanks peeks
 
 pub blanks-init : goal.blanks-init
@@ -42,9 +42,9 @@ returns-in_err-skip_comment-in-Some-eq47-clause-answers g c =
     let one : held_count c.peek.new.self.held ≡ 1 = ap held_count (c.in_ok-peek.ensures.held ∙ c.in-Some-eq47.is) in
     handed_on (λ r x z. SkipsBlanks r (c.args.self.now.since - held_count c.args.self.now.held) (unread c.args.self.now.held x) (unread c.skip_comment.new.self.held z)) old new _ _
     c.from_residual-in_err-skip_comment-in-Some-eq47.ensures.1
-    (between_then old read new (λ x y. Skips (unread c.args.self.now.held x) (47 ∷ y) × (c.peek.new.self.taken + length y ≡ c.args.self.now.taken + length x)) _ _
+    (between_then old read new (λ x y. PassesBlanks (unread c.args.self.now.held x) (47 ∷ y) × (c.peek.new.self.taken + length y ≡ c.args.self.now.taken + length x)) _ _
     (λ x y z p q. fails_after _ _ _ 0 0 _ _ _ p.0 (omega (arith, p.1, one, length_unread c.args.self.now.held x)) q)
-    (between_both old read _ _ (λ x y. Skips (unread c.args.self.now.held x) (47 ∷ y) × (c.peek.new.self.taken + length y ≡ c.args.self.now.taken + length x)) (λ x y p q. (p, q)) slash taken)
+    (between_both old read _ _ (λ x y. PassesBlanks (unread c.args.self.now.held x) (47 ∷ y) × (c.peek.new.self.taken + length y ≡ c.args.self.now.taken + length x)) (λ x y p q. (p, q)) slash taken)
     c.in_err-skip_comment-in-Some-eq47.ensures.answers)
 
 pub returns-in_err-skip_comment-in-Some-eq47-clause-begun : goal.returns-in_err-skip_comment-in-Some-eq47-clause-begun

@@ -1,13 +1,13 @@
 use Rattle.std.proofs.Common.{◌≡◌, ◌-◌, None}
 use Rattle.hoa_lexer.specs.Reading.{Between}
 use Rattle.hoa_lexer.specs.Moves.{Elsewhere}
-use Rattle.hoa_lexer.specs.inner.Steps.{Advances, AddsWord}
+use Rattle.hoa_lexer.specs.inner.Steps.{AdvancesLexer, AddsWord}
 use Rattle.hoa_lexer.proofs.lexer.Lexer.word_bytes.Given as goal
 
 abbrev pub invariant-bytes : goal.invariant-bytes
 invariant-bytes g l = record {
   answers : Between (g.I.Inputs.seen l.fn.inputs).left (g.I.Inputs.seen l.inputs).left (λ old new. AddsWord l.fn.name l.name old new);
-  advances : Advances Elsewhere l.fn.self l.self (g.I.Inputs.seen l.fn.inputs) (g.I.Inputs.seen l.inputs);
+  advances : AdvancesLexer Elsewhere l.fn.self l.self (g.I.Inputs.seen l.fn.inputs) (g.I.Inputs.seen l.inputs);
   held : l.self.held ≡ None;
 }
 

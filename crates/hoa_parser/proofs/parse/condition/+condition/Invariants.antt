@@ -3,7 +3,7 @@ use Rattle.aut_base.specs.declared.limit.TheConstants.{MOST_DEPTH}
 use Rattle.hoa_parser.proofs.reading.Loops.{GoesOn, bytes_left}
 use Rattle.hoa_parser.specs.inner.Chains.{AddsFands, AddsFatoms}
 use Rattle.hoa_parser.specs.inner.Expecting.{Atoms, Conjunctions}
-use Rattle.hoa_parser.specs.inner.Parsing.{state}
+use Rattle.hoa_parser.specs.inner.Parsing.{reader_state}
 use Rattle.aut_base.specs.Formula.{formula_tree}
 use Rattle.hoa_parser.proofs.parse.condition.+condition.Given as goal
 
@@ -33,7 +33,8 @@ decreases-or_fands g l = 8 * (MOST_DEPTH - l.depth) + 7
 
 abbrev pub invariant-and_fatoms-fatoms : goal.invariant-and_fatoms-fatoms
 invariant-and_fatoms-fatoms g l =
-    GoesOn (Atoms l.fn.depth) (AddsFatoms l.fn.depth (formula_tree l.fn.first) l.parts) (state l.fn.lexer l.fn.ahead (g.I.Inputs.seen l.fn.inputs)) (state l.lexer l.ahead (g.I.Inputs.seen l.inputs))
+    GoesOn (Atoms l.fn.depth) (AddsFatoms l.fn.depth (formula_tree l.fn.first) l.parts) (reader_state l.fn.lexer l.fn.ahead (g.I.Inputs.seen l.fn.inputs))
+    (reader_state l.lexer l.ahead (g.I.Inputs.seen l.inputs))
 
 abbrev pub decreases-and_fatoms-fatoms : goal.decreases-and_fatoms-fatoms
 decreases-and_fatoms-fatoms g l = bytes_left l.lexer
@@ -41,7 +42,7 @@ decreases-and_fatoms-fatoms g l = bytes_left l.lexer
 abbrev pub invariant-or_fands-fands : goal.invariant-or_fands-fands
 invariant-or_fands-fands g l =
     GoesOn (Conjunctions l.fn.depth) (AddsFands l.fn.depth (formula_tree l.fn.first) l.parts)
-    (state l.fn.lexer l.fn.ahead (g.I.Inputs.seen l.fn.inputs)) (state l.lexer l.ahead (g.I.Inputs.seen l.inputs))
+    (reader_state l.fn.lexer l.fn.ahead (g.I.Inputs.seen l.fn.inputs)) (reader_state l.lexer l.ahead (g.I.Inputs.seen l.inputs))
 
 abbrev pub decreases-or_fands-fands : goal.decreases-or_fands-fands
 decreases-or_fands-fands g l = bytes_left l.lexer

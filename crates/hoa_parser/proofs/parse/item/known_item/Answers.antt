@@ -1,7 +1,7 @@
 use Rattle.std.proofs.Common.{[], ◌∷◌}
 use Rattle.hoa_parser.proofs.reading.ItemsRead.{acc_name_read, acceptance_read, alias_read, name_read, names_read, properties_read, start_read, states_read, tool_read}
 use Rattle.hoa_parser.proofs.reading.Steps.{fails_before, handed_on, next_fails, next_reads, reads_as, reads_before}
-use Rattle.hoa_parser.specs.inner.Expecting.{AccValues, MaybeQuoted, Strings, condition_parts, label_parts}
+use Rattle.hoa_parser.specs.inner.Expecting.{AccValues, MaybeQuoted, Strings, condition_parts, expected_label}
 use Rattle.hoa_parser.proofs.parse.item.known_item.Goals as goal
 
 pub returns-in_ok-number-in-States : goal.returns-in_ok-number-in-States
@@ -35,19 +35,19 @@ returns-in_ok-names-in-Ap g c = record {
 
 pub returns-in_err-name-in-Alias : goal.returns-in_err-name-in-Alias
 returns-in_err-name-in-Alias g c = record {
-  reads = handed_on _ _ _ c.from_residual-in_err-name-in-Alias.ensures.1 (rw c.in-Alias.is (fails_before (label_parts 0) c.in_err-name-in-Alias.ensures.reads));
+  reads = handed_on _ _ _ c.from_residual-in_err-name-in-Alias.ensures.1 (rw c.in-Alias.is (fails_before (expected_label 0) c.in_err-name-in-Alias.ensures.reads));
 }
 
 pub returns-in_err-label-in-Alias : goal.returns-in_err-label-in-Alias
 returns-in_err-label-in-Alias g c = record {
   reads = handed_on _ _ _ c.from_residual-in_err-label-in-Alias.ensures.1
-      (rw c.in-Alias.is (next_fails _ (reads_before (label_parts 0) c.in_ok-name-in-Alias.ensures.reads) c.in_err-label-in-Alias.ensures.reads));
+      (rw c.in-Alias.is (next_fails _ (reads_before (expected_label 0) c.in_ok-name-in-Alias.ensures.reads) c.in_err-label-in-Alias.ensures.reads));
 }
 
 pub returns-in_ok-label-in-Alias : goal.returns-in_ok-label-in-Alias
 returns-in_ok-label-in-Alias g c = record {
   reads = rw c.in-Alias.is (reads_as (λ a d h. alias_read _ _ a h.0 d h.1 h.2)
-      (next_reads (reads_before (label_parts 0) c.in_ok-name-in-Alias.ensures.reads) c.in_ok-label-in-Alias.ensures.reads));
+      (next_reads (reads_before (expected_label 0) c.in_ok-name-in-Alias.ensures.reads) c.in_ok-label-in-Alias.ensures.reads));
 }
 
 pub returns-in_err-sets-in-Acceptance : goal.returns-in_err-sets-in-Acceptance

@@ -3,7 +3,7 @@ use Rattle.aut_base.specs.declared.limit.TheConstants.{MOST_DEPTH}
 use Rattle.hoa_parser.proofs.reading.Loops.{GoesOn, bytes_left}
 use Rattle.hoa_parser.specs.inner.Chains.{AddsLands, AddsLnots}
 use Rattle.hoa_parser.specs.inner.Expecting.{Factors, Products}
-use Rattle.hoa_parser.specs.inner.Parsing.{state}
+use Rattle.hoa_parser.specs.inner.Parsing.{reader_state}
 use Rattle.hoa_parser.specs.Raw.{raw_tree}
 use Rattle.hoa_parser.proofs.parse.label.+label.Given as goal
 
@@ -42,14 +42,16 @@ decreases-or_lands g l = 10 * (MOST_DEPTH - l.depth) + 9
 
 abbrev pub invariant-more_lnots-lnots : goal.invariant-more_lnots-lnots
 invariant-more_lnots-lnots g l =
-    GoesOn (Factors l.fn.depth) (AddsLnots l.fn.depth (raw_tree l.fn.first) l.parts) (state l.fn.lexer l.fn.ahead (g.I.Inputs.seen l.fn.inputs)) (state l.lexer l.ahead (g.I.Inputs.seen l.inputs))
+    GoesOn (Factors l.fn.depth) (AddsLnots l.fn.depth (raw_tree l.fn.first) l.parts) (reader_state l.fn.lexer l.fn.ahead (g.I.Inputs.seen l.fn.inputs))
+    (reader_state l.lexer l.ahead (g.I.Inputs.seen l.inputs))
 
 abbrev pub decreases-more_lnots-lnots : goal.decreases-more_lnots-lnots
 decreases-more_lnots-lnots g l = bytes_left l.lexer
 
 abbrev pub invariant-more_lands-lands : goal.invariant-more_lands-lands
 invariant-more_lands-lands g l =
-    GoesOn (Products l.fn.depth) (AddsLands l.fn.depth (raw_tree l.fn.first) l.parts) (state l.fn.lexer l.fn.ahead (g.I.Inputs.seen l.fn.inputs)) (state l.lexer l.ahead (g.I.Inputs.seen l.inputs))
+    GoesOn (Products l.fn.depth) (AddsLands l.fn.depth (raw_tree l.fn.first) l.parts) (reader_state l.fn.lexer l.fn.ahead (g.I.Inputs.seen l.fn.inputs))
+    (reader_state l.lexer l.ahead (g.I.Inputs.seen l.inputs))
 
 abbrev pub decreases-more_lands-lands : goal.decreases-more_lands-lands
 decreases-more_lands-lands g l = bytes_left l.lexer

@@ -1,6 +1,6 @@
 use Rattle.std.proofs.Common.{[], ◌∷◌, refl, sym, ◌∙◌}
 use Rattle.hoa_parser.proofs.grammar.OtherTokens.{other_value}
-use Rattle.hoa_parser.proofs.grammar.Values.{value_at, no_more, one_more}
+use Rattle.hoa_parser.proofs.grammar.Values.{value_at, no_more, one_spelled}
 use Rattle.hoa_parser.proofs.reading.Steps.{handed_on, reads_end, reads_nothing}
 use Rattle.hoa_parser.specs.inner.RuleReads.{values_part}
 use Rattle.hoa_parser.proofs.parse.lists.values.Goals as goal
@@ -18,4 +18,4 @@ returns-in_err-advance g c = record {
 }
 
 pub values-preserved : goal.values-preserved
-values-preserved g c = one_more (value_at c.args.texts _ (sym c.is_value.ensures ∙ c.if-not-is_value.false)) c.values.invariant c.in_ok-advance.ensures
+values-preserved g c = one_spelled (value_at c.args.texts _ (sym c.is_value.ensures ∙ c.if-not-is_value.false)) c.values.invariant c.in_ok-advance.ensures

@@ -4,12 +4,12 @@ use Rattle.hoa_parser.proofs.reading.FrontParts.{spelled_more, spelled_none}
 use Rattle.hoa_parser.proofs.grammar.OtherTokens.{other}
 use Rattle.hoa_parser.proofs.reading.Steps.{fails_after, fails_for, handed_on, no_memory, reads_as, reads_end, reads_for, reads_nothing, reads_then}
 use Rattle.hoa_lexer.specs.declared.token.Token.{Token}
-use Rattle.hoa_parser.specs.inner.Expecting.{Part, Word, Words, behind}
+use Rattle.hoa_parser.specs.inner.Expecting.{Part, Word, Words, parts_behind}
 use Rattle.hoa_parser.proofs.parse.lists.words.Goals as goal
 
 -- one more stands here
-one_more : (z : Token) (text : List ℕ) → z ≡ token.Identifier text → (most : ℕ) (others : List Part) → behind most (Words ∷ others) z ≡ behind most (Word ∷ Words ∷ others) z
-one_more z text is most others = ap (behind most (Words ∷ others)) is ∙ sym (ap (behind most (Word ∷ Words ∷ others)) is)
+same_parts_behind : (z : Token) (text : List ℕ) → z ≡ token.Identifier text → (most : ℕ) (others : List Part) → parts_behind most (Words ∷ others) z ≡ parts_behind most (Word ∷ Words ∷ others) z
+same_parts_behind z text is most others = ap (parts_behind most (Words ∷ others)) is ∙ sym (ap (parts_behind most (Word ∷ Words ∷ others)) is)
 
 pub words-init : goal.words-init
 words-init g c = reads_nothing (Words ∷ []) _ _ c.requires.unspent (λ a. spelled_none token.Identifier c.new-words.result a c.new-words.ensures)
@@ -21,17 +21,17 @@ pub returns-in_err-word : goal.returns-in_err-word
 returns-in_err-word g c = record {
   reads =
       handed_on _ _ _ c.from_residual.ensures.1
-      (fails_after c.words.invariant (fails_for (Words ∷ []) c.words.invariant.spent (one_more _ c.in-Identifier.field-0 c.in-Identifier.is) c.in_err-word.ensures.reads));
+      (fails_after c.words.invariant (fails_for (Words ∷ []) c.words.invariant.spent (same_parts_behind _ c.in-Identifier.field-0 c.in-Identifier.is) c.in_err-word.ensures.reads));
 }
 
 pub returns-in_err-push : goal.returns-in_err-push
 returns-in_err-push g c = record {
   reads =
       handed_on _ _ _ c.from_residual-in_err-push.ensures.1
-      (no_memory (reads_then c.words.invariant (reads_for (Words ∷ []) c.words.invariant.spent (one_more _ c.in-Identifier.field-0 c.in-Identifier.is) c.in_ok-word.ensures.reads)));
+      (no_memory (reads_then c.words.invariant (reads_for (Words ∷ []) c.words.invariant.spent (same_parts_behind _ c.in-Identifier.field-0 c.in-Identifier.is) c.in_ok-word.ensures.reads)));
 }
 
 pub words-preserved : goal.words-preserved
 words-preserved g c =
     reads_as (λ a d h. spelled_more token.Identifier c.words.words c.in_ok-word.word c.push.new.self a h.0 d c.in_ok-push.ensures.ok h.1 h.2)
-    (reads_then c.words.invariant (reads_for (Words ∷ []) c.words.invariant.spent (one_more _ c.in-Identifier.field-0 c.in-Identifier.is) c.in_ok-word.ensures.reads))
+    (reads_then c.words.invariant (reads_for (Words ∷ []) c.words.invariant.spent (same_parts_behind _ c.in-Identifier.field-0 c.in-Identifier.is) c.in_ok-word.ensures.reads))

@@ -7,7 +7,7 @@ use Rattle.hoa_reader.proofs.validity.AllDiffer.{repeats}
 use Rattle.hoa_reader.proofs.validity.Leaves.{leaves_agree}
 use Rattle.hoa_reader.proofs.labels.Meanings.{known_listed, known_push, names_by}
 use Rattle.hoa_reader.specs.Described.{Meaning, expanded, meanings_after}
-use Rattle.hoa_reader.specs.inner.Growing.{AreKnown, meanings_by}
+use Rattle.hoa_reader.specs.inner.Growing.{AreAliasesKnown, meanings_by}
 use Rattle.hoa_reader.specs.inner.PickedOut.{alias_def}
 use Rattle.hoa_reader.specs.inner.Places.{place_in}
 use Rattle.hoa_parser.specs.Raw.{raw_tree}
@@ -59,7 +59,7 @@ defs-preserved c =
     let away = name_is_new defs i def c.defs-test.true c.def-item.is (and_parts _ _ c.requires).0 in
     let names = names_by (take i defs) in
     let at : slice_get defs c.defs.place ≡ Some def = ap (slice_get defs) c.defs.invariant.place ∙ slice_get-at defs i def c.defs-test.true c.def-item.is in
-    let P : List Meaning → Type 0 = λ ms. AreKnown ms defs c.add.new.self in
+    let P : List Meaning → Type 0 = λ ms. AreAliasesKnown ms defs c.add.new.self in
     record {
       place = ap (λ n. n + 1) c.defs.invariant.place;
       known =

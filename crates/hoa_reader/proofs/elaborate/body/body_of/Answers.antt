@@ -7,7 +7,7 @@ use Rattle.hoa_reader.proofs.description.Built.{few_names, stand_for}
 use Rattle.hoa_reader.proofs.description.Framed.{framed_labels, framed_marks}
 use Rattle.hoa_reader.proofs.description.OneWay.{implicit_in}
 use Rattle.hoa_reader.specs.Described.{state_count}
-use Rattle.hoa_reader.specs.Validity.{marks_below, names_of}
+use Rattle.hoa_reader.specs.Validity.{marks_below, written_names}
 use Rattle.hoa_reader.specs.inner.PickedOut.{numbers}
 use Rattle.hoa_reader.specs.inner.Rising.{rises_from}
 use Rattle.hoa_reader.specs.inner.TreeEdges.{HasLabelsBelow}
@@ -46,7 +46,7 @@ links_of-requires-clause-below c =
     let frame = c.in_ok-frame.frame in
     subst (λ n. All (HasLabelsBelow frame.shared n) (map written_state c.as_slice-states.result.now))
     (sym (c.in_ok-guards.ensures.names ∙ c.in_ok-frame.ensures.count))
-    (subst (λ (ss : List RawState). All (HasLabelsBelow frame.shared (length (names_of w))) (map written_state ss)) (sym c.as_slice-states.ensures)
+    (subst (λ (ss : List RawState). All (HasLabelsBelow frame.shared (length (written_names w))) (map written_state ss)) (sym c.as_slice-states.ensures)
     (framed_labels w frame c.in_ok-frame.ensures c.requires.valid))
 
 pub returns : goal.returns

@@ -4,14 +4,14 @@ use Rattle.hoa_reader.proofs.counting.BodySums.{body_props}
 use Rattle.hoa_reader.specs.declared.elaborate.sums.Sums.{Sums}
 use Rattle.hoa_reader.specs.inner.PickedOut.{alias_def}
 use Rattle.hoa_parser.specs.Raw.{written}
-use Rattle.hoa_reader.specs.Validity.{AliasLine, alias_lines, body_labels, names_of, props_below}
+use Rattle.hoa_reader.specs.Validity.{AliasLine, alias_lines, body_labels, written_names, props_below}
 use Rattle.hoa_reader.proofs.elaborate.broken.propositions_have_names.Goals as goal
 
 pub returns-then-aliases_props_below : goal.returns-then-aliases_props_below
 returns-then-aliases_props_below c =
     let w = written c.args.raw.now in
     let n = length c.args.parts.now.names.now in
-    let count : n ≡ length (names_of w) = ap length c.requires.names in
+    let count : n ≡ length (written_names w) = ap length c.requires.names in
     let aliases : list_all (λ (line : AliasLine). props_below n line.label) (alias_lines w) ≡ true =
     ap (list_all (λ (line : AliasLine). props_below n line.label)) (sym (ap (map alias_def) c.deref.ensures.value ∙ c.requires.defs)) ∙ sym c.aliases_props_below.ensures
     ∙ c.if-aliases_props_below.true in

@@ -1,6 +1,6 @@
 use Rattle.std.proofs.Common.{◌++◌, ◌<◌, ◌∙◌, List, ap, arith, length, map, sym}
 use Rattle.aut_base.proofs.lists.Members.{all_passes_at}
-use Rattle.aut_base.specs.Automaton.{TreeEdge}
+use Rattle.aut_base.specs.Automaton.{LabelledEdge}
 use Rattle.hoa_parser.specs.Raw.{written_state}
 use Rattle.hoa_reader.proofs.labels.LinkedEdges.{edges_of_one}
 use Rattle.hoa_reader.proofs.labels.StatePlaces.{found}
@@ -30,6 +30,6 @@ numbers-preserved c =
     c.in_ok-places.ensures.place
     within c.index.ensures c.in-Some.is c.index-states-place.is in
     c.in_ok-add_edges.ensures
-    ∙ ap (λ (es : List TreeEdge). es ++ tree_edges_for x (written_state c.index-states-place.result)) c.numbers.invariant
+    ∙ ap (λ (es : List LabelledEdge). es ++ tree_edges_for x (written_state c.index-states-place.result)) c.numbers.invariant
     ∙ ap (λ s. edges_for x ws n ++ tree_edges_for x s) at.is
     ∙ sym (edges_of_one x ws n c.in-Some.place at.one)

@@ -3,7 +3,7 @@ use Rattle.hoa_parser.specs.Raw.{written}
 use Rattle.hoa_reader.specs.Counts.{PassesNone}
 use Rattle.hoa_reader.specs.Validity.{IsValid}
 use Rattle.hoa_reader.specs.declared.elaborate.parts.AliasDef.{AliasDef}
-use Rattle.hoa_reader.specs.inner.Growing.{AreKnown, meanings_by}
+use Rattle.hoa_reader.specs.inner.Growing.{AreAliasesKnown, meanings_by}
 use Rattle.hoa_reader.proofs.elaborate.examined.examine.Goals as goal
 
 pub returns : goal.returns
@@ -11,5 +11,5 @@ returns c =
     let w = written c.args.raw.now in
     let valid : IsValid w = rw c.in_default.is at c.in_ok-rule.ensures in
     let within : PassesNone w = rw c.in_default-first_passed.is at c.first_passed.ensures in
-    let known = subst (λ (defs : List AliasDef). AreKnown (meanings_by defs) defs c.in_ok-known.known) c.deref.ensures.value c.in_ok-known.ensures in
+    let known = subst (λ (defs : List AliasDef). AreAliasesKnown (meanings_by defs) defs c.in_ok-known.known) c.deref.ensures.value c.in_ok-known.ensures in
     record { valid = valid; within = within; parts = c.in_ok-parts.ensures; known = known }

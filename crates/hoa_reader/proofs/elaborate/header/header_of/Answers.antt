@@ -7,7 +7,7 @@ use Rattle.hoa_parser.specs.Naming.{name_item}
 use Rattle.hoa_parser.specs.Raw.{written, written_item}
 use Rattle.hoa_reader.proofs.description.Headers.{first_formula, first_or, first_there, formula_or, found_out, none_left}
 use Rattle.hoa_reader.proofs.validity.NamesDiffer.{valid_names}
-use Rattle.hoa_reader.specs.Validity.{names_item, names_of}
+use Rattle.hoa_reader.specs.Validity.{names_item, written_names}
 use Rattle.hoa_reader.specs.inner.Headers.{formula_item}
 use Rattle.hoa_reader.proofs.elaborate.header.header_of.Goals as goal
 
@@ -17,7 +17,7 @@ names_found-requires c =
     let w = written c.args.raw in
     let none = ap (map written_item) (none_left (into_iter_items it) (sym it.rest.ok.0 ∙ c.in-None.ensures.steps.0)) in
     let found = found_out names_item c.items.found.names (map written_item (into_iter_items it)) w.items none c.items.invariant.names in
-    let same : option_map_or (λ x. x) c.items.found.names [] ≡ names_of w =
+    let same : option_map_or (λ x. x) c.items.found.names [] ≡ written_names w =
     ap (λ (o : Option (List (List ℕ))). option_map_or (λ x. x) o []) found ∙ first_or (filter_map names_item w.items) [] in
     let P : List (List ℕ) → Type 0 = λ names. AllPairs (λ a b. a ≢ b) names in
     subst P (sym same) (valid_names w c.requires)

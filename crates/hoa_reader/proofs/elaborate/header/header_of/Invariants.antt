@@ -5,7 +5,7 @@ use Rattle.aut_base.specs.Formula.{formula_tree}
 use Rattle.hoa_parser.specs.Naming.{name_item}
 use Rattle.hoa_parser.specs.Raw.{written, written_item}
 use Rattle.hoa_reader.specs.Validity.{names_item}
-use Rattle.hoa_reader.specs.inner.Headers.{first_of, formula_item}
+use Rattle.hoa_reader.specs.inner.Headers.{first_given, formula_item}
 use Rattle.hoa_reader.specs.inner.PickedOut.{list_of}
 use Rattle.hoa_reader.proofs.elaborate.header.header_of.Given as goal
 
@@ -15,7 +15,7 @@ invariant-items l =
     let left = map written_item (into_iter_items l.item-iterator) in
     let all = (written l.fn.raw).items in
     record {
-      names : first_of l.found.names (list_of (filter_map names_item left)) ≡ list_of (filter_map names_item all);
-      formula : first_of (option_map formula_tree l.found.formula) (list_of (filter_map formula_item left)) ≡ list_of (filter_map formula_item all);
-      name : first_of l.found.name (list_of (filter_map name_item left)) ≡ list_of (filter_map name_item all);
+      names : first_given l.found.names (list_of (filter_map names_item left)) ≡ list_of (filter_map names_item all);
+      formula : first_given (option_map formula_tree l.found.formula) (list_of (filter_map formula_item left)) ≡ list_of (filter_map formula_item all);
+      name : first_given l.found.name (list_of (filter_map name_item left)) ≡ list_of (filter_map name_item all);
     }

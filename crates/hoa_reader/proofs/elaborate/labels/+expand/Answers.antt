@@ -7,7 +7,7 @@ use Rattle.hoa_reader.proofs.labels.ExpandedLabels.{and_of, bit_small, expanded_
 use Rattle.hoa_parser.proofs.grammar.RawTrees.{raw_tree-Alias, raw_tree-And-fields, raw_tree-Or-fields}
 use Rattle.hoa_reader.proofs.labels.Meanings.{meaning_missing}
 use Rattle.hoa_reader.specs.Described.{each_expanded, expanded, meaning_of}
-use Rattle.hoa_reader.specs.inner.Growing.{AreKnown, IsKnownBy, IsKnownOne, alias_name, meaning_names, meanings_by, steps_left}
+use Rattle.hoa_reader.specs.inner.Growing.{AreAliasesKnown, IsKnownBy, IsKnownOne, alias_name, meaning_names, meanings_by, expansion_steps}
 use Rattle.hoa_reader.specs.inner.Places.{place_in}
 use Rattle.hoa_parser.specs.Raw.{raw_tree, raw_trees}
 use Rattle.hoa_reader.specs.Validity.{is_listed}
@@ -19,7 +19,8 @@ use Rattle.hoa_parser.specs.declared.raw.RawLabel.TheVariants as raw_label
 use Rattle.hoa_reader.proofs.elaborate.labels.+expand.Goals as goal
 use Rattle.std.proofs.lemmas.Option.{get_or_from_slice_get}
 
-found : (defs : List AliasDef) (known : Places Known) (name : List ℕ) (k : Known) → AreKnown (meanings_by defs) defs known → place_in known name ≡ Some k → IsKnownOne (meanings_by defs) defs name k
+found : (defs : List AliasDef) (known : Places Known) (name : List ℕ) (k : Known) → AreAliasesKnown (meanings_by defs) defs known → place_in known name ≡ Some k
+    → IsKnownOne (meanings_by defs) defs name k
 found defs known name k all is = let P : Option Known → Type 0 = λ o. IsKnownBy (meanings_by defs) defs name o in subst P is (all name)
 
 is_alias : (defs : List AliasDef) (label : RawLabel) (name : Box (List ℕ) Global) → label ≡ raw_label.Alias name
@@ -62,7 +63,7 @@ expand_parts-expand-requires t c =
     let p = c.args.parts.now in
     let pos = size_pos (expanded ms (raw_tree p.second)) in
     let bit = bit_small (alias_name (raw_tree p.first)) in
-    let less : steps_left c.args.defs.now (raw_tree p.first) < t = omega (arith, pos, bit, c.decreases) in
+    let less : expansion_steps c.args.defs.now (raw_tree p.first) < t = omega (arith, pos, bit, c.decreases) in
     (less, c.requires)
 
 pub expand_parts-expand-requires-in-others : goal.expand_parts-expand-requires-in-others
@@ -74,5 +75,5 @@ expand_parts-expand-requires-in-others t c =
     (part_size ms c.deref-part-items.result.now c.others.part-index c.part-item.result c.others-test.true c.part-item.is) in
     let pos = size_pos (expanded ms (raw_tree p.first)) in
     let bit = bit_small (alias_name (raw_tree c.part-item.result)) in
-    let less : steps_left c.args.defs.now (raw_tree c.part-item.result) < t = omega (arith, small, pos, bit, c.decreases) in
+    let less : expansion_steps c.args.defs.now (raw_tree c.part-item.result) < t = omega (arith, small, pos, bit, c.decreases) in
     (less, c.requires)

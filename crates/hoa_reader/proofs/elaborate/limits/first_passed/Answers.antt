@@ -4,17 +4,17 @@ use Rattle.aut_base.specs.declared.limit.TheConstants.{MOST_NAMES, MOST_SETS, MO
 use Rattle.hoa_reader.proofs.counting.EdgeCounts.{edge_count}
 use Rattle.hoa_reader.specs.Counts.{Edges, Aliases}
 use Rattle.hoa_parser.specs.Raw.{written}
-use Rattle.hoa_reader.specs.Validity.{acceptance_of, names_of}
+use Rattle.hoa_reader.specs.Validity.{acceptance_of, written_names}
 use Rattle.hoa_reader.specs.Described.{edges_of, state_count}
 use Rattle.hoa_reader.proofs.elaborate.limits.first_passed.Goals as goal
 use Rattle.hoa_reader.proofs.elaborate.limits.first_passed.Goals.{After-has_more_edges}
 
 -- what is known once the edges are counted: no limit before theirs is passed
-counted : (c : After-has_more_edges) → (nat_lt MOST_NAMES (length (names_of (written c.args.raw.now))) ≡ false) × (nat_lt MOST_SETS (acceptance_of (written c.args.raw.now)).sets ≡ false)
+counted : (c : After-has_more_edges) → (nat_lt MOST_NAMES (length (written_names (written c.args.raw.now))) ≡ false) × (nat_lt MOST_SETS (acceptance_of (written c.args.raw.now)).sets ≡ false)
     × (nat_lt MOST_STATES (state_count (written c.args.raw.now)) ≡ false) × (c.has_more_edges.result ≡ nat_lt MOST_EDGES (length (edges_of (written c.args.raw.now))))
 counted c =
     let w = written c.args.raw.now in
-    let names : nat_lt MOST_NAMES (length (names_of w)) ≡ false = ap (λ (ns : List (List ℕ)). nat_lt MOST_NAMES (length ns)) (sym c.requires.parts.names) ∙ grind (arith, nat_tests) in
+    let names : nat_lt MOST_NAMES (length (written_names w)) ≡ false = ap (λ (ns : List (List ℕ)). nat_lt MOST_NAMES (length ns)) (sym c.requires.parts.names) ∙ grind (arith, nat_tests) in
     let sets : nat_lt MOST_SETS (acceptance_of w).sets ≡ false = ap (nat_lt MOST_SETS) (sym c.set_count.ensures) ∙ grind (arith, nat_tests) in
     let states : nat_lt MOST_STATES (state_count w) ≡ false = ap (nat_lt MOST_STATES) (sym c.state_count.ensures) ∙ grind (arith, nat_tests) in
     let edges : c.has_more_edges.result ≡ nat_lt MOST_EDGES (length (edges_of w)) =

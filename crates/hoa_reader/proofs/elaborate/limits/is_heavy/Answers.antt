@@ -4,7 +4,7 @@ use Rattle.hoa_parser.specs.declared.raw.RawState.{RawState}
 use Rattle.hoa_reader.proofs.counting.BodySums.{capped_passes}
 use Rattle.hoa_reader.proofs.counting.PlainLabels.{body_counts}
 use Rattle.hoa_reader.specs.declared.elaborate.sums.Sums.{Sums}
-use Rattle.hoa_reader.specs.inner.Weighing.{counted}
+use Rattle.hoa_reader.specs.inner.Weighing.{states_counted}
 use Rattle.hoa_reader.proofs.elaborate.limits.is_heavy.Goals as goal
 
 pub returns-then-parts : goal.returns-then-parts
@@ -13,7 +13,7 @@ returns-then-parts c =
     let sums = c.requires.parts.sums in
     let plain = sym (ap (λ (s : Sums). s.plain) sums) ∙ c.if-parts.true in
     let counts = body_counts c.args.known.now _ w.states plain ∙ sym (ap (λ (s : Sums). s.weight) sums) in
-    capped_passes c.args.most (counted c.args.known.now w.states) c.args.parts.now.sums.weight c.requires.most counts
+    capped_passes c.args.most (states_counted c.args.known.now w.states) c.args.parts.now.sums.weight c.requires.most counts
 
 pub returns : goal.returns
-returns c = c.are_heavy.ensures ∙ ap (λ (ss : List RawState). nat_lt c.args.most (counted c.args.known.now (map written_state ss))) c.as_slice.ensures
+returns c = c.are_heavy.ensures ∙ ap (λ (ss : List RawState). nat_lt c.args.most (states_counted c.args.known.now (map written_state ss))) c.as_slice.ensures

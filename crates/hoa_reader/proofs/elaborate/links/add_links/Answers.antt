@@ -1,8 +1,8 @@
 use Rattle.std.proofs.Common.{◌++◌, ◌+◌, ◌∙◌, List, ap, arith, map, subst, sym}
 use Rattle.std.specs.List.{AllByRecursion}
-use Rattle.aut_base.specs.Automaton.{TreeEdge}
+use Rattle.aut_base.specs.Automaton.{LabelledEdge}
 use Rattle.aut_base.specs.Label.{AllBelow}
-use Rattle.aut_core.specs.Core.{edge_of}
+use Rattle.aut_core.specs.SymbolicAutomata.{edge_of}
 use Rattle.hoa_parser.specs.Raw.{written_edge, written_state}
 use Rattle.hoa_reader.proofs.labels.LinkedEdges.{AreOnTheWay, all_linked, edges_from, link_more, next_edge, no_edge}
 use Rattle.hoa_reader.proofs.labels.MarksBelow.{edge_marks_below}
@@ -26,7 +26,7 @@ link_of-requires-clause-below c =
     let n = c.args.guards.now.names in
     let here = c.written.invariant in
     let next = next_edge x state c.as_slice-edge-items.result.now c.written.edge-index edge c.as_slice-edge-items.ensures c.written-test.true c.edge-item.is in
-    let all = subst (AllByRecursion (λ (e : TreeEdge). AllBelow n e.label)) next here.below in
+    let all = subst (AllByRecursion (λ (e : LabelledEdge). AllBelow n e.label)) next here.below in
     subst (λ m. AllBelow m (label_for x (written_state state) c.written.letter (written_edge edge))) (sym here.names)
     (subst (λ i. AllBelow n (label_for x (written_state state) i (written_edge edge))) (sym here.letter) all.0)
 
@@ -38,16 +38,16 @@ written-preserved c =
     let n = c.args.guards.now.names in
     let here = c.written.invariant in
     let next = next_edge x state c.as_slice-edge-items.result.now c.written.edge-index edge c.as_slice-edge-items.ensures c.written-test.true c.edge-item.is in
-    let all : List TreeEdge = map (edge_of c.args.guards.now) c.args.links.now ++ map (settled n) (tree_edges_for x (written_state state)) in
+    let all : List LabelledEdge = map (edge_of c.args.guards.now) c.args.links.now ++ map (settled n) (tree_edges_for x (written_state state)) in
     record {
       letters = c.link_of.ensures.letters;
       letter = ap (λ i. i + 1) here.letter;
       names = c.link_of.ensures.keeps.names ∙ here.names;
-      below = (subst (AllByRecursion (λ (e : TreeEdge). AllBelow n e.label)) next here.below).1;
+      below = (subst (AllByRecursion (λ (e : LabelledEdge). AllBelow n e.label)) next here.below).1;
       way = link_more c.written.guards c.link_of.new.guards c.written.links c.push.new.self c.in_ok-new.new
           (settled n (tree_edge_for x (written_state state) c.written.edge-index (written_edge edge)))
           (map (settled n) (edges_from x state (c.written.edge-index + 1))) all
-          (subst (λ (es : List TreeEdge). AreOnTheWay c.written.guards c.written.links (map (settled n) es) all) next here.way)
+          (subst (λ (es : List LabelledEdge). AreOnTheWay c.written.guards c.written.links (map (settled n) es) all) next here.way)
           c.link_of.ensures.keeps c.in_ok-new.ensures.has
           (c.in_ok-new.ensures.edge ∙ ap (λ m. settled m (tree_edge_for x (written_state state) c.written.letter (written_edge edge))) here.names
           ∙ ap (λ i. settled n (tree_edge_for x (written_state state) i (written_edge edge))) here.letter) c.in_ok-push.ensures.ok;
@@ -58,7 +58,7 @@ returns-clause-stand c =
     let x = c.args.shared.now in
     let state = c.args.state.now in
     let n = c.args.guards.now.names in
-    let all : List TreeEdge = map (edge_of c.args.guards.now) c.args.links.now ++ map (settled n) (tree_edges_for x (written_state state)) in
+    let all : List LabelledEdge = map (edge_of c.args.guards.now) c.args.links.now ++ map (settled n) (tree_edges_for x (written_state state)) in
     let none = no_edge x state c.as_slice-edge-items.result.now c.written.edge-index c.as_slice-edge-items.ensures (omega (arith, c.written-test.false)) in
     all_linked c.written.guards c.written.links all
-    (subst (λ (es : List TreeEdge). AreOnTheWay c.written.guards c.written.links (map (settled n) es) all) none c.written.invariant.way)
+    (subst (λ (es : List LabelledEdge). AreOnTheWay c.written.guards c.written.links (map (settled n) es) all) none c.written.invariant.way)

@@ -2,7 +2,7 @@ use Rattle.std.proofs.Common.{◌≡◌, ◌++◌, ◌+◌, ◌<◌, ◌∙◌, 
 use Rattle.std.proofs.lemmas.List.{append-nil, get_or_default, length-map, map-append}
 use Rattle.std.proofs.lemmas.Option.{slice_get_within}
 use Rattle.aut_base.proofs.lists.Members.{all_passes_at}
-use Rattle.aut_core.specs.Core.{edge_of}
+use Rattle.aut_core.specs.SymbolicAutomata.{edge_of}
 use Rattle.aut_core.specs.Links.{StandFor}
 use Rattle.aut_core.specs.declared.link.Link.{Link}
 use Rattle.hoa_parser.specs.Raw.{WrittenState, written_state}

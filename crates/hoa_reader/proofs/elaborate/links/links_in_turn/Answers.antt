@@ -7,8 +7,8 @@ use Rattle.std.specs.Option.{option_map}
 use Rattle.std.specs.Prelude.{flat_map}
 use Rattle.aut_base.proofs.lists.Lists.{slice_get-at, take-push}
 use Rattle.aut_base.proofs.lists.Members.{all_passes_at}
-use Rattle.aut_base.specs.Automaton.{TreeEdge}
-use Rattle.aut_core.specs.Core.{edge_of}
+use Rattle.aut_base.specs.Automaton.{LabelledEdge}
+use Rattle.aut_core.specs.SymbolicAutomata.{edge_of}
 use Rattle.aut_core.specs.Links.{StandFor}
 use Rattle.aut_core.specs.declared.link.Link.{Link}
 use Rattle.hoa_parser.specs.Raw.{WrittenState, written_state}
@@ -56,7 +56,7 @@ states-preserved c =
     let states = c.args.states.now in
     let i = c.states.state-index in
     let state = c.state-item.result in
-    let E : List RawState → List TreeEdge = λ ss. flat_map (tree_edges_for x) (map written_state ss) in
+    let E : List RawState → List LabelledEdge = λ ss. flat_map (tree_edges_for x) (map written_state ss) in
     let old = c.states.guards.names in
     let here = tree_edges_for x (written_state state) in
     let pushed : E (take (i + 1) states) ≡ E (take i states) ++ here =

@@ -1,6 +1,6 @@
 use Rattle.std.proofs.Common.{◌≡◌, ◌∙◌, Bool, ℕ, ap, sym}
 use Rattle.label_guards.specs.Guards.{truth_in}
-use Rattle.label_guards.specs.Letters.{IsLast}
+use Rattle.label_guards.specs.Letters.{IsLastPlace}
 use Rattle.label_guards.specs.Numbers.{is_at, last_at}
 use Rattle.label_guards.specs.Store.{Store}
 use Rattle.label_guards.proofs.labelled.LabelTruth.{at, canonical_at, truth_is}
@@ -8,7 +8,7 @@ use Rattle.label_guards.proofs.labelled.Lasts.{all_last}
 use Rattle.label_guards.proofs.letters.Letters.guard.Goals as goal
 
 -- the place for all propositions is true at the number alone
-alone : (s : Store) (number due names place : ℕ) → IsLast s number names place → s.names ≡ names → number ≡ due → (on : ℕ → Bool) → truth_in s (at place) on ≡ is_at due names on
+alone : (s : Store) (number due names place : ℕ) → IsLastPlace s number names place → s.names ≡ names → number ≡ due → (on : ℕ → Bool) → truth_in s (at place) on ≡ is_at due names on
 alone s number due names place last same is on =
     last.truth on ∙ (ap (λ n. last_at number n names on) same ∙ (all_last number names on ∙ ap (λ m. is_at m names on) is))
 

@@ -1,6 +1,6 @@
 use Rattle.std.proofs.Common.{◌≡◌, ◌-◌, ◌∙◌, length, slice_get, sym, ap, subst, arith}
 use Rattle.std.proofs.lemmas.Option.{slice_get-get_or}
-use Rattle.label_guards.specs.Nodes.{IsReduced}
+use Rattle.label_guards.specs.Nodes.{IsReducedDiagram}
 use Rattle.label_guards.specs.Store.{Store}
 use Rattle.label_guards.proofs.diagrams.Reduced.{stands_at}
 use Rattle.label_guards.proofs.nodes.Nodes.node_at.Goals as goal
@@ -8,7 +8,7 @@ use Rattle.label_guards.proofs.nodes.Nodes.node_at.Goals as goal
 pub returns : goal.returns
 returns c =
     let s : Store = c.args.self.now in
-    let is : IsReduced s.names s.nodes = subst (λ (t : Store). IsReduced t.names t.nodes) c.self.view_is c.self.invariant in
+    let is : IsReducedDiagram s.names s.nodes = subst (λ (t : Store). IsReducedDiagram t.names t.nodes) c.self.view_is c.self.invariant in
     let items = c.as_slice.result.now in
     let same : s.nodes ≡ items = ap (λ (t : Store). t.nodes) (sym c.self.view_is) ∙ sym c.as_slice.ensures.keys in
     let size : length s.nodes ≡ length items = ap length same in

@@ -1,4 +1,4 @@
-use Rattle.aut_core.specs.Core.{automaton_of}
+use Rattle.aut_core.specs.SymbolicAutomata.{automaton_of}
 use Rattle.plan_meaning.proofs.changes.Combinations.{product_or_made, product_or_sets, product_or_size}
 use Rattle.plan_meaning.proofs.changing.combining.product_or_with.Goals as goal
 

@@ -1,4 +1,4 @@
-use Rattle.aut_core.specs.Core.{automaton_of}
+use Rattle.aut_core.specs.SymbolicAutomata.{automaton_of}
 use Rattle.plan_meaning.proofs.changes.Determinised.{deterministic_itself}
 use Rattle.plan_meaning.proofs.changing.determinising.deterministic.Goals as goal
 

@@ -1,13 +1,13 @@
 use Rattle.std.proofs.Common.{◌∙◌, ap, subst, sym}
 use Rattle.acc_forms.specs.Terms.{terms}
 use Rattle.aut_base.specs.Automaton.{Automaton}
-use Rattle.aut_core.specs.Core.{automaton_of}
+use Rattle.aut_core.specs.SymbolicAutomata.{automaton_of}
 use Rattle.aut_core.specs.OtherNames.{AcceptTheSame}
 use Rattle.plan_meaning.proofs.changes.DisjunctiveForm.{disjunctive_accepts, disjuncts_below, same_disjuncts}
 use Rattle.plan_meaning.proofs.changing.disjunctive.with_disjuncts.Goals as goal
 
 pub with_formula-requires : goal.with_formula-requires
-with_formula-requires c = disjuncts_below c.args.a c.whole.ensures _ c.in_ok-terms.terms (c.in_ok-terms.ensures.list ∙ ap terms c.formula.ensures) c.in_ok-formula.ensures.tree
+with_formula-requires c = disjuncts_below c.args.a c.well_formed.ensures _ c.in_ok-terms.terms (c.in_ok-terms.ensures.list ∙ ap terms c.formula.ensures) c.in_ok-formula.ensures.tree
 
 pub returns-clause-shape : goal.returns-clause-shape
 returns-clause-shape c =

@@ -1,5 +1,5 @@
 use Rattle.std.proofs.Common.{[], ◌∷◌, map}
-use Rattle.aut_core.specs.Core.{automaton_of}
+use Rattle.aut_core.specs.SymbolicAutomata.{automaton_of}
 use Rattle.plan_meaning.proofs.StandingLists.{same_standing}
 use Rattle.plan_meaning.specs.Changes.{change_options}
 use Rattle.plan_meaning.specs.inner.Stepping.{change_of}

@@ -1,6 +1,6 @@
 use Rattle.std.proofs.Common.{◌≡◌, IfOk, Result, subst, sym}
 use Rattle.aut_base.specs.Automaton.{Automaton}
-use Rattle.aut_core.specs.Core.{Core, automaton_of}
+use Rattle.aut_core.specs.SymbolicAutomata.{SymbolicAutomaton, automaton_of}
 use Rattle.plan_meaning.specs.inner.Stepping.{IsOfSizeBefore, IsOfSizeBehind, change_of}
 use Rattle.plan_meaning.specs.declared.changing.list.Change as coded
 use Rattle.plan_meaning.proofs.changing.list.make.Goals as goal
@@ -9,7 +9,7 @@ use Rattle.plan_meaning.proofs.changing.list.make.Goals as goal
 before : (x y : coded.Change) → x ≡ y → (a : Automaton) → IsOfSizeBefore (change_of x) a → IsOfSizeBefore (change_of y) a
 before x y is a = subst (λ (z : coded.Change). IsOfSizeBefore (change_of z) a) is
 
-behind : {E : Type 0} (x y : coded.Change) → x ≡ y → (r : Result Core E) → IfOk r (λ made. IsOfSizeBehind (change_of y) (automaton_of made))
+behind : {E : Type 0} (x y : coded.Change) → x ≡ y → (r : Result SymbolicAutomaton E) → IfOk r (λ made. IsOfSizeBehind (change_of y) (automaton_of made))
     → IfOk r (λ made. IsOfSizeBehind (change_of x) (automaton_of made))
 behind x y is r = subst (λ (z : coded.Change). IfOk r (λ made. IsOfSizeBehind (change_of z) (automaton_of made))) (sym is)
 

@@ -1,6 +1,6 @@
 use Rattle.std.proofs.Common.{◌∙◌, ap, sym}
 use Rattle.acc_forms.specs.Atoms.{has_fin}
-use Rattle.aut_core.specs.Core.{automaton_of}
+use Rattle.aut_core.specs.SymbolicAutomata.{automaton_of}
 use Rattle.plan_meaning.proofs.changes.Shapings.{fin_itself}
 use Rattle.plan_meaning.proofs.changing.shaping.without_fin.Goals as goal
 

@@ -1,5 +1,5 @@
 use Rattle.std.proofs.Common.{◌≡◌, [], ◌∷◌, Some, map, refl}
-use Rattle.aut_core.specs.Core.{automaton_of}
+use Rattle.aut_core.specs.SymbolicAutomata.{automaton_of}
 use Rattle.plan_meaning.proofs.filters.Kept.{are_from, operand_is}
 use Rattle.plan_meaning.proofs.StandingLists.{by_flag, by_option, of_any, of_flag, of_option, same_standing}
 use Rattle.plan_meaning.specs.Filters.{AcceptsWord, Edges, EquivalentTo, IncludedIn, Intersects, Names, RejectsWord, Sets, States, filter_options}

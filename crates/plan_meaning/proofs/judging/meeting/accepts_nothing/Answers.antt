@@ -1,4 +1,4 @@
-use Rattle.aut_core.specs.Core.{automaton_of}
+use Rattle.aut_core.specs.SymbolicAutomata.{automaton_of}
 use Rattle.plan_meaning.proofs.filters.Meeting.{examines_empty}
 use Rattle.plan_meaning.proofs.judging.meeting.accepts_nothing.Goals as goal
 

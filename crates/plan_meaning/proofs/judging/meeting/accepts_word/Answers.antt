@@ -1,4 +1,4 @@
-use Rattle.aut_core.specs.Core.{automaton_of}
+use Rattle.aut_core.specs.SymbolicAutomata.{automaton_of}
 use Rattle.plan_meaning.proofs.filters.Meeting.{examines_word}
 use Rattle.word_syntax.specs.Writing.{word_pattern}
 use Rattle.plan_meaning.proofs.judging.meeting.accepts_word.Goals as goal

@@ -1,8 +1,8 @@
-use Rattle.aut_core.specs.Core.{automaton_of}
+use Rattle.aut_core.specs.SymbolicAutomata.{automaton_of}
 use Rattle.plan_meaning.proofs.filters.Squares.{examined}
 use Rattle.plan_meaning.proofs.judging.square.is_unambiguous.Goals as goal
 
 pub returns : goal.returns
 returns c =
     let r = c.in_ok-is_unambiguous in
-    examined r.field-0 (automaton_of c.args.a.now) c.whole.ensures.settled r.ensures.few r.ensures.answer
+    examined r.field-0 (automaton_of c.args.a.now) c.well_formed.ensures.settled r.ensures.few r.ensures.answer

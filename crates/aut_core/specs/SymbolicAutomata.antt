@@ -1,0 +1,50 @@
+-- An automaton whose labels are guards of a store of its own, as contracts see it.
+use Rattle.std.specs.Prelude.{◌≡◌, ◌≢◌, ℕ, ◌<◌, ◌≤◌, List, length, map, All, AllPairs}
+use Rattle.std.specs.List.Sorted.{IsNonDecreasing}
+use Rattle.aut_base.specs.Automaton.{Automaton, IsWellFormed, LabelledEdge}
+use Rattle.aut_base.specs.CanonicalLabel.{canonical}
+use Rattle.aut_base.specs.Formula.{FormulaTree, SetsBelow}
+use Rattle.aut_base.specs.declared.limit.TheConstants.{MOST_NAMES}
+use Rattle.aut_core.specs.declared.link.Link.{Link}
+use Rattle.label_guards.specs.Store.{Has, Store, label_in}
+
+pub record SymbolicAutomaton : Type 0 where
+  pub names : List (List ℕ)
+  pub starts : List ℕ
+  pub states : ℕ
+  -- the edges, with guards of the store
+  pub links : List Link
+  pub sets : ℕ
+  pub formula : FormulaTree
+  pub store : Store
+
+-- the edge that a link stands for: the same ends and marks, and the label that its guard has in the store
+abbrev pub edge_of : Store → Link → LabelledEdge
+edge_of s l = record { from = l.from; label = label_in s l.guard; to = l.to; marks = l.marks }
+
+-- the automaton as a value, whose k-th edge is that of the k-th link
+abbrev pub automaton_of : SymbolicAutomaton → Automaton
+automaton_of c = record { names = c.names; starts = c.starts; states = c.states; edges = map (edge_of c.store) c.links; sets = c.sets; formula = c.formula }
+
+-- the link has a guard of the store, and speaks of the automaton's own states and acceptance sets
+pub record IsLinkOf (c : SymbolicAutomaton) (l : Link) : Type 0 where
+  pub from : l.from < c.states
+  pub guard : Has c.store l.guard
+  pub to : l.to < c.states
+  pub marks : All (λ mark. mark < c.sets) l.marks
+
+-- Parts that make an automaton. That names differ and marks rise, their types say.
+pub record AreSymbolicParts (c : SymbolicAutomaton) : Type 0 where
+  pub few : length c.names ≤ MOST_NAMES
+  pub store_names : c.store.names ≡ length c.names
+  pub starts_differ : AllPairs (λ p q. p ≢ q) c.starts
+  pub starts : All (λ p. p < c.states) c.starts
+  pub in_order : IsNonDecreasing (map (λ l. l.from) c.links)
+  pub links : All (IsLinkOf c) c.links
+  pub formula : SetsBelow c.sets c.formula
+
+-- What holds of each automaton. Its labels are canonical.
+pub record IsWellFormedSymbolic (c : SymbolicAutomaton) : Type 0 where
+  pub parts : AreSymbolicParts c
+  pub well_formed : IsWellFormed (automaton_of c)
+  pub settled : canonical (automaton_of c) ≡ automaton_of c
