@@ -1,10 +1,10 @@
 //! `autfilt`: a filter of omega-automata whose every answer is proved.
 //!
-//! What it does is the function `autfilt` of `autfilt_command`, over the system as `autfilt_system` sees it.
+//! What it does is the function `autfilt` of `autfilt_run`, over the system.
 #![tactic(auto)]
 
 use std::process::ExitCode;
 
 fn main(rt: HostRuntime) -> ExitCode {
-    autfilt_system::run(rt)
+    autfilt_run::run(rt)
 }

@@ -4,10 +4,10 @@ use Rattle.aut_base.specs.declared.limit.Limit.TheVariants as limit
 use Rattle.aut_base.specs.declared.limit.TheConstants.{MOST_BYTES}
 use Rattle.aut_io.specs.Outside.{Gains, Texts}
 use Rattle.aut_io.specs.Seen.{Seen, SinkSeen}
-use Rattle.autfilt_command.specs.Noted.{Notes}
-use Rattle.autfilt_command.specs.Run.{EndsBecause, EndsBy}
-use Rattle.autfilt_command.specs.declared.ended.Ended.{Ended}
-use Rattle.autfilt_command.specs.declared.ended.Ended.TheVariants as ended
+use Rattle.autfilt_run.specs.Noted.{Notes}
+use Rattle.autfilt_run.specs.Run.{EndsBecause, EndsBy}
+use Rattle.autfilt_run.specs.declared.ended.Ended.{Ended}
+use Rattle.autfilt_run.specs.declared.ended.Ended.TheVariants as ended
 use Rattle.autfilt_laws.specs.Runs.{AreReadable, DecidesTexts, size_of, texts_or}
 use Rattle.autfilt_run.specs.Plans.{plan_streams}
 use Rattle.filter_plan.specs.Words.{IsPlan, operands}

@@ -6,10 +6,10 @@ use Rattle.aut_base.specs.declared.limit.Limit.{Limit}
 use Rattle.aut_base.specs.declared.limit.Limit.TheVariants as limit
 use Rattle.aut_base.specs.declared.limit.TheConstants.{MOST_BYTES}
 use Rattle.aut_io.specs.Outside.{Texts, text_of}
-use Rattle.autfilt_command.specs.Notes.{line_of}
-use Rattle.autfilt_command.specs.Run.{AreAllRead, EndsByTally, EndsInOperands, RunsTo, end_of, tally_after}
-use Rattle.autfilt_command.specs.declared.ended.End.{End}
-use Rattle.autfilt_command.specs.declared.ended.End.TheVariants as end
+use Rattle.autfilt_run.specs.Notes.{line_of}
+use Rattle.autfilt_run.specs.Run.{AreAllRead, EndsByTally, EndsInOperands, RunsTo, end_of, tally_after}
+use Rattle.autfilt_run.specs.declared.ended.End.{End}
+use Rattle.autfilt_run.specs.declared.ended.End.TheVariants as end
 use Rattle.autfilt_run.specs.Due.{IsDue}
 use Rattle.autfilt_run.specs.Events.{AreJudged, Dropped, Ended, Event, Happen, IsGood, Kept, Opened, Point, Skipped, Stream, bytes_before, start_of}
 use Rattle.made_stream.specs.Made.{made_texts}

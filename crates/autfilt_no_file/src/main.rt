@@ -4,5 +4,5 @@
 use std::process::ExitCode;
 
 fn main(rt: HostRuntime) -> ExitCode {
-    autfilt_system::run(rt)
+    autfilt_run::run(rt)
 }

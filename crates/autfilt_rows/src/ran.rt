@@ -2,7 +2,7 @@
 
 use aut_base::Words;
 use aut_io::{Inputs, MemInputs, MemSink};
-use autfilt_command::{Ended, autfilt};
+use autfilt_run::{Ended, autfilt};
 use std::alloc::Global;
 use std::fmt;
 

@@ -2,7 +2,7 @@
 
 use aut_base::{Limit, Memory, Names, Text, Words};
 use aut_io::{SureInputs, SureSink};
-use autfilt_command::{Ended, autfilt};
+use autfilt_run::{Ended, autfilt};
 use row_files::{Count, Fault};
 use std::alloc::Global;
 

@@ -1,3 +1,4 @@
 pub mod handling
 pub mod printing
+pub mod running
 pub mod turns

@@ -1,7 +1,12 @@
+pub mod Answers
+pub mod Asked
 pub mod Due
+pub mod Ends
 pub mod Events
 pub mod Faults
 pub mod Figures
+pub mod Noted
+pub mod Notes
 pub mod Openings
 pub mod OperandEvents
 pub mod Over
@@ -9,6 +14,9 @@ pub mod Plans
 pub mod Points
 pub mod Preparing
 pub mod RefutationLine
+pub mod Run
 pub mod Runs
+pub mod Status
 pub mod Turns
+pub mod Words
 pub mod inner

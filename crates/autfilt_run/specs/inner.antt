@@ -2,3 +2,4 @@
 pub mod Handling
 pub mod OperandTurns
 pub mod Taking
+pub mod Running

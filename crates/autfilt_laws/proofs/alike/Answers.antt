@@ -6,14 +6,14 @@ use Rattle.autfilt_laws.specs.Answers.{AnswerCompletes, Answered, IsByTexts, IsD
 use Rattle.aut_base.specs.Automaton.{Automaton}
 use Rattle.aut_io.specs.Outside.{Gains, Texts}
 use Rattle.aut_io.specs.Seen.{Seen, SinkSeen}
-use Rattle.autfilt_command.specs.Ends.{ended_of}
-use Rattle.autfilt_command.specs.Noted.{Notes}
-use Rattle.autfilt_command.specs.Notes.{line_of}
-use Rattle.autfilt_command.specs.Run.{AreAllRead, FailsInOperands, GoesOverAll, PrintsRun, RunsOver, RunsOverAs, RunsTo, all_noted, end_of, noted, passed_noted, tally_after}
-use Rattle.autfilt_command.specs.declared.ended.End.{End}
-use Rattle.autfilt_command.specs.declared.ended.End.TheVariants as end
-use Rattle.autfilt_command.specs.declared.ended.Ended.{Ended}
-use Rattle.autfilt_command.specs.declared.ended.Ended.TheVariants as ended
+use Rattle.autfilt_run.specs.Ends.{ended_of}
+use Rattle.autfilt_run.specs.Noted.{Notes}
+use Rattle.autfilt_run.specs.Notes.{line_of}
+use Rattle.autfilt_run.specs.Run.{AreAllRead, FailsInOperands, GoesOverAll, PrintsRun, RunsOver, RunsOverAs, RunsTo, all_noted, end_of, noted, passed_noted, tally_after}
+use Rattle.autfilt_run.specs.declared.ended.End.{End}
+use Rattle.autfilt_run.specs.declared.ended.End.TheVariants as end
+use Rattle.autfilt_run.specs.declared.ended.Ended.{Ended}
+use Rattle.autfilt_run.specs.declared.ended.Ended.TheVariants as ended
 use Rattle.autfilt_laws.specs.Runs.{AreLike, Completes, EndsBefore, IsByText, IsEnded, IsLike, RunsEndAlike, Outcome, left_or, streams_from, texts_or}
 use Rattle.autfilt_run.specs.Events.{Dropped, Event, Kept, Opened, Point, Skipped, Tally, all_written, start_of, tally}
 use Rattle.autfilt_run.specs.Events as event

@@ -3,10 +3,10 @@ use Rattle.std.proofs.Common.{◌≡◌, ◌⊎◌, ℕ, true, List, [], Option,
 use Rattle.aut_base.specs.Automaton.{Automaton}
 use Rattle.aut_base.specs.declared.limit.Limit.{Limit}
 use Rattle.aut_base.specs.declared.limit.Limit.TheVariants as limit
-use Rattle.autfilt_command.specs.Notes.{line_of, line_of_fault}
-use Rattle.autfilt_command.specs.Run.{EndsAt}
-use Rattle.autfilt_command.specs.declared.ended.End.{End}
-use Rattle.autfilt_command.specs.declared.ended.End.TheVariants as end
+use Rattle.autfilt_run.specs.Notes.{line_of, line_of_fault}
+use Rattle.autfilt_run.specs.Run.{EndsAt}
+use Rattle.autfilt_run.specs.declared.ended.End.{End}
+use Rattle.autfilt_run.specs.declared.ended.End.TheVariants as end
 use Rattle.autfilt_laws.proofs.alike.BadPlaces.{one_bad_place}
 use Rattle.autfilt_laws.proofs.alike.Full.{IsFitted, full_same}
 use Rattle.autfilt_laws.proofs.alike.Looks.{one_stream, whole_is}

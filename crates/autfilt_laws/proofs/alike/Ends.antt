@@ -3,9 +3,9 @@ use Rattle.std.proofs.Common.{◌≡◌, ℕ, ◌+◌, true, List, [], ◌∷◌
 use Rattle.std.proofs.lemmas.Bool.{false≢true}
 use Rattle.aut_base.specs.Automaton.{Automaton}
 use Rattle.aut_io.specs.Outside.{Texts}
-use Rattle.autfilt_command.specs.Run.{EndsAt, EndsByTally, end_of, tally_after}
-use Rattle.autfilt_command.specs.declared.ended.End.{End}
-use Rattle.autfilt_command.specs.declared.ended.End.TheVariants as end
+use Rattle.autfilt_run.specs.Run.{EndsAt, EndsByTally, end_of, tally_after}
+use Rattle.autfilt_run.specs.declared.ended.End.{End}
+use Rattle.autfilt_run.specs.declared.ended.End.TheVariants as end
 use Rattle.autfilt_laws.proofs.alike.EndPlaces.{at_named}
 use Rattle.autfilt_laws.proofs.alike.Faults.{Asking, Halted, IsOneAsking, Stopped, asks_there, both_stopped, halted_look, open_there, stopped, unfit_whole}
 use Rattle.autfilt_laws.proofs.alike.Full.{IsFitted, fitted_goes, full_goes}

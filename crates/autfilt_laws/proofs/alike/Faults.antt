@@ -3,7 +3,7 @@
 use Rattle.std.proofs.Common.{◌≡◌, ◌⊎◌, ℕ, List, Option, Some, None, refl, sym, ap, ◌∙◌, subst, inl, inr}
 use Rattle.aut_base.specs.declared.limit.Limit.{Limit}
 use Rattle.aut_base.specs.declared.limit.Limit.TheVariants as limit
-use Rattle.autfilt_command.specs.declared.ended.End.TheVariants as end
+use Rattle.autfilt_run.specs.declared.ended.End.TheVariants as end
 use Rattle.autfilt_laws.proofs.alike.Full.{IsFitted, IsFull, full_apart, full_apart_there, one_full}
 use Rattle.autfilt_laws.proofs.alike.Limits.{no_count, one_limit}
 use Rattle.autfilt_laws.proofs.alike.Looks.{Look, one_standing_in}

@@ -4,7 +4,7 @@ use Rattle.aut_base.specs.declared.limit.Limit.{Limit}
 use Rattle.aut_base.specs.declared.limit.Limit.TheVariants as limit
 use Rattle.aut_base.specs.declared.limit.TheConstants.{MOST_BYTES}
 use Rattle.aut_io.specs.Outside.{Texts, text_of}
-use Rattle.autfilt_command.specs.declared.ended.End.TheVariants as end
+use Rattle.autfilt_run.specs.declared.ended.End.TheVariants as end
 use Rattle.autfilt_laws.proofs.alike.Asking.{deep_fewer, none_asks_behind, none_asks_behind_abort, none_asks_behind_deep, split_longer}
 use Rattle.autfilt_laws.proofs.alike.BadPlaces.{asked_leaves, no_earlier}
 use Rattle.autfilt_laws.proofs.alike.Looks.{one_stream}

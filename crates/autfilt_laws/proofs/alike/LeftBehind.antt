@@ -1,7 +1,7 @@
 -- What a run leaves in the inputs: what it leaves of its streams, or, where these are generated, what its operands left.
 use Rattle.std.proofs.Common.{◌≡◌, ◌∙◌, ◌⊎◌, ℕ, List, Option, Some, None, ap, inl, inr, subst, sym}
 use Rattle.aut_io.specs.Outside.{Texts}
-use Rattle.autfilt_command.specs.Run.{AreAllRead}
+use Rattle.autfilt_run.specs.Run.{AreAllRead}
 use Rattle.autfilt_laws.proofs.alike.Full.{fitted_read, fitted_start}
 use Rattle.autfilt_laws.proofs.alike.OperandEnds.{IsThrough, not_through, same_operands, stopped_there}
 use Rattle.autfilt_laws.specs.Runs.{EndsBefore, IsByText, Outcome}

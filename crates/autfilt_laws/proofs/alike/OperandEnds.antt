@@ -1,7 +1,7 @@
 -- What stands in the files of operands decides where a run ends in them.
 use Rattle.std.proofs.Common.{◌≡◌, ◌⊎◌, ℕ, List, [], ◌∷◌, Option, Some, None, refl, sym, ◌∙◌, subst, inl, inr}
 use Rattle.aut_io.specs.Outside.{Texts}
-use Rattle.autfilt_command.specs.declared.ended.End.TheVariants as end
+use Rattle.autfilt_run.specs.declared.ended.End.TheVariants as end
 use Rattle.autfilt_laws.proofs.alike.EndPlaces.{at_named}
 use Rattle.autfilt_laws.proofs.alike.Faults.{Halted, Stopped, both_stopped, halted_look, in_operands, one_in_operands, open_there, stopped_in_operand, unfit_whole}
 use Rattle.autfilt_laws.proofs.alike.Full.{IsFitted, fitted_proceeds, full_proceeds}

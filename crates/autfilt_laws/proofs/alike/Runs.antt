@@ -1,10 +1,10 @@
 -- What stands in the texts decides all of a run.
 use Rattle.std.proofs.Common.{◌≡◌, ◌⊎◌, ℕ, List, Option, sym, ap, ◌∙◌, subst, inl, inr, length}
 use Rattle.aut_io.specs.Outside.{Texts}
-use Rattle.autfilt_command.specs.Notes.{line_of}
-use Rattle.autfilt_command.specs.Run.{AreAllRead, EndsAt, EndsByTally}
-use Rattle.autfilt_command.specs.declared.ended.End.{End}
-use Rattle.autfilt_command.specs.declared.ended.End.TheVariants as end
+use Rattle.autfilt_run.specs.Notes.{line_of}
+use Rattle.autfilt_run.specs.Run.{AreAllRead, EndsAt, EndsByTally}
+use Rattle.autfilt_run.specs.declared.ended.End.{End}
+use Rattle.autfilt_run.specs.declared.ended.End.TheVariants as end
 use Rattle.autfilt_laws.proofs.alike.EndPlaces.{IsOnePlace, one_line_about, one_place_before, one_place_in_streams}
 use Rattle.autfilt_laws.proofs.alike.Ends.{Ends, alike, ends_at, ends_like, same_events}
 use Rattle.autfilt_laws.proofs.alike.Full.{IsFitted, fitted_happen, fitted_read, fitted_start}

@@ -6,9 +6,9 @@ use Rattle.aut_base.specs.CanonicalLabel.{canonical}
 use Rattle.aut_base.specs.Automaton.{Automaton}
 use Rattle.aut_base.specs.declared.limit.Limit.{Limit}
 use Rattle.aut_io.specs.Outside.{Texts}
-use Rattle.autfilt_command.specs.Run.{AreAllRead, EndsAt, RunsTo}
-use Rattle.autfilt_command.specs.declared.ended.End.{End}
-use Rattle.autfilt_command.specs.declared.ended.End.TheVariants as end
+use Rattle.autfilt_run.specs.Run.{AreAllRead, EndsAt, RunsTo}
+use Rattle.autfilt_run.specs.declared.ended.End.{End}
+use Rattle.autfilt_run.specs.declared.ended.End.TheVariants as end
 use Rattle.autfilt_laws.proofs.alike.LeftBehind.{IsLeftBehind}
 use Rattle.autfilt_laws.specs.Runs.{EndsBefore, EndsInStreams, IsEnded, Outcome, streams_from, texts_or}
 use Rattle.autfilt_run.specs.Due.{IsDueWhere, IsResult, IsPrinted}

@@ -2,7 +2,7 @@
 use Rattle.std.proofs.Common.{◌≡◌, ◌∙◌, ℕ, ◌+◌, List, [], ◌∷◌, length, Option, Some, None, ap, arith, sym}
 use Rattle.std.specs.List.{AllByRecursion}
 use Rattle.aut_io.specs.Outside.{Texts}
-use Rattle.autfilt_command.specs.Run.{AreAllRead}
+use Rattle.autfilt_run.specs.Run.{AreAllRead}
 use Rattle.autfilt_laws.specs.Runs.{AreGoodOperands, IsGoodOperand}
 use Rattle.autfilt_run.specs.Events.{Point, Stream, start_of}
 use Rattle.autfilt_run.specs.OperandEvents.{AreRead, FileOpened, OperandEvent, PassedOver, Taken, operands_read}

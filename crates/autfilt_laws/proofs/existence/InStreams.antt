@@ -6,7 +6,7 @@ use Rattle.aut_base.specs.declared.limit.Limit.{Limit}
 use Rattle.aut_base.specs.declared.limit.Limit.TheVariants as limit
 use Rattle.aut_base.specs.declared.limit.TheConstants.{MOST_BYTES}
 use Rattle.aut_io.specs.Outside.{Texts, text_of}
-use Rattle.autfilt_command.specs.declared.ended.End.TheVariants as end
+use Rattle.autfilt_run.specs.declared.ended.End.TheVariants as end
 use Rattle.autfilt_laws.proofs.existence.Found.{AreShown, Found, OneAborted, OneGood, OneRefused, OnlyBlanks, something_found}
 use Rattle.autfilt_laws.proofs.existence.InOperands.{NotNone}
 use Rattle.autfilt_laws.proofs.existence.Shorter.{aborted_less, whole_less}

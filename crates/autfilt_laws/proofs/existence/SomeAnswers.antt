@@ -3,11 +3,11 @@ use Rattle.std.proofs.Common.{◌≡◌, ◌≢◌, ◌∙◌, ◌⊎◌, ◌+�
 use Rattle.aut_base.specs.Automaton.{Automaton}
 use Rattle.aut_io.specs.Outside.{Gains, Texts, raised_by}
 use Rattle.aut_io.specs.Seen.{Seen, SinkSeen}
-use Rattle.autfilt_command.specs.Ends.{ended_of}
-use Rattle.autfilt_command.specs.Notes.{line_of}
-use Rattle.autfilt_command.specs.Run.{AreAllRead, EndsBecause, EndsInOperands, EndsOpened, PrintsRun, Runs, RunsOver, RunsOverAs, RunsTo, all_noted, passed_noted}
-use Rattle.autfilt_command.specs.declared.ended.End.{End}
-use Rattle.autfilt_command.specs.declared.ended.End.TheVariants as end
+use Rattle.autfilt_run.specs.Ends.{ended_of}
+use Rattle.autfilt_run.specs.Notes.{line_of}
+use Rattle.autfilt_run.specs.Run.{AreAllRead, EndsBecause, EndsInOperands, EndsOpened, PrintsRun, Runs, RunsOver, RunsOverAs, RunsTo, all_noted, passed_noted}
+use Rattle.autfilt_run.specs.declared.ended.End.{End}
+use Rattle.autfilt_run.specs.declared.ended.End.TheVariants as end
 use Rattle.autfilt_laws.proofs.alike.Answers.{text_due}
 use Rattle.autfilt_laws.proofs.existence.GoodOperands.{good_operands}
 use Rattle.autfilt_laws.proofs.existence.Openings.{all_of, files_opened, front_of, streams_opened}

@@ -1,9 +1,0 @@
-mod Carried
-mod Ending
-mod MadePlans
-mod Noting
-mod OpenedNames
-mod Prepared
-mod Running
-mod Stepped
-mod Stepping

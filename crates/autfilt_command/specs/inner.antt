@@ -1,2 +1,0 @@
--- Definitions that only inner functions speak in.
-pub mod Running

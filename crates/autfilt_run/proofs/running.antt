@@ -1,0 +1,11 @@
+-- The run of the command: what was prepared, the steps that are taken, the end, and the lines about it.
+pub mod Arguments
+pub mod Carried
+pub mod Ending
+pub mod MadePlans
+pub mod Noting
+pub mod OpenedNames
+pub mod Prepared
+pub mod Running
+pub mod Stepped
+pub mod Stepping

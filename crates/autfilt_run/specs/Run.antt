@@ -1,0 +1,209 @@
+-- The run of autfilt: what was read of the streams and written, and what ended it.
+use Rattle.std.specs.Prelude.{◌≡◌, ◌≢◌, ℕ, ◌==◌, ◌⊎◌, if◌then◌else◌, List, [], ◌∷◌, ◌++◌, length, flat_map, take, true, false, Option, Some, None}
+use Rattle.aut_base.specs.Automaton.{Automaton}
+use Rattle.aut_io.specs.Outside.{Gains, Rose, Texts}
+use Rattle.aut_io.specs.Seen.{Seen, SinkSeen}
+use Rattle.autfilt_run.specs.Asked.{AreRefused}
+use Rattle.autfilt_run.specs.Ends.{ended_of}
+use Rattle.autfilt_run.specs.Noted.{Notes}
+use Rattle.autfilt_run.specs.Notes.{aborted_line, line_of}
+use Rattle.autfilt_run.specs.declared.ended.End.{End}
+use Rattle.autfilt_run.specs.declared.ended.End.TheVariants as end
+use Rattle.autfilt_run.specs.declared.ended.Ended.{Ended}
+use Rattle.autfilt_run.specs.declared.ended.Ended.TheVariants as ended
+use Rattle.autfilt_run.specs.Events.{AreJudged, Event, Happen, Kept, Point, Skipped, Tally, all_written, open_after, opened_streams, start_of, tally, tally_from}
+use Rattle.made_stream.specs.Made.{seen_of_made}
+use Rattle.autfilt_run.specs.Openings.{AreOpened, AreTried, WantsFile}
+use Rattle.autfilt_run.specs.OperandEvents.{AreRead, OperandEvent, all_passed, file_open_after, opened_files, operands_read}
+use Rattle.autfilt_run.specs.Plans.{count_text, prints_count, prints_each, plan_streams}
+use Rattle.autfilt_run.specs.Runs.{IsCounted, IsDone, StopsRun, StopsInOperands}
+use Rattle.autfilt_run.specs.declared.fault.RunFault.{RunFault}
+use Rattle.autfilt_run.specs.declared.fault.RunFault.TheVariants as run
+use Rattle.filter_plan.specs.Words.{IsPlan, operands}
+use Rattle.filter_plan.specs.declared.plan.Plan.{Plan}
+use Rattle.hoa_parser.specs.Raw.{Written}
+
+-- ---- what is noted
+
+-- of an event: a line about an automaton that is skipped
+abbrev pub noted : Event → List ℕ
+noted (Skipped name) = aborted_line name
+noted _ = []
+
+abbrev pub all_noted : List Event → List ℕ
+all_noted = flat_map noted
+
+-- of the operands: a line about each that is passed over
+abbrev pub passed_noted : List (List ℕ) → List ℕ
+passed_noted = flat_map aborted_line
+
+-- ---- how a run ends
+
+-- how a run ends that read all
+abbrev pub end_of : Tally → End
+end_of t = if t.skipped == 0 then (if t.kept == 0 then end.NoneOutput else end.Output) else end.Aborts
+
+-- the tally of a run before whose streams so many automata were passed over
+abbrev pub tally_after : ℕ → List Event → Tally
+tally_after passed events = tally_from (record { kept = 0; skipped = passed }) events
+
+-- Where all was read, how many automata were kept and skipped tell the end.
+abbrev pub EndsByTally : End → ℕ → List Event → Type 0
+EndsByTally (end.Fault f) passed events = Unit {0}
+EndsByTally end.Usage passed events = ⊥
+EndsByTally e passed events = e ≡ end_of (tally_after passed events)
+
+-- Where the run stands at its end, and what is left in the inputs. `name` is the name in hand.
+abbrev pub EndsAt : Plan → List Automaton → End → List ℕ → Point → Option (List ℕ) → Type 0
+EndsAt plan ops (end.Fault f) name p left = StopsRun plan ops f name p left × IsCounted f p left
+EndsAt plan ops end.Usage name p left = ⊥
+EndsAt plan ops e name p left = IsDone plan p × (left ≡ p.left)
+
+-- a stream of the plan is to be opened after these events
+abbrev pub WantsStreamFile : Plan → List Event → Type 0
+WantsStreamFile plan events = WantsFile (open_after false events) (length (opened_streams events)) (length (plan_streams plan))
+
+-- the file of an operand of the plan is to be opened after these events
+abbrev pub WantsOperandFile : Plan → List OperandEvent → Type 0
+WantsOperandFile plan taken = WantsFile (file_open_after false taken) (length (opened_files taken)) (length (operands plan))
+
+-- Each of so many streams was opened once, and maybe one more was tried, where one was to be opened and that ended the run.
+abbrev pub EndsOpened : End → Type 0 → ℕ → Seen → Seen → Type 0
+EndsOpened (end.Fault f) wanting count seen seen' = AreTried f wanting count seen seen'
+EndsOpened end.Usage wanting count seen seen' = ⊥
+EndsOpened end.Output wanting count seen seen' = AreOpened count seen seen'
+EndsOpened end.NoneOutput wanting count seen seen' = AreOpened count seen seen'
+EndsOpened end.Aborts wanting count seen seen' = AreOpened count seen seen'
+
+-- The events happened over these texts, from this point on, and the run ended so.
+pub record RunsTo (plan : Plan) (ops : List Automaton) (texts : Texts) (first : Point) (left' : Option (List ℕ)) (events : List Event) (e : End) (name : List ℕ) : Type 0 where
+  pub point : Point
+  pub happen : Happen plan texts events first point
+  pub ends : EndsAt plan ops e name point left'
+  -- where the number could not be written, all was read
+  pub numbered : e ≡ end.Fault run.WriteFault → prints_count plan ≡ true → IsDone plan point
+
+-- ---- the operands
+
+-- The operands of the plan were read over these texts, and the run stands here.
+pub record AreAllRead (plan : Plan) (texts : Texts) (left : Option (List ℕ)) (taken : List OperandEvent) (p : Point) : Type 0 where
+  pub read : AreRead texts taken (start_of (operands plan) left 0) p
+  pub none_coming : p.coming ≡ []
+  pub none_open : p.stream ≡ None
+
+-- A fault ended the run while operands were read.
+pub record EndsInOperands (plan : Plan) (texts : Texts) (left left' : Option (List ℕ)) (taken : List OperandEvent) (f : RunFault) (name : List ℕ) : Type 0 where
+  pub point : Point
+  pub read : AreRead texts taken (start_of (operands plan) left 0) point
+  pub stops : StopsInOperands f name point left'
+  pub counted : IsCounted f point left'
+
+-- ---- what is written
+
+-- Of each automaton a text is printed, and a part of that of the last one was written after those of the others.
+pub record BreaksOff (plan : Plan) (events : List Event) (written written' : Option (List ℕ)) : Type 0 where
+  pub prints : prints_each plan ≡ true
+  pub earlier : List Event
+  pub automaton : Written
+  pub text : List ℕ
+  pub all : events ≡ earlier ++ Kept automaton text ∷ []
+  pub part : ℕ
+  pub gains : Gains written written' (all_written earlier ++ take part text)
+
+-- The number is printed, and a part of it was written.
+pub record BreaksOffCount (plan : Plan) (events : List Event) (written written' : Option (List ℕ)) : Type 0 where
+  pub prints : prints_count plan ≡ true
+  pub part : ℕ
+  pub gains : Gains written written' (all_written events ++ take part (count_text plan (tally events).kept))
+
+-- what was written of the events that happened where the run ended so
+abbrev pub PrintsRun : Plan → End → List Event → Option (List ℕ) → Option (List ℕ) → Type 0
+PrintsRun plan (end.Fault run.WriteFault) events written written' = BreaksOff plan events written written' ⊎ BreaksOffCount plan events written written'
+PrintsRun plan (end.Fault f) events written written' = Gains written written' (all_written events)
+PrintsRun plan e events written written' = Gains written written' (all_written events ++ count_text plan (tally events).kept)
+
+-- The streams of a plan were read, whose operands these are, and the run ended so. So many bytes were taken before.
+pub record Runs (plan : Plan) (ops : List Automaton) (passed before : ℕ) (e : End) (events : List Event) (name : List ℕ) (seen seen' : Seen) (out out' : SinkSeen) : Type 0 where
+  -- each automaton was kept or dropped by its verdict, and the text that is written is the one that is due
+  pub judged : AreJudged plan ops events
+  -- the events happened, and what stands behind them ended the run, where the inputs tell their texts
+  pub happened : (texts : Texts) → seen.texts ≡ Some texts → RunsTo plan ops texts (start_of (plan_streams plan) seen.left before) seen'.left events e name
+  pub tallied : EndsByTally e passed events
+  -- each stream that was opened is the next of the plan, and was opened once, also where the inputs don't tell their texts
+  pub named : (k : ℕ) × (opened_streams events ≡ take k (plan_streams plan))
+  pub openings : EndsOpened e (WantsStreamFile plan events) (length (opened_streams events)) seen seen'
+  pub prints : PrintsRun plan e events out.written out'.written
+
+-- The run over the generated stream, which leaves the inputs as they were.
+pub record RunsOverMade (n : ℕ) (plan : Plan) (ops : List Automaton) (passed before : ℕ) (e : End) (events : List Event) (name : List ℕ) (seen seen' : Seen) (out out' : SinkSeen) : Type 0 where
+  pub untouched : seen' ≡ seen
+  pub made : Seen
+  pub runs : Runs plan ops passed before e events name (seen_of_made (record { count = n; left = []; openings = 0 })) made out out'
+
+-- the run over the streams of the inputs, or over the generated one
+abbrev pub RunsOverAs : Option ℕ → Plan → List Automaton → ℕ → ℕ → End → List Event → List ℕ → Seen → Seen → SinkSeen → SinkSeen → Type 0
+RunsOverAs None plan ops passed before e events name seen seen' out out' = Runs plan ops passed before e events name seen seen' out out'
+RunsOverAs (Some n) plan ops passed before e events name seen seen' out out' = RunsOverMade n plan ops passed before e events name seen seen' out out'
+
+-- All operands of the plan were read, of the inputs as they were before, and then its streams.
+pub record GoesOverAll (plan : Plan) (e : End) (taken : List OperandEvent) (events : List Event) (name : List ℕ) (seen seen' : Seen) (out out' : SinkSeen) : Type 0 where
+  -- the inputs between
+  pub mid : Seen
+  pub before : ℕ
+  pub number : length (operands_read taken) ≡ length (operands plan)
+  pub prepared : (texts : Texts) → seen.texts ≡ Some texts → (p : Point) × AreAllRead plan texts seen.left taken p × (p.left ≡ mid.left) × (p.before ≡ before)
+  pub texts : mid.texts ≡ seen.texts
+  -- the file of each operand was opened, once
+  pub named : opened_files taken ≡ operands plan
+  pub openings : AreOpened (length (opened_files taken)) seen mid
+  pub runs : RunsOverAs plan.made plan (operands_read taken) (length (all_passed taken)) before e events name mid seen' out out'
+
+-- A fault ended the run while operands were read. Nothing was written.
+pub record FailsInOperands (plan : Plan) (e : End) (taken : List OperandEvent) (events : List Event) (name : List ℕ) (seen seen' : Seen) (out out' : SinkSeen) : Type 0 where
+  pub fault : RunFault
+  pub ends : e ≡ end.Fault fault
+  pub no_write : fault ≢ run.WriteFault
+  pub happened : (texts : Texts) → seen.texts ≡ Some texts → EndsInOperands plan texts seen.left seen'.left taken fault name
+  pub named : (k : ℕ) × (opened_files taken ≡ take k (operands plan))
+  pub openings : AreTried fault (WantsOperandFile plan taken) (length (opened_files taken)) seen seen'
+  pub none : events ≡ []
+  pub output : out' ≡ out
+
+-- A run of a plan.
+abbrev pub RunsOver : Plan → End → List OperandEvent → List Event → List ℕ → Seen → Seen → SinkSeen → SinkSeen → Type 0
+RunsOver plan e taken events name seen seen' out out' =
+    FailsInOperands plan e taken events name seen seen' out out' ⊎ GoesOverAll plan e taken events name seen seen' out out'
+
+-- ---- the answer
+
+-- How a run came to its answer: the end with all that the line about it tells, and the lines that are noted.
+pub record EndsBy (words : List (List ℕ)) (result : Ended) (seen seen' : Seen) (out out' notes notes' : SinkSeen) : Type 0 where
+  pub end : End
+  pub shown : result ≡ ended_of end
+  pub taken : List OperandEvent
+  pub events : List Event
+  pub name : List ℕ
+  pub refused : AreRefused words → (taken ≡ []) × (events ≡ [])
+  pub runs : (plan : Plan) → IsPlan words plan → (p : Plan) × IsPlan words p × RunsOver p end taken events name seen seen' out out'
+  pub noted : Notes (passed_noted (all_passed taken) ++ (all_noted events ++ line_of end name)) notes notes'
+
+-- the counts of the outside stand
+pub record AreCalm (seen seen' : Seen) (out out' : SinkSeen) : Type 0 where
+  pub opens : seen'.open_faults ≡ seen.open_faults
+  pub reads : seen'.read_faults ≡ seen.read_faults
+  pub writes : out'.faults ≡ out.faults
+
+-- Why a run ended so. A fault of the outside is answered only where its count rose, and any other answer, want of memory
+-- among them, only where no call failed.
+abbrev pub EndsBecause : Ended → Seen → Seen → SinkSeen → SinkSeen → Type 0
+EndsBecause ended.CannotOpen seen seen' out out' = Rose seen.open_faults seen'.open_faults × (seen'.read_faults ≡ seen.read_faults) × (out'.faults ≡ out.faults)
+EndsBecause ended.ReadFault seen seen' out out' = (seen'.open_faults ≡ seen.open_faults) × Rose seen.read_faults seen'.read_faults × (out'.faults ≡ out.faults)
+EndsBecause ended.WriteFault seen seen' out out' = (seen'.open_faults ≡ seen.open_faults) × (seen'.read_faults ≡ seen.read_faults) × Rose out.faults out'.faults
+EndsBecause ended.Output seen seen' out out' = AreCalm seen seen' out out'
+EndsBecause ended.NoneOutput seen seen' out out' = AreCalm seen seen' out out'
+EndsBecause ended.Aborts seen seen' out out' = AreCalm seen seen' out out'
+EndsBecause ended.Usage seen seen' out out' = AreCalm seen seen' out out'
+EndsBecause ended.Syntax seen seen' out out' = AreCalm seen seen' out out'
+EndsBecause ended.Invalid seen seen' out out' = AreCalm seen seen' out out'
+EndsBecause (ended.Limit which) seen seen' out out' = AreCalm seen seen' out out'
+EndsBecause ended.Memory seen seen' out out' = AreCalm seen seen' out out'
