@@ -1,5 +1,6 @@
 pub mod Acceptance
 pub mod Automaton
+pub mod Bytes
 pub mod CanonicalLabel
 pub mod Examples
 pub mod FewNumbers
@@ -11,6 +12,7 @@ pub mod LabelText
 pub mod Limits
 pub mod Marks
 pub mod Runs
+pub mod Strings
 pub mod Text
 pub mod Valuation
 pub mod Word

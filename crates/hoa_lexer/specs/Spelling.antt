@@ -1,6 +1,7 @@
 -- How each token is spelled (HOA v1, Grammar), and where it ends.
 use Rattle.std.specs.Prelude.{◌≡◌, ◌≢◌, ℕ, zero, suc, ◌+◌, ◌-◌, ◌*◌, ◌^◌, ◌<◌, ◌==◌, Bool, true, false, List, [], ◌∷◌, ◌++◌, codes, fold}
 use Rattle.std.specs.List.{list_all}
+pub use Rattle.aut_base.specs.Strings.{Quotes, escaped, nothing, plain}
 use Rattle.hoa_lexer.specs.Bytes.{is_digit, is_letter, is_word}
 use Rattle.hoa_lexer.specs.declared.token.Token.{Token}
 use Rattle.hoa_lexer.specs.declared.token.Token.TheVariants.{HeaderName, Identifier, Str, Int, Alias, Bang, Amp, Bar, LeftParen, RightParen}
@@ -25,13 +26,6 @@ abbrev pub IsNumeral : List ℕ → Type 0
 IsNumeral [] = ⊥
 IsNumeral (b ∷ []) = is_digit b ≡ true
 IsNumeral (b ∷ c ∷ bs) = (is_digit b ≡ true) × (b ≢ 48) × (list_all is_digit (c ∷ bs) ≡ true)
-
--- What stands between the quotes of a string, and the bytes that it means: `\` and a byte mean that byte, and any
--- other byte but `"` means itself.
-pub data Quotes : List ℕ → List ℕ → Type 0 where
-  nothing : Quotes [] []
-  escaped : {b : ℕ} {inner text : List ℕ} → Quotes inner text → Quotes (92 ∷ b ∷ inner) (b ∷ text)
-  plain : {b : ℕ} {inner text : List ℕ} → b ≢ 34 → b ≢ 92 → Quotes inner text → Quotes (b ∷ inner) (b ∷ text)
 
 -- the bytes that spell a token
 abbrev pub Spells : Token → List ℕ → Type 0

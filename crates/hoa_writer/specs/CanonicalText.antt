@@ -1,21 +1,15 @@
 -- The canonical text of an automaton, line by line (HOA v1, with explicit labels and marks on edges).
-use Rattle.std.specs.Prelude.{ℕ, Bool, true, false, ◌==◌, ◌||◌, if◌then◌else◌, List, [], ◌∷◌, ◌++◌, length, map, filter, flat_map, codes, Option, Some, None}
+use Rattle.std.specs.Prelude.{ℕ, Bool, true, false, ◌==◌, if◌then◌else◌, List, [], ◌∷◌, ◌++◌, length, map, filter, flat_map, codes, Option, Some, None}
 use Rattle.std.specs.Fmt.{decimal}
 use Rattle.std.specs.List.{range_with_len}
 use Rattle.aut_base.specs.Automaton.{LabelledEdge, Automaton}
 use Rattle.aut_base.specs.Formula.{FormulaTree, FormulaTrees, True, False, Inf, Fin, And, Or, none, more}
 use Rattle.aut_base.specs.LabelText.{joined, label_text}
+pub use Rattle.aut_base.specs.Strings.{escaped_byte, quoted}
 
 -- the bytes and a line feed
 abbrev pub line : List ℕ → List ℕ
 line bytes = bytes ++ 10 ∷ []
-
--- `"` and `\` are preceded by `\`
-abbrev pub escaped : ℕ → List ℕ
-escaped b = if (b == 34) || (b == 92) then 92 ∷ b ∷ [] else b ∷ []
-
-abbrev pub quoted : List ℕ → List ℕ
-quoted text = codes "\"" ++ (flat_map escaped text ++ codes "\"")
 
 -- the number of an acceptance set, with `!` before it where it is negated
 abbrev pub set_text : ℕ → Bool → List ℕ

@@ -3,6 +3,7 @@ use Rattle.std.specs.Prelude.{ℕ, ◌==◌, ◌&&◌, ◌||◌, Bool, false, no
 use Rattle.std.specs.FinSet.{contains}
 use Rattle.std.specs.List.{list_all}
 use Rattle.aut_base.specs.LabelText.{joined}
+pub use Rattle.aut_base.specs.Strings.{escaped_byte, quoted}
 use Rattle.aut_base.specs.Text.{same_text}
 use Rattle.aut_base.specs.Word.{NameSet}
 use Rattle.word_syntax.specs.Tokens.{is_alphanumeric}
@@ -23,12 +24,8 @@ is_keyword name = same_text name (codes "true") || (same_text name (codes "false
 abbrev pub is_plain : List ℕ → Bool
 is_plain name = begins_small name && (list_all is_alphanumeric name && not (is_keyword name))
 
--- `\` stands before a quote and before `\`
-abbrev pub escaped_byte : ℕ → List ℕ
-escaped_byte b = if (b == 34) || (b == 92) then 92 ∷ b ∷ [] else b ∷ []
-
 abbrev pub name_text : List ℕ → List ℕ
-name_text name = if is_plain name then name else codes "\"" ++ (flat_map escaped_byte name ++ codes "\"")
+name_text name = if is_plain name then name else quoted name
 
 -- a name with `!` before it where it isn't in the letter
 abbrev pub name_literal_text : NameSet → List ℕ → List ℕ

@@ -1,32 +1,19 @@
 -- The tokens of a word: how each is spelled, and where it ends. Each is the longest that the bytes allow.
-use Rattle.std.specs.Prelude.{◌≡◌, ◌≢◌, ℕ, ◌==◌, ◌&&◌, ◌||◌, ◌⊎◌, Bool, true, false, List, [], ◌∷◌, ◌++◌, codes, nat_le}
+use Rattle.std.specs.Prelude.{◌≡◌, ◌≢◌, ℕ, ◌==◌, ◌&&◌, ◌||◌, ◌⊎◌, Bool, true, false, List, [], ◌∷◌, ◌++◌, codes}
 use Rattle.std.specs.List.{list_all}
+pub use Rattle.aut_base.specs.Bytes.{is_digit, is_letter, is_space}
+pub use Rattle.aut_base.specs.Strings.{Quotes, escaped, nothing, plain}
 use Rattle.word_syntax.specs.declared.token.Token.{Token}
 use Rattle.word_syntax.specs.declared.token.Token.TheVariants.{True, False, Name, Not, And, Or, LeftParen, RightParen, Semicolon, Cycle, LeftBrace, RightBrace}
 
--- space, tab, line feed or carriage return
-abbrev pub is_blank : ℕ → Bool
-is_blank b = (b == 32) || ((b == 9) || ((b == 10) || (b == 13)))
-
--- `A` to `Z`, `a` to `z` or `_`
-abbrev pub is_letter : ℕ → Bool
-is_letter b = (nat_le 65 b && nat_le b 90) || ((nat_le 97 b && nat_le b 122) || (b == 95))
-
 -- a letter or a digit
 abbrev pub is_alphanumeric : ℕ → Bool
-is_alphanumeric b = is_letter b || (nat_le 48 b && nat_le b 57)
+is_alphanumeric b = is_letter b || is_digit b
 
 -- a letter, and then letters and digits
 abbrev pub IsBare : List ℕ → Type 0
 IsBare [] = ⊥
 IsBare (b ∷ bs) = (is_letter b ≡ true) × (list_all is_alphanumeric bs ≡ true)
-
--- What stands between the quotes of a string, and the bytes that it means: `\` and a byte mean that byte, and any
--- other byte but `"` means itself.
-pub data Quotes : List ℕ → List ℕ → Type 0 where
-  nothing : Quotes [] []
-  escaped : {b : ℕ} {inner text : List ℕ} → Quotes inner text → Quotes (92 ∷ b ∷ inner) (b ∷ text)
-  plain : {b : ℕ} {inner text : List ℕ} → b ≢ 34 → b ≢ 92 → Quotes inner text → Quotes (b ∷ inner) (b ∷ text)
 
 -- a name without quotes: no word of the notation
 pub record IsBareName (name : List ℕ) : Type 0 where
@@ -78,7 +65,7 @@ pub record IsWordFront (bytes : List ℕ) (token : Token) (rest : List ℕ) : Ty
 pub record FollowsBlanks (input bytes : List ℕ) : Type 0 where
   pub before : List ℕ
   pub split : input ≡ before ++ bytes
-  pub blank : list_all is_blank before ≡ true
+  pub blank : list_all is_space before ≡ true
 
 -- These tokens stand at the front of the text, with blanks before and between them, and `rest` follows.
 abbrev pub LexesWord : List ℕ → List Token → List ℕ → Type 0

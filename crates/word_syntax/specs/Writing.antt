@@ -3,7 +3,7 @@ use Rattle.std.specs.Prelude.{◌≡◌, ℕ, ◌+◌, ◌^◌, ◌<◌, ◌≤�
 use Rattle.std.specs.List.{list_all}
 use Rattle.aut_base.specs.Label.{label_tree}
 use Rattle.word_syntax.specs.Grammar.{IsPrefixOfWord, IsWord, WordPattern}
-use Rattle.word_syntax.specs.Tokens.{FollowsBlanks, IsWordFront, LexesWord, is_blank}
+use Rattle.word_syntax.specs.Tokens.{FollowsBlanks, IsWordFront, LexesWord, is_space}
 use Rattle.word_syntax.specs.declared.pattern.Pattern.{Pattern}
 use Rattle.word_syntax.specs.declared.pattern.WordFault.{WordFault}
 use Rattle.word_syntax.specs.declared.pattern.WordFault.TheVariants.{BadWord, Memory}
@@ -20,7 +20,7 @@ pub record WritesWord (text : List ℕ) (p : WordPattern) : Type 0 where
   pub tokens : List Token
   pub rest : List ℕ
   pub lexes : LexesWord text tokens rest
-  pub blank : list_all is_blank rest ≡ true
+  pub blank : list_all is_space rest ≡ true
   pub word : IsWord tokens p
 
 -- Why a word that begins with these tokens can't go on at these bytes.
@@ -28,7 +28,7 @@ pub data StopsWord (tokens : List Token) : List ℕ → Type 0 where
   -- a token can't stand there, or opens one `(` or `!` more than may be open
   misplaced : {bytes rest : List ℕ} (t : Token) → IsWordFront bytes t rest → (IsPrefixOfWord (tokens ++ t ∷ []) → ⊥) → StopsWord tokens bytes
   -- the bytes are no token
-  no_token : {b : ℕ} {bs : List ℕ} → is_blank b ≡ false → ((t : Token) (rest : List ℕ) → IsWordFront (b ∷ bs) t rest → ⊥) → StopsWord tokens (b ∷ bs)
+  no_token : {b : ℕ} {bs : List ℕ} → is_space b ≡ false → ((t : Token) (rest : List ℕ) → IsWordFront (b ∷ bs) t rest → ⊥) → StopsWord tokens (b ∷ bs)
   -- the text ends too early
   ended : ((p : WordPattern) → IsWord tokens p → ⊥) → StopsWord tokens []
 

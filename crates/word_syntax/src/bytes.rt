@@ -6,8 +6,8 @@ ghost use Rattle.word_syntax.specs.Printing.{is_small};
 ghost use Rattle.word_syntax.specs.Tokens as kinds;
 
 /// Space, tab, line feed or carriage return.
-pub(crate) fn is_blank(byte: u8) -> bool
-    ensures { result ≡ kinds.is_blank byte }
+pub(crate) fn is_space(byte: u8) -> bool
+    ensures { result ≡ kinds.is_space byte }
 {
     byte == b' ' || byte == b'\t' || byte == b'\n' || byte == b'\r'
 }
@@ -28,9 +28,9 @@ pub(crate) fn is_word(byte: u8) -> bool
 
 /// How many blanks stand at the front.
 pub(crate) fn blanks(bytes: &[u8]) -> usize
-    ensures { result ≡ prefix_len kinds.is_blank bytes.now }
+    ensures { result ≡ prefix_len kinds.is_space bytes.now }
 {
-    bytes.iter().take_while(|byte| is_blank(**byte)).count()
+    bytes.iter().take_while(|byte| is_space(**byte)).count()
 }
 
 /// How many letters and digits stand at the front.

@@ -4,7 +4,7 @@ use Rattle.std.proofs.lemmas.Bool.{cases_eq}
 use Rattle.std.proofs.lemmas.List.{append-nil}
 use Rattle.hoa_lexer.specs.Blanks.{IsOpenComment}
 use Rattle.hoa_lexer.specs.Spelling.{Quotes}
-use Rattle.hoa_lexer.specs.Spelling.Quotes.{nothing as unquoted, escaped, plain}
+use Rattle.aut_base.specs.Strings.Quotes.{nothing as unquoted, escaped, plain}
 use Rattle.hoa_lexer.specs.Text.{AfterBlanks, BeginsToken, IsNoToken, IsOpenString, IsOpenToken}
 use Rattle.hoa_lexer.specs.declared.token.Token.TheVariants.{Str}
 use Rattle.hoa_lexer.proofs.next_token.Exclusive.{IsStuck}

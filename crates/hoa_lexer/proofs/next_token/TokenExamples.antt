@@ -2,7 +2,7 @@
 use Rattle.std.proofs.Common.{◌≢◌, ℕ, List, [], ◌∷◌, ◌++◌, codes, refl, lit<, arith}
 use Rattle.hoa_lexer.specs.Blanks.IsBlanks.{nothing, space, comment}
 use Rattle.hoa_lexer.specs.Spelling.{IsDelimited, Spells}
-use Rattle.hoa_lexer.specs.Spelling.Quotes.{nothing as no_quote, escaped, plain}
+use Rattle.aut_base.specs.Strings.Quotes.{nothing as no_quote, escaped, plain}
 use Rattle.hoa_lexer.specs.TokenExamples.{TokenExamples}
 use Rattle.hoa_lexer.specs.Text.{IsNext}
 use Rattle.hoa_lexer.specs.declared.token.Token.{Token}

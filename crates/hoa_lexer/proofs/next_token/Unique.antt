@@ -9,7 +9,7 @@ use Rattle.hoa_lexer.specs.Blanks.{IsBlanks}
 use Rattle.hoa_lexer.specs.Bytes.{is_digit, is_word}
 use Rattle.hoa_lexer.specs.Laws.{OneNextToken, OneTokenList}
 use Rattle.hoa_lexer.specs.Spelling.{Spells, IsDelimited, StopsAt, IsIdentifier, IsNumeral, IsAliasName, Quotes, value_of}
-use Rattle.hoa_lexer.specs.Spelling.Quotes.{nothing, escaped, plain}
+use Rattle.aut_base.specs.Strings.Quotes.{nothing, escaped, plain}
 use Rattle.hoa_lexer.specs.Text.{IsFront, IsNext, Lexes}
 use Rattle.hoa_lexer.proofs.spelling.FirstBytes.{token_kind, front_head, no_front}
 use Rattle.hoa_lexer.proofs.next_token.Fronts.{front_of, same_place}

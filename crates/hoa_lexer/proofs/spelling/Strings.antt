@@ -4,7 +4,7 @@ use Rattle.std.proofs.lemmas.Bool.{ne_eqb}
 use Rattle.std.proofs.lemmas.List.{append_assoc, append-nil}
 use Rattle.hoa_lexer.specs.Reading.{unread}
 use Rattle.hoa_lexer.specs.Spelling.{Spells, Quotes}
-use Rattle.hoa_lexer.specs.Spelling.Quotes.{nothing, escaped, plain}
+use Rattle.aut_base.specs.Strings.Quotes.{nothing, escaped, plain}
 use Rattle.hoa_lexer.specs.inner.Steps.{IsHalf, IsReadFault, Pauses, ReadsQuoted, ReadsToken}
 use Rattle.hoa_lexer.specs.Text.{IsFront, HasFront, BeginsToken}
 use Rattle.hoa_lexer.proofs.spelling.Comments.{unheld}

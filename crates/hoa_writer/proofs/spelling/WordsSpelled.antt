@@ -8,7 +8,7 @@ use Rattle.std.proofs.lemmas.Fmt.{decimal_by_steps}
 use Rattle.std.proofs.lemmas.List.Sums.{fold-append}
 use Rattle.hoa_lexer.specs.Bytes.{is_digit}
 use Rattle.hoa_lexer.specs.Spelling.{IsNumeral, value_of, Quotes}
-use Rattle.hoa_lexer.specs.Spelling.Quotes.{nothing, escaped, plain}
+use Rattle.aut_base.specs.Strings.Quotes.{nothing, escaped, plain}
 use Rattle.hoa_lexer.specs.declared.token.Token.TheVariants.{Str, Int, Bang, Amp, Bar}
 use Rattle.hoa_writer.specs.CanonicalText as canonical
 use Rattle.hoa_writer.specs.CanonicalText.{quoted}
@@ -48,19 +48,19 @@ number n h = let d = decimal_numeral n (omega arith) in held_int n (decimal n) (
 
 -- strings
 
-quotes_escape : (b : ℕ) (inner text : List ℕ) → Quotes inner text → Quotes (canonical.escaped b ++ inner) (b ∷ text)
+quotes_escape : (b : ℕ) (inner text : List ℕ) → Quotes inner text → Quotes (canonical.escaped_byte b ++ inner) (b ∷ text)
 quotes_escape b inner text q = elim (cases_Bool ((b == 34) || (b == 92))) [
   | inl e ↦ subst (λ (w : List ℕ). Quotes (w ++ inner) (b ∷ text)) (sym (ap (λ c. cond c (92 ∷ b ∷ []) (b ∷ [])) e)) (escaped q)
   | inr e ↦ subst (λ (w : List ℕ). Quotes (w ++ inner) (b ∷ text)) (sym (ap (λ c. cond c (92 ∷ b ∷ []) (b ∷ [])) e))
       (plain (λ (s : b ≡ 34). false≢true (sym e ∙ ap (λ c. (c == 34) || (c == 92)) s)) (λ (s : b ≡ 92). false≢true (sym e ∙ ap (λ c. (c == 34) || (c == 92)) s)) q)
 ]
 
-quotes_escaped : (text : List ℕ) → Quotes (flat_map canonical.escaped text) text
+quotes_escaped : (text : List ℕ) → Quotes (flat_map canonical.escaped_byte text) text
 quotes_escaped [] = nothing
-quotes_escaped (b ∷ bs) = quotes_escape b (flat_map canonical.escaped bs) bs (quotes_escaped bs)
+quotes_escaped (b ∷ bs) = quotes_escape b (flat_map canonical.escaped_byte bs) bs (quotes_escaped bs)
 
 pub string : (text : List ℕ) → Free (Str text ∷ []) (quoted text)
-string text = free_one (Str text) (quoted text) (flat_map canonical.escaped text, quotes_escaped text, refl) (λ rest. tt)
+string text = free_one (Str text) (quoted text) (flat_map canonical.escaped_byte text, quotes_escaped text, refl) (λ rest. tt)
 
 -- signs
 

@@ -11,7 +11,7 @@ use Rattle.word_syntax.proofs.texts.Readings.{bad_writes_nothing}
 use Rattle.word_syntax.proofs.grammar.Runs.{runs_push}
 use Rattle.word_syntax.proofs.grammar.Words.{begins, begins_not, no_word, whole_word}
 use Rattle.word_syntax.specs.Grammar.{IsWord, distinct, token_names}
-use Rattle.word_syntax.specs.Tokens.{FollowsBlanks, IsWordFront, LexesWord, is_blank}
+use Rattle.word_syntax.specs.Tokens.{FollowsBlanks, IsWordFront, LexesWord, is_space}
 use Rattle.word_syntax.specs.Writing.{IsBadAt, IsStoppedAt, StopsWord, WritesWord, WritesNothing, ended, misplaced, no_token}
 use Rattle.word_syntax.specs.inner.Chains.{Agrees, HasTaken, NamesGo, word_state}
 use Rattle.word_syntax.specs.inner.Machine as machine
@@ -170,7 +170,7 @@ through text at start r m n all =
       tokens = m.tokens;
       rest = drop at text;
       lexes = m.lexes;
-      blank = ap (list_all is_blank) blank ∙ n.blanks.blank;
+      blank = ap (list_all is_space) blank ∙ n.blanks.blank;
       names = m.names;
       read = m.read;
       few_letters = omega (arith, m.few_letters, m.within);

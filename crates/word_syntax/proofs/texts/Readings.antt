@@ -8,7 +8,7 @@ use Rattle.word_syntax.proofs.texts.FrontTokens.{front_cons, front_stands, one_f
 use Rattle.word_syntax.proofs.texts.Prefixes.{dropped, prefix_before}
 use Rattle.word_syntax.proofs.grammar.Words.{one_pattern}
 use Rattle.word_syntax.specs.Grammar.{IsPrefixOfWord, IsWord, WordPattern}
-use Rattle.word_syntax.specs.Tokens.{FollowsBlanks, IsWordFront, LexesWord, is_blank}
+use Rattle.word_syntax.specs.Tokens.{FollowsBlanks, IsWordFront, LexesWord, is_space}
 use Rattle.word_syntax.specs.Writing.{IsBadAt, IsStoppedAt, OneReading, StopsWord, WritesWord, ended, misplaced, no_token}
 use Rattle.word_syntax.specs.inner.Fronts.{front_token}
 use Rattle.word_syntax.specs.inner.Nexts.{NoBlankFirst}
@@ -16,14 +16,14 @@ use Rattle.word_syntax.specs.declared.token.Token.{Token}
 
 -- what follows the blanks
 abbrev pub unblanked : List ℕ → List ℕ
-unblanked input = drop (prefix_len is_blank input) input
+unblanked input = drop (prefix_len is_space input) input
 
 after_is : (input bytes : List ℕ) → FollowsBlanks input bytes → NoBlankFirst bytes → bytes ≡ unblanked input
 after_is input bytes a first =
-    sym (ap unblanked a.split ∙ (ap (λ (n : ℕ). drop n (a.before ++ bytes)) (prefix_before is_blank a.before bytes a.blank first) ∙ dropped a.before bytes))
+    sym (ap unblanked a.split ∙ (ap (λ (n : ℕ). drop n (a.before ++ bytes)) (prefix_before is_space a.before bytes a.blank first) ∙ dropped a.before bytes))
 
 -- a blank is no token
-blank_alone : (b : ℕ) (bs : List ℕ) → is_blank b ≡ true → front_token (b ∷ bs) ≡ None
+blank_alone : (b : ℕ) (bs : List ℕ) → is_space b ≡ true → front_token (b ∷ bs) ≡ None
 blank_alone b bs e = let P : ℕ → Type 0 = λ x. front_token (x ∷ bs) ≡ None in
     elim (or_cases (b == 32) _ e) [
       | inl h ↦ subst P (sym (eqb-true b 32 h)) (front_cons 32 bs)
@@ -36,9 +36,9 @@ blank_alone b bs e = let P : ℕ → Type 0 = λ x. front_token (x ∷ bs) ≡ N
       ])
     ]
 
-pub front_not_blank : (bytes : List ℕ) (t : Token) (rest : List ℕ) → IsWordFront bytes t rest → (b : ℕ) × (bs : List ℕ) × (bytes ≡ b ∷ bs) × (is_blank b ≡ false)
+pub front_not_blank : (bytes : List ℕ) (t : Token) (rest : List ℕ) → IsWordFront bytes t rest → (b : ℕ) × (bs : List ℕ) × (bytes ≡ b ∷ bs) × (is_space b ≡ false)
 front_not_blank [] t rest f = let x = front_stands [] t rest f in absurd (none-some (t, x.size) x.found)
-front_not_blank (b ∷ bs) t rest f = elim (cases_Bool (is_blank b)) [
+front_not_blank (b ∷ bs) t rest f = elim (cases_Bool (is_space b)) [
   | inl e ↦ (let x = front_stands (b ∷ bs) t rest f in absurd (none-some (t, x.size) (sym (blank_alone b bs e) ∙ x.found)))
   | inr e ↦ (b, bs, refl, e)
 ]
@@ -47,24 +47,24 @@ front_first : (bytes : List ℕ) (t : Token) (rest : List ℕ) → IsWordFront b
 front_first bytes t rest f = let x = front_not_blank bytes t rest f in subst NoBlankFirst (sym x.2) x.3
 
 -- blanks alone begin with no token
-all_blank : (input bytes : List ℕ) → list_all is_blank input ≡ true → FollowsBlanks input bytes → list_all is_blank bytes ≡ true
-all_blank input bytes all a = behind a.before bytes (ap (list_all is_blank) (sym a.split) ∙ all)
+all_blank : (input bytes : List ℕ) → list_all is_space input ≡ true → FollowsBlanks input bytes → list_all is_space bytes ≡ true
+all_blank input bytes all a = behind a.before bytes (ap (list_all is_space) (sym a.split) ∙ all)
   where
-    behind : (xs ys : List ℕ) → list_all is_blank (xs ++ ys) ≡ true → list_all is_blank ys ≡ true
+    behind : (xs ys : List ℕ) → list_all is_space (xs ++ ys) ≡ true → list_all is_space ys ≡ true
     behind [] ys e = e
     behind (x ∷ xs) ys e = behind xs ys (and_parts _ _ e).1
 
-no_first : (b : ℕ) (bs : List ℕ) → list_all is_blank (b ∷ bs) ≡ true → is_blank b ≡ false → ⊥
-no_first b bs all e = let first = (and_parts _ _ all).0 in both (is_blank b) first e
+no_first : (b : ℕ) (bs : List ℕ) → list_all is_space (b ∷ bs) ≡ true → is_space b ≡ false → ⊥
+no_first b bs all e = let first = (and_parts _ _ all).0 in both (is_space b) first e
   where
     both : (c : Bool) → c ≡ true → c ≡ false → ⊥
     both true e f = cc
     both false e f = cc
 
-no_more : (input : List ℕ) (t : Token) (ts : List Token) (rest : List ℕ) → list_all is_blank input ≡ true → LexesWord input (t ∷ ts) rest → ⊥
+no_more : (input : List ℕ) (t : Token) (ts : List Token) (rest : List ℕ) → list_all is_space input ≡ true → LexesWord input (t ∷ ts) rest → ⊥
 no_more input t ts rest all l =
     let x = front_not_blank l.0 t l.1 l.3 in
-    no_first x.0 x.1 (subst (λ (y : List ℕ). list_all is_blank y ≡ true) x.2 (all_blank input l.0 all l.2)) x.3
+    no_first x.0 x.1 (subst (λ (y : List ℕ). list_all is_space y ≡ true) x.2 (all_blank input l.0 all l.2)) x.3
 
 -- the next token and what follows it
 next_once : (input : List ℕ) (t u : Token) (ts us : List Token) (r q : List ℕ) (l : LexesWord input (t ∷ ts) r) (k : LexesWord input (u ∷ us) q) → (t ≡ u) × (l.1 ≡ k.1)
@@ -135,14 +135,14 @@ no_further tokens rest bytes us q a s g b =
 
 not_both : (text : List ℕ) (p : WordPattern) (k : ℕ) → WritesWord text p → IsStoppedAt text k → ⊥
 not_both text p k w s = elim (compare text w.tokens s.tokens w.rest s.rest w.lexes s.lexes) [
-  | inl e ↦ at_end s.tokens s.bytes s.stops (all_blank s.rest s.bytes (subst (λ (x : List ℕ). list_all is_blank x ≡ true) e.1 w.blank) s.after_blanks)
+  | inl e ↦ at_end s.tokens s.bytes s.stops (all_blank s.rest s.bytes (subst (λ (x : List ℕ). list_all is_space x ≡ true) e.1 w.blank) s.after_blanks)
       (subst (λ (x : List Token). IsWord x p) e.0 w.word)
   | inr (inl g) ↦ no_more w.rest g.first g.more s.rest w.blank g.lexes
   | inr (inr g) ↦ no_further s.tokens s.rest s.bytes w.tokens w.rest s.after_blanks s.stops g (inr (p, w.word))
 ]
   where
-    at_end : (tokens : List Token) (bytes : List ℕ) → StopsWord tokens bytes → list_all is_blank bytes ≡ true → IsWord tokens p → ⊥
-    at_end tokens bytes (misplaced {rest = rest} t f h) all x = let y = front_not_blank bytes t rest f in no_first y.0 y.1 (subst (λ (z : List ℕ). list_all is_blank z ≡ true) y.2 all) y.3
+    at_end : (tokens : List Token) (bytes : List ℕ) → StopsWord tokens bytes → list_all is_space bytes ≡ true → IsWord tokens p → ⊥
+    at_end tokens bytes (misplaced {rest = rest} t f h) all x = let y = front_not_blank bytes t rest f in no_first y.0 y.1 (subst (λ (z : List ℕ). list_all is_space z ≡ true) y.2 all) y.3
     at_end tokens bytes (no_token {b = b} {bs = bs} e h) all x = no_first b bs all e
     at_end tokens bytes (ended h) all x = h p x
 

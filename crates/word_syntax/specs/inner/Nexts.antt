@@ -1,6 +1,6 @@
 -- What stands next in a text.
 use Rattle.std.specs.Prelude.{◌≡◌, ℕ, ◌<◌, ◌≤◌, Bool, false, List, [], ◌∷◌, length, drop}
-use Rattle.word_syntax.specs.Tokens.{FollowsBlanks, IsWordFront, is_blank}
+use Rattle.word_syntax.specs.Tokens.{FollowsBlanks, IsWordFront, is_space}
 use Rattle.word_syntax.specs.declared.next.Next.{Next}
 use Rattle.word_syntax.specs.declared.next.Next.TheVariants as next
 use Rattle.word_syntax.specs.declared.token.Token.{Token}
@@ -12,7 +12,7 @@ StopsAtHead p (b ∷ bs) = p b ≡ false
 
 -- no blank stands first
 abbrev pub NoBlankFirst : List ℕ → Type 0
-NoBlankFirst = StopsAtHead is_blank
+NoBlankFirst = StopsAtHead is_space
 
 -- the token stands next, and these are the places of its first byte and behind its last
 pub record IsTokenNext (text : List ℕ) (at : ℕ) (t : Token) (start end : ℕ) : Type 0 where

@@ -2,7 +2,7 @@
 use Rattle.std.specs.Prelude.{◌≡◌, ℕ, ◌+◌, ◌≤◌, true, List, length, drop, Result, Ok, Err}
 use Rattle.std.specs.List.{list_all}
 use Rattle.word_syntax.specs.Grammar.{distinct, token_names}
-use Rattle.word_syntax.specs.Tokens.{LexesWord, is_blank}
+use Rattle.word_syntax.specs.Tokens.{LexesWord, is_space}
 use Rattle.word_syntax.specs.Writing.{IsStoppedAt}
 use Rattle.word_syntax.specs.declared.pattern.WordFault.{WordFault}
 use Rattle.word_syntax.specs.declared.pattern.WordFault.TheVariants.{BadWord, Memory}
@@ -31,7 +31,7 @@ pub record IsThrough (text : List ℕ) (r : WordReader) : Type 0 where
   pub tokens : List Token
   pub rest : List ℕ
   pub lexes : LexesWord text tokens rest
-  pub blank : list_all is_blank rest ≡ true
+  pub blank : list_all is_space rest ≡ true
   pub names : r.names ≡ distinct (token_names tokens)
   pub read : HasReadTokens tokens (word_state r)
   pub few_letters : length r.stem + length r.cycle ≤ length text
