@@ -27,7 +27,7 @@ pub fn remove_ap(alloc: Global, a: &Automaton, name: &Text, how: Hide) -> Result
     ensures states { IfOk result (λ made. made.states ≡ a.now.states) }
     ensures sets { IfOk result (λ made. made.sets ≡ a.now.sets) }
 {
-    a.well_formed();
+    a.well_formedness();
     without_name(alloc, a, name, how)
 }
 
@@ -35,7 +35,7 @@ pub fn remove_ap(alloc: Global, a: &Automaton, name: &Text, how: Hide) -> Result
 fn without_name(alloc: Global, a: &Automaton, name: &Text, how: Hide) -> Result<Automaton, Memory>
     ensures { IfOk result (λ made. automaton_of made ≡ hidden how name.now (automaton_of a.now)) }
 {
-    a.well_formed();
+    a.well_formedness();
     match a.names().position(name) {
         Some(prop) => without_prop(alloc, a, name, prop, how),
         None => a.copy(alloc),
@@ -53,7 +53,7 @@ fn without_prop(
     requires { slice_get a.now.names prop ≡ Some name.now }
     ensures { IfOk result (λ made. automaton_of made ≡ hidden how name.now (automaton_of a.now)) }
 {
-    a.well_formed();
+    a.well_formedness();
     let names = other_names(alloc, a.names(), name)?;
     let to = places_among(alloc, a.names(), &names)?;
     let hiding = Hiding { prop, how, to };
@@ -123,7 +123,7 @@ fn hidden_links(
     ensures has { IfOk result (All (λ l. Has guards.new l.guard)) }
     ensures edges { IfOk result (λ links. map (edge_of guards.new) links ≡ map (hidden_link hiding.now.how hiding.now.prop a.now) a.now.links) }
 {
-    a.well_formed();
+    a.well_formedness();
     let mut given = a.guards().copy(alloc)?;
     let mut done = Done::new(alloc);
     let mut links = Links::from_vec(Vec::with_capacity(alloc, a.links().len())?);

@@ -343,7 +343,7 @@ impl Automaton {
     }
 
     /// Tells a proof what holds of each automaton.
-    pub fn well_formed(&self)
+    pub fn well_formedness(&self)
         ensures { IsWellFormedSymbolic self.now }
     {
         let _ = &self.fields.names;

@@ -25,7 +25,7 @@ impl Automaton {
         ensures over { IfOk result (λ made. automaton_of made ≡ over_names names.now (automaton_of self.now)) }
         ensures accepts { IfOk result (λ made. AcceptTheSame (automaton_of made) (automaton_of self.now)) }
     {
-        self.well_formed();
+        self.well_formedness();
         if names.as_slice() == self.names().as_slice() {
             return self.copy(alloc);
         }
@@ -48,7 +48,7 @@ impl Automaton {
         ensures accepts { IfOk result (λ made. AcceptTheSame (automaton_of made) (automaton_of self.now)) }
         ensures keeps { IfOk result (λ made. Keeps guards made.store) }
     {
-        self.well_formed();
+        self.well_formedness();
         let _distinct = names.as_slice();
         let to = places_in(alloc, self.names(), names)?;
         let links = self.links_over(alloc, &mut guards, names, &to)?;
@@ -70,7 +70,7 @@ impl Automaton {
         ensures keeps { Keeps guards.old guards.new }
         ensures edges { IfOk result (λ links. StandFor guards.new links (over_names names.now (automaton_of self.now)).edges) }
     {
-        self.well_formed();
+        self.well_formedness();
         let mut links = Links::from_vec(Vec::with_capacity(alloc, self.links().len())?);
         let mut done = Brought::new(alloc);
         'links: for link in self.links() {

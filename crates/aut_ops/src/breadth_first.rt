@@ -78,8 +78,8 @@ pub(crate) fn explore(
     ensures few { OnOk result (length pairing.new.pairs ≤ MOST_PAIRS) }
     ensures many { IsErrOf result ExploreFault.Pairs → HasMorePairs MOST_PAIRS (automaton_of a.now) (automaton_of b.now) }
 {
-    a.well_formed();
-    b.well_formed();
+    a.well_formedness();
+    b.well_formedness();
     let mut done = 0;
     'pairs: while done < pairing.len() {
         let (p, q) = pairing.pair_at(done);

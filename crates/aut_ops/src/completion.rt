@@ -30,7 +30,7 @@ pub fn complete(alloc: Global, a: &Automaton) -> Result<Automaton, Memory>
     ensures complete { IfOk result (λ made. IsComplete (automaton_of made)) }
     ensures deterministic { IsDeterministic (automaton_of a.now) → IfOk result (λ made. IsDeterministic (automaton_of made)) }
 {
-    a.well_formed();
+    a.well_formedness();
     if a.is_complete() {
         return a.copy(alloc);
     }
@@ -45,7 +45,7 @@ pub(crate) fn made_complete(alloc: Global, a: &Automaton) -> Result<Option<Autom
     ensures accepts { IfOk result (λ made. AcceptTheSame (automaton_of (unwrap_or made a.now)) (automaton_of a.now)) }
     ensures complete { IfOk result (λ made. IsComplete (automaton_of (unwrap_or made a.now))) }
 {
-    a.well_formed();
+    a.well_formedness();
     if a.is_complete() {
         return Ok(None);
     }
@@ -58,7 +58,7 @@ fn complete_with_sink(alloc: Global, a: &Automaton) -> Result<Automaton, Memory>
     requires sets { (with_sink (automaton_of a.now)).sets < 2 ^ 32 }
     ensures { IfOk result (λ made. automaton_of made ≡ with_sink (automaton_of a.now)) }
 {
-    a.well_formed();
+    a.well_formedness();
     let sink = a.states();
     let names = copy_names(a.names())?;
     let starts = starts_or(alloc, a.starts(), sink)?;
@@ -129,7 +129,7 @@ fn filled_links(alloc: Global, guards: &mut Guards, a: &Automaton) -> Result<Lin
     ensures names { guards.new.names ≡ guards.old.names }
     ensures links { IfOk result (λ links. StandFor guards.new links (flat_map (filled_edges (automaton_of a.now)) (range_with_len 0 a.now.states))) }
 {
-    a.well_formed();
+    a.well_formedness();
     let mut links = Links::new(alloc);
     'states: for state in 0..a.states() {
         fill_state(

@@ -17,7 +17,7 @@ pub(crate) fn is_satisfiable(a: &Automaton, link: &Link) -> bool
     requires { Has a.now.store link.now.guard }
     ensures { result ≡ link_passable a.now link.now }
 {
-    a.well_formed();
+    a.well_formedness();
     !a.guards().is_false(link.guard)
 }
 
@@ -26,7 +26,7 @@ pub(crate) fn satisfiable_graph(alloc: Global, a: &Automaton) -> Result<Graph, M
     ensures nodes { IfOk result (λ graph. graph.nodes ≡ a.now.states) }
     ensures arcs { IfOk result (λ graph. graph.arcs ≡ passable_arcs (automaton_of a.now)) }
 {
-    a.well_formed();
+    a.well_formedness();
     let mut arcs = Arcs::from_vec(Vec::with_capacity(alloc, a.links().len())?);
     'links: for link in a.links() {
         if !is_satisfiable(a, link) {
@@ -45,7 +45,7 @@ pub(crate) fn links_between(alloc: Global, a: &Automaton, flags: &[bool]) -> Res
     requires { length flags.now ≡ a.now.states }
     ensures { IfOk result (λ links. links ≡ filter (link_stays a.now flags.now) a.now.links) }
 {
-    a.well_formed();
+    a.well_formedness();
     let mut links = Links::new(alloc);
     'links: for link in a.links() {
         if !stays(a, link, flags) {

@@ -59,14 +59,14 @@ pub fn product_or(alloc: Global, a: &Automaton, b: &Automaton) -> Result<Automat
         (over_both (automaton_of a.now) (automaton_of b.now) (completed (automaton_of a.now)))
         (over_both (automaton_of a.now) (automaton_of b.now) (completed (automaton_of b.now))) }
 {
-    a.well_formed();
-    b.well_formed();
+    a.well_formedness();
+    b.well_formedness();
     let made_first = made_complete(alloc, a)?;
     let made_second = made_complete(alloc, b)?;
     let first = made_or(&made_first, a);
     let second = made_or(&made_second, b);
-    first.well_formed();
-    second.well_formed();
+    first.well_formedness();
+    second.well_formedness();
     product_by(alloc, first, second, Join::Any)
 }
 
@@ -90,8 +90,8 @@ fn product_by(
         (over_both (automaton_of a.now) (automaton_of b.now) (automaton_of a.now))
         (over_both (automaton_of a.now) (automaton_of b.now) (automaton_of b.now)) }
 {
-    a.well_formed();
-    b.well_formed();
+    a.well_formedness();
+    b.well_formedness();
     let names = join_names(alloc, a.names(), b.names())?;
     let _distinct = names.as_slice();
     let both = share(alloc, a, b, &names)?;
@@ -110,7 +110,7 @@ pub fn square(alloc: Global, a: &Automaton) -> Result<Paired, PairFault>
     ensures named { IsErrOf result PairFault.Names → ⊥ }
     ensures many { IsErrOf result PairFault.Pairs → HasMorePairs MOST_PAIRS (automaton_of a.now) (automaton_of a.now) }
 {
-    a.well_formed();
+    a.well_formedness();
     Ok(product_parts(alloc, a, a, Join::All)?)
 }
 
@@ -171,8 +171,8 @@ fn product_parts(
     ensures keeps { IfOk result (λ made. Keeps b.now.store made.guards) }
     ensures many { IsErrOf result ExploreFault.Pairs → HasMorePairs MOST_PAIRS (automaton_of a.now) (automaton_of b.now) }
 {
-    a.well_formed();
-    b.well_formed();
+    a.well_formedness();
+    b.well_formedness();
     let sets = a.sets();
     let names = copy_names(a.names())?;
     let formula = join.condition(alloc, a.formula(), b.formula(), sets)?;

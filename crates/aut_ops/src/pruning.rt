@@ -25,7 +25,7 @@ pub fn prune(alloc: Global, b: &Automaton) -> Result<Automaton, Memory>
     ensures shape { IfOk result (λ made. IsPruned (automaton_of b.now) (automaton_of made)) }
     ensures accepts { IfOk result (λ made. AcceptTheSame (automaton_of made) (automaton_of b.now)) }
 {
-    b.well_formed();
+    b.well_formedness();
     let useful = useful_states(alloc, b)?;
     flagged_in_place(alloc, b, useful.as_slice())
 }
@@ -35,7 +35,7 @@ fn flagged_in_place(alloc: Global, a: &Automaton, flags: &[bool]) -> Result<Auto
     requires { length flags.now ≡ a.now.states }
     ensures { IfOk result (λ made. automaton_of made ≡ between flags.now (automaton_of a.now)) }
 {
-    a.well_formed();
+    a.well_formedness();
     let links = links_between(alloc, a, flags)?;
     let starts = flagged_starts(alloc, a.starts().as_slice(), flags)?;
     a.with_states(alloc, a.states(), starts, links)
@@ -45,7 +45,7 @@ fn flagged_in_place(alloc: Global, a: &Automaton, flags: &[bool]) -> Result<Auto
 fn useful_states(alloc: Global, b: &Automaton) -> Result<Flags, Memory>
     ensures { IfOk result (AreUseful (automaton_of b.now)) }
 {
-    b.well_formed();
+    b.well_formedness();
     let graph = satisfiable_graph(alloc, b)?;
     let reached = reach(alloc, &graph, b.starts())?;
     let numbers = components(alloc, &graph)?;
@@ -59,7 +59,7 @@ fn closing_sources(alloc: Global, b: &Automaton, numbers: &Numbers) -> Result<Nu
     requires { length numbers.now ≡ b.now.states }
     ensures { IfOk result (λ sources. sources ≡ map (λ l. l.from) (filter (link_closes b.now numbers.now) b.now.links)) }
 {
-    b.well_formed();
+    b.well_formedness();
     let mut sources = Numbers::new(alloc);
     'links: for link in b.links() {
         if !closes(b, link, numbers) {

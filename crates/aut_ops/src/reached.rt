@@ -23,7 +23,7 @@ pub struct ReachedSize {
 pub fn reached_size(alloc: Global, a: &Automaton) -> Result<ReachedSize, Memory>
     ensures { IfOk result (IsReachedSize (automaton_of a.now)) }
 {
-    a.well_formed();
+    a.well_formedness();
     let graph = satisfiable_graph(alloc, a)?;
     let reached = reach(alloc, &graph, a.starts())?;
     let flags = reached.as_slice();
@@ -53,7 +53,7 @@ fn staying_count(a: &Automaton, flags: &[bool]) -> usize
     requires { length flags.now ≡ a.now.states }
     ensures { result ≡ length (filter (link_stays a.now flags.now) a.now.links) }
 {
-    a.well_formed();
+    a.well_formedness();
     let mut count = 0;
     'links: for link in a.links() {
         if !stays(a, link, flags) {

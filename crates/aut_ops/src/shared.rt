@@ -53,7 +53,7 @@ pub(crate) fn share(
     ensures second_accepts { IfOk result (λ both. AcceptTheSame (automaton_of (unwrap_or both.made b.now)) (automaton_of b.now)) }
     ensures store { IfOk result (λ both. Keeps (unwrap_or both.made b.now).store both.first.store) }
 {
-    b.well_formed();
+    b.well_formedness();
     if names.as_slice() == b.names().as_slice() {
         let first = beside(alloc, a, names, b)?;
         return Ok(Shared { first, made: None });
@@ -80,7 +80,7 @@ fn beside(
     ensures accepts { IfOk result (λ made. AcceptTheSame (automaton_of made) (automaton_of a.now)) }
     ensures store { IfOk result (λ made. Keeps other.now.store made.store) }
 {
-    other.well_formed();
+    other.well_formedness();
     let guards = other.guards().copy(alloc)?;
     a.over_in(alloc, names, guards)
 }

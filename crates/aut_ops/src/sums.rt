@@ -57,8 +57,8 @@ fn side_by_side(alloc: Global, a: &Automaton, b: &Automaton) -> Result<Automaton
     ensures shape { IfOk result (λ made. automaton_of made ≡ side_by_side (automaton_of a.now) (automaton_of b.now)) }
     ensures accepts { IfOk result (λ made. AcceptsEither (automaton_of made) (automaton_of a.now) (automaton_of b.now)) }
 {
-    a.well_formed();
-    b.well_formed();
+    a.well_formedness();
+    b.well_formedness();
     let states = a.states();
     let sets = a.sets();
     let fresh = sets + b.sets();

@@ -19,7 +19,7 @@ pub fn trim(alloc: Global, a: &Automaton) -> Result<Automaton, Memory>
     ensures shape { IfOk result (λ made. IsTrimmed (automaton_of a.now) (automaton_of made)) }
     ensures accepts { IfOk result (λ made. AcceptTheSame (automaton_of made) (automaton_of a.now)) }
 {
-    a.well_formed();
+    a.well_formedness();
     let graph = satisfiable_graph(alloc, a)?;
     let reached = reach(alloc, &graph, a.starts())?;
     flagged_alone(alloc, a, reached.as_slice())
@@ -30,7 +30,7 @@ fn flagged_alone(alloc: Global, a: &Automaton, flags: &[bool]) -> Result<Automat
     requires { length flags.now ≡ a.now.states }
     ensures { IfOk result (λ made. automaton_of made ≡ renumbered flags.now (between flags.now (automaton_of a.now))) }
 {
-    a.well_formed();
+    a.well_formedness();
     let new = number_flagged(alloc, a.states(), flags)?;
     let staying = links_between(alloc, a, flags)?;
     let links = renumbered_links(alloc, &new.ranks, staying.as_slice())?;

@@ -33,7 +33,7 @@ pub fn to_buchi(alloc: Global, a: &Automaton) -> Result<Automaton, BuchiFault>
     ensures within { OnOk result (buchi_states (automaton_of a.now) ≤ MOST_BUCHI_STATES) }
     ensures only_states { result ≡ Err BuchiFault.BuchiStates → MOST_BUCHI_STATES < buchi_states (automaton_of a.now) }
 {
-    a.well_formed();
+    a.well_formedness();
     let watches = watches(alloc, a.formula())?;
     let k = most_levels(&watches);
     if !are_few(a.states(), watches.len(), k) {
@@ -88,7 +88,7 @@ fn put_on_levels(
     requires fit { a.now.states * k < 2 ^ 32 }
     ensures { IfOk result (λ made. automaton_of made ≡ with_counters k (watch_of states watches.now) (automaton_of a.now)) }
 {
-    a.well_formed();
+    a.well_formedness();
     let links = levelled_links(alloc, a, states, watches, k)?;
     let starts = first_levels(alloc, a.starts(), k)?;
     Automaton::from_parts(

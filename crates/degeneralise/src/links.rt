@@ -80,7 +80,7 @@ fn push_level(
     requires fit { a.now.states * k < 2 ^ 32 }
     ensures { OnOk result (AddsLinks a.now.store links.old links.new (map (edge_at_level k watch.now level) (edges_from state (map (edge_of a.now.store) a.now.links)))) }
 {
-    a.well_formed();
+    a.well_formedness();
     'links: for link in a.links_of(state) {
         let at_level = link_at(alloc, link, watch, k, level)?;
         links.push(at_level)?;

@@ -40,7 +40,7 @@ fn push_main_copy(
     requires { All (IsCopyInRange a.now.states) copies.now }
     ensures { OnOk result (AddsLinks a.now.store links.old links.new (flat_map (main_edges a.now.states copies.now) (map (edge_of a.now.store) a.now.links))) }
 {
-    a.well_formed();
+    a.well_formedness();
     'links: for link in a.links() {
         push_main(alloc, links, a, copies, link)?;
     }
@@ -99,7 +99,7 @@ fn push_copy(alloc: Global, links: &mut Links, a: &Automaton, copy: &TermCopy) -
     requires { IsCopyInRange a.now.states copy.now }
     ensures { OnOk result (AddsLinks a.now.store links.old links.new (copy_edges a.now.states (map (edge_of a.now.store) a.now.links) copy.now)) }
 {
-    a.well_formed();
+    a.well_formedness();
     let offset = copy.number * a.states();
     'links: for link in a.links() {
         if !meets_all(&copy.fins, &link.marks) {

@@ -28,7 +28,7 @@ pub fn copies(alloc: Global, a: &Automaton) -> Result<Automaton, FormFault>
     ensures passed { HasTooManyTerms (automaton_of a.now) → result ≡ Err FormFault.Terms }
     ensures only_passed { result ≡ Err FormFault.Terms → HasTooManyTerms (automaton_of a.now) }
 {
-    a.well_formed();
+    a.well_formedness();
     let terms = disjuncts(alloc, a.formula())?;
     Ok(make_copies(alloc, a, &terms)?)
 }
@@ -59,7 +59,7 @@ fn make_copies(alloc: Global, a: &Automaton, listed: &Terms) -> Result<Automaton
     requires fit { CopiesFit (automaton_of a.now) }
     ensures { IfOk result (λ made. automaton_of made ≡ copied (automaton_of a.now)) }
 {
-    a.well_formed();
+    a.well_formedness();
     let copies = term_copies(alloc, listed)?;
     let links = copied_links(alloc, a, &copies)?;
     let owned = sets_owned(alloc, &copies)?;

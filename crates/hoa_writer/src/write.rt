@@ -39,7 +39,7 @@ pub fn write_text(alloc: Global, a: &Automaton, name: Option<&Text>) -> Result<T
 fn reads_back(a: &Automaton, _name: Option<&Text>)
     ensures { ReadsBack (canonical_text (automaton_of a.now) (option_copied _name.entry)) (automaton_of a.now) (option_copied _name.entry) }
 {
-    a.well_formed();
+    a.well_formedness();
     fits(a.states());
     fits(a.sets());
 }
@@ -53,7 +53,7 @@ fn fits(_number: u32)
 fn push_header(out: &mut Text, a: &Automaton, name: Option<&Text>) -> Result<(), Memory>
     ensures { OnOk result (out.new ≡ out.old ++ header_lines (automaton_of a.now) (option_copied name.entry)) }
 {
-    a.well_formed();
+    a.well_formedness();
     out.extend(b"HOA: v1\n")?;
     push_name(out, name)?;
     push_numbered(out, b"States: ", a.states())?;
@@ -137,7 +137,7 @@ fn push_links(alloc: Global, out: &mut Text, a: &Automaton, state: u32) -> Resul
     requires { state < a.now.states }
     ensures { OnOk result (out.new ≡ out.old ++ flat_map (edge_line (length a.now.names)) (filter (λ e. e.from == state) (automaton_of a.now).edges)) }
 {
-    a.well_formed();
+    a.well_formedness();
     let links = a.links_of(state);
     'links: for link in links {
         push_link(alloc, out, a.guards(), link)?;

@@ -18,7 +18,7 @@ use word_syntax::reduce;
 pub fn accepts_some(alloc: Global, a: &Automaton) -> Result<bool, Memory>
     ensures { IfOk result (λ some. IsTrue some ↔ AcceptsSome (automaton_of a.now)) }
 {
-    a.well_formed();
+    a.well_formedness();
     let passable = satisfiable_edges(alloc, a)?;
     let found = accepting_component(alloc, a, passable.as_slice())?;
     Ok(found.is_some())
@@ -28,7 +28,7 @@ pub fn accepts_some(alloc: Global, a: &Automaton) -> Result<bool, Memory>
 pub fn accepted_word(alloc: Global, a: &Automaton) -> Result<Option<Lasso>, Memory>
     ensures { IfOk result (λ found. MatchOption found (AcceptsNothing (automaton_of a.now)) (IsAcceptedWord (automaton_of a.now))) }
 {
-    a.well_formed();
+    a.well_formedness();
     let passable = satisfiable_edges(alloc, a)?;
     match accepting_component(alloc, a, passable.as_slice())? {
         Some(component) => {
@@ -55,7 +55,7 @@ fn accepting_component(
     requires { ArePassable a.now passable.now }
     ensures { IfOk result (λ found. MatchOption found (AcceptsNothing (automaton_of a.now)) (IsAcceptingComponent a.now.links (IsReachedEdge a.now passable.now) a.now.formula)) }
 {
-    a.well_formed();
+    a.well_formedness();
     let reached = reached_edges(alloc, a, passable)?;
     search(
         alloc,

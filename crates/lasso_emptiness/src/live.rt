@@ -27,7 +27,7 @@ pub(crate) type LiveEdges = Seq<EdgeRef>;
 pub(crate) fn satisfiable_edges(alloc: Global, a: &Automaton) -> Result<LiveEdges, Memory>
     ensures { IfOk result (ArePassable a.now) }
 {
-    a.well_formed();
+    a.well_formedness();
     let mut edges = LiveEdges::from_vec(Vec::with_capacity(alloc, a.links().len())?);
     'links: for (place, link) in a.links().iter().enumerate() {
         if a.guards().is_false(link.guard) {
@@ -51,7 +51,7 @@ pub(crate) fn reached_edges(
     requires { All (λ e. (e.from < a.now.states) × (e.to < a.now.states)) edges.now }
     ensures { IfOk result (AreReachedEdges a.now.starts edges.now) }
 {
-    a.well_formed();
+    a.well_formedness();
     let graph = graph_of(alloc, a.states(), edges)?;
     let flags = reach(alloc, &graph, a.starts())?;
     flagged_edges(alloc, edges, flags.as_slice())

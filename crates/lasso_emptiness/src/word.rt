@@ -53,7 +53,7 @@ pub(crate) fn word_around(
     requires accepting { IsAccepting a.now.links (IsPassable a.now) a.now.formula cycle.now }
     ensures { IfOk result (IsOwnWord (automaton_of a.now)) }
 {
-    a.well_formed();
+    a.well_formedness();
     let stem = stem_to(alloc, a, passable, cycle[0].from)?;
     Ok(Lasso {
         stem: letters_along(alloc, a, stem.as_slice())?,
@@ -68,7 +68,7 @@ fn stem_to(alloc: Global, a: &Automaton, edges: &[EdgeRef], state: u32) -> Resul
     requires reached { ReachedFrom (map arc_of edges.now) a.now.starts state }
     ensures { IfOk result (IsStem a.now.starts edges.now state) }
 {
-    a.well_formed();
+    a.well_formedness();
     let flags = reaching(alloc, a.states(), edges, state)?;
     let mut stem = LiveEdges::new(alloc);
     match one_flagged(a.starts().as_slice(), flags.as_slice()) {
@@ -123,7 +123,7 @@ fn letter_on(alloc: Global, a: &Automaton, edge: EdgeRef) -> Result<Letter, Memo
     requires { IsPassable a.now edge }
     ensures { IfOk result (IsLetterOf a.now edge) }
 {
-    a.well_formed();
+    a.well_formedness();
     let guard = a.links()[edge.link].guard;
     match a.guards().pick(alloc, a.names(), guard)? {
         Some(letter) => Ok(letter),

@@ -30,7 +30,7 @@ pub fn classes_of_set(
         (λ cs. AreClassHandles (IsClassGuard a.now guards.new set.now) (length (set_classes (automaton_of a.now) set.now)) cs.items)) }
     ensures few { IfOk result (λ found. MatchOption found (Unit {0}) (λ cs. length (set_classes (automaton_of a.now) set.now) ≤ most)) }
 {
-    a.well_formed();
+    a.well_formedness();
     let list = set_guards(alloc, a, set)?;
     guards.classes(alloc, list, most)
 }

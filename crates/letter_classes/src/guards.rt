@@ -16,7 +16,7 @@ pub(crate) fn set_guards(alloc: Global, a: &Automaton, set: &[u32]) -> Result<Gu
     ensures has { IfOk result (All (Has a.now.store)) }
     ensures told { IfOk result (λ list. TellTheSame list (guards_from a.now set.now)) }
 {
-    a.well_formed();
+    a.well_formedness();
     let mut list = GuardList::new(alloc);
     'set: for state in set {
         push_new(&mut list, a.links_of(*state))?;

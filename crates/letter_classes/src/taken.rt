@@ -33,7 +33,7 @@ pub fn taken_at<T: Taking>(
     requires { All (λ q. q < a.now.states) set.now }
     ensures { IfOk result (λ found. found ≡ taken_of T.taken (reads_at a.now number) (set_edges (automaton_of a.now) set.now)) }
 {
-    a.well_formed();
+    a.well_formedness();
     let mut found = list;
     found.clear();
     'set: for state in set {
@@ -52,7 +52,7 @@ fn push_taken<T: Taking>(
     requires { state < a.now.states }
     ensures { OnOk result (found.new ≡ found.old ++ taken_of T.taken (reads_at a.now number) (edges_from state (automaton_of a.now).edges)) }
 {
-    a.well_formed();
+    a.well_formedness();
     'links: for link in a.links_of(state) {
         if !a.guards().holds_at(link.guard, number) {
             continue;

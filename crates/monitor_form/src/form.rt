@@ -53,9 +53,9 @@ pub fn monitor(alloc: Global, a: &Automaton) -> Result<Automaton, MonFault>
     ensures only_subsets { result ≡ Err MonFault.Subsets → MeetsLimit (automaton_of a.now) Fault.States }
 {
     let buchi = to_buchi(alloc, a)?;
-    buchi.well_formed();
+    buchi.well_formedness();
     let pruned = prune(alloc, &buchi)?;
-    pruned.well_formed();
+    pruned.well_formedness();
     subset_form(alloc, &pruned)
 }
 
@@ -68,7 +68,7 @@ fn subset_form(alloc: Global, b: &Automaton) -> Result<Automaton, MonFault>
     ensures terms { result ≡ Err MonFault.Terms → ⊥ }
     ensures buchi_states { result ≡ Err MonFault.BuchiStates → ⊥ }
 {
-    b.well_formed();
+    b.well_formedness();
     if b.starts().is_empty() {
         return Ok(without_states(alloc, b)?);
     }
@@ -93,7 +93,7 @@ fn without_states(alloc: Global, b: &Automaton) -> Result<Automaton, Memory>
     requires { length b.now.starts ≡ 0 }
     ensures { IfOk result (λ made. automaton_of made ≡ monitor_on [] [] (automaton_of b.now)) }
 {
-    b.well_formed();
+    b.well_formedness();
     Automaton::from_parts(
         alloc,
         copy_names(b.names())?,
@@ -119,7 +119,7 @@ fn built(
     requires sound { IsSound (FitsStore b.now guards) (IsClassGuard b.now guards) (λ _ _ _. ⊤) MOST_SUBSETS found.now.states.keys found.now.edges.items }
     ensures { IfOk result (λ made. automaton_of made ≡ monitor_on found.now.states.keys (map transition_of found.now.edges.items) (automaton_of b.now)) }
 {
-    b.well_formed();
+    b.well_formedness();
     class_form(alloc, b, guards, found, &WithoutMarks, 0, Formula::True)
 }
 

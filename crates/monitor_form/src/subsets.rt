@@ -75,7 +75,7 @@ impl<'a> TransitionSystem for Subsets<'a> {
         _number: u32,
         class: Guard,
     ) -> Result<Option<(Numbers, ())>, StepFault> {
-        self.automaton.well_formed();
+        self.automaton.well_formedness();
         let Some(number) = self.guards.guards().meeting(class) else {
             unreachable!()
         };

@@ -32,9 +32,9 @@ pub fn complement(alloc: Global, a: &Automaton) -> Result<Automaton, CompFault>
     ensures within { (IsDeterministic (automaton_of a.now) → ⊥) → OnOk result (IsWithinParity (automaton_of a.now)) }
     ensures passed_terms { (IsDeterministic (automaton_of a.now) → ⊥) → NeedsTooManyTerms a.now.formula → result ≡ Err CompFault.Terms }
 {
-    a.well_formed();
+    a.well_formedness();
     let own = deterministic_form(alloc, a)?;
-    own.well_formed();
+    own.well_formedness();
     let formula = dual(alloc, own.formula())?;
     Ok(own.with_formula(formula))
 }
@@ -53,7 +53,7 @@ fn deterministic_form(alloc: Global, a: &Automaton) -> Result<Automaton, CompFau
     ensures within { (IsDeterministic (automaton_of a.now) → ⊥) → OnOk result (IsWithinParity (automaton_of a.now)) }
     ensures passed_terms { (IsDeterministic (automaton_of a.now) → ⊥) → NeedsTooManyTerms a.now.formula → result ≡ Err CompFault.Terms }
 {
-    a.well_formed();
+    a.well_formedness();
     if a.is_deterministic() {
         return Ok(complete(alloc, a)?);
     }

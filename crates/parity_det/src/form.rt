@@ -60,8 +60,8 @@ pub fn determinise(alloc: Global, b: &Automaton) -> Result<Automaton, DetFault>
     ensures only_classes { result ≡ Err DetFault.Classes → MeetsTreeLimit (automaton_of b.now) Fault.Classes }
 {
     let pruned = prune(alloc, b)?;
-    b.well_formed();
-    pruned.well_formed();
+    b.well_formedness();
+    pruned.well_formedness();
     tree_form(alloc, &pruned)
 }
 
@@ -80,7 +80,7 @@ pub fn parity(alloc: Global, a: &Automaton) -> Result<Automaton, CompFault>
     ensures passed_terms { NeedsTooManyTerms a.now.formula → result ≡ Err CompFault.Terms }
 {
     let buchi = to_buchi(alloc, a)?;
-    buchi.well_formed();
+    buchi.well_formedness();
     Ok(determinise(alloc, &buchi)?)
 }
 
@@ -94,7 +94,7 @@ fn tree_form(alloc: Global, b: &Automaton) -> Result<Automaton, DetFault>
     ensures nodes { result ≡ Err DetFault.Nodes → MeetsFirst (automaton_of b.now) Fault.StepFailed }
     ensures classes { result ≡ Err DetFault.Classes → MeetsFirst (automaton_of b.now) Fault.Classes }
 {
-    b.well_formed();
+    b.well_formedness();
     let first = start(alloc, b.starts())?;
     let store = ClassStore::new(alloc, b.guards().copy(alloc)?);
     let mut system = Trees {
@@ -125,7 +125,7 @@ fn built(
     ensures few { IfOk result (λ made. made.sets ≤ 2 * MOST_NODES + 1) }
     ensures is { IfOk result (λ made. automaton_of made ≡ parity_on (map tree_of found.now.states.keys) (map transition_of found.now.edges.items) (automaton_of b.now)) }
 {
-    b.well_formed();
+    b.well_formedness();
     let most = width(found.states.as_slice());
     let sets = most + most + 1;
     let formula = parity_min_odd(alloc, sets)?;

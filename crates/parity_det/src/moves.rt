@@ -24,7 +24,7 @@ pub(crate) fn moves_at(
     ensures moves { IfOk result (λ moves. moves ≡ moves_of (reads_at a.now number) (set_edges (automaton_of a.now) set.now)) }
     ensures within { IfOk result (All (IsMoveInRange a.now.states)) }
 {
-    a.well_formed();
+    a.well_formedness();
     taken_at::<EdgeMoves>(list, a, set, number)
 }
 

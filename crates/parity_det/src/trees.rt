@@ -80,7 +80,7 @@ impl<'a> TransitionSystem for Trees<'a> {
         _number: u32,
         class: Guard,
     ) -> Result<Option<(SafraTree, Event)>, StepFault> {
-        self.automaton.well_formed();
+        self.automaton.well_formedness();
         let Some(number) = self.guards.guards().meeting(class) else {
             unreachable!()
         };

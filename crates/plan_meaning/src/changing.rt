@@ -44,7 +44,7 @@ pub fn change(
     ensures sized { IfOk result (λ made. (made.states < 2 ^ 32) × (made.sets < 2 ^ 32) × (length made.names ≤ MOST_NAMES)) }
 {
     let made = make_all(alloc, &changes(plan, operands), a)?;
-    made.well_formed();
+    made.well_formedness();
     Ok(made)
 }
 

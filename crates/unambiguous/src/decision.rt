@@ -22,7 +22,7 @@ pub fn is_unambiguous(alloc: Global, a: &Automaton) -> Result<bool, SquareFault>
     ensures few { OnOk result (HasMorePairs MOST_PAIRS (automaton_of a.now) (automaton_of a.now) → ⊥) }
     ensures many { IsErrOf result SquareFault.Pairs → HasMorePairs MOST_PAIRS (automaton_of a.now) (automaton_of a.now) }
 {
-    a.well_formed();
+    a.well_formedness();
     let parted = parted_square(alloc, a)?;
     let is_ambiguous = accepts_some(alloc, &parted)?;
     Ok(!is_ambiguous)

@@ -23,7 +23,7 @@ pub(crate) fn parted_square(alloc: Global, a: &Automaton) -> Result<Automaton, S
     ensures few { OnOk result (HasMorePairs MOST_PAIRS (automaton_of a.now) (automaton_of a.now) → ⊥) }
     ensures many { IsErrOf result SquareFault.Pairs → HasMorePairs MOST_PAIRS (automaton_of a.now) (automaton_of a.now) }
 {
-    a.well_formed();
+    a.well_formedness();
     let made = square(alloc, a)?;
     let mut guards = made.guards;
     let flags = twin_ends(alloc, &mut guards, a, &made.pairs)?;

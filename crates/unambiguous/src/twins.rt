@@ -23,7 +23,7 @@ pub(crate) fn twin_ends(
     ensures ends { IfOk result (λ flags. AreEnds a.now pairs.now.keys flags.items) }
     ensures flagged { IfOk result (λ flags. AreFlagged a.now pairs.now.keys flags.items (length a.now.links)) }
 {
-    a.well_formed();
+    a.well_formedness();
     let mut flags = vec![in alloc; false; a.states() as usize]?;
     let links = a.links();
     'links: for place in 0..links.len() {
@@ -48,7 +48,7 @@ fn has_twin(
     ensures keeps { Keeps guards.old guards.new }
     ensures twin { IfOk result (λ found. IsTrue found ↔ HasTwin a.now pairs.now.keys place) }
 {
-    a.well_formed();
+    a.well_formedness();
     let links = a.links();
     let link = link_at(links, place);
     if !is_paired(pairs, link.from) {

@@ -18,7 +18,7 @@ pub(crate) fn with_disjuncts(alloc: Global, a: Automaton) -> Result<Automaton, F
     ensures passed { HasTooManyTerms (automaton_of a) → result ≡ Err FormFault.Terms }
     ensures only_passed { result ≡ Err FormFault.Terms → HasTooManyTerms (automaton_of a) }
 {
-    a.well_formed();
+    a.well_formedness();
     let terms = disjuncts(alloc, a.formula())?;
     let formula = of_terms(alloc, &terms)?;
     Ok(a.with_formula(formula))

@@ -106,7 +106,7 @@ pub(crate) fn complete(alloc: Global, a: Automaton) -> Result<Automaton, PlanFau
     ensures steps { StepsChanges (Complete ∷ []) (automaton_of a) result }
     ensures size { IfOk result (λ made. IsOfLastSize (automaton_of made)) }
 {
-    a.well_formed();
+    a.well_formedness();
     if a.is_complete() {
         return Ok(a);
     }
@@ -118,6 +118,6 @@ fn completed(alloc: Global, a: &Automaton) -> Result<Automaton, PlanFault>
     ensures steps { StepsChanges (Complete ∷ []) (automaton_of a.now) result }
     ensures size { IfOk result (λ made. IsOfLastSize (automaton_of made)) }
 {
-    a.well_formed();
+    a.well_formedness();
     Ok(aut_ops::complete(alloc, a)?)
 }

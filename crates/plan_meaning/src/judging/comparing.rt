@@ -26,7 +26,7 @@ pub(crate) fn is_included(
     ensures kept { KeepsComplement (automaton_of other.now) kept.new }
     ensures stays { StaysKept kept.old kept.new }
 {
-    a.well_formed();
+    a.well_formedness();
     has_no_word_beside(alloc, a, other, kept)
 }
 
@@ -45,7 +45,7 @@ pub(crate) fn is_equivalent(
     ensures kept { KeepsComplement (automaton_of other.now) kept.new }
     ensures stays { StaysKept kept.old kept.new }
 {
-    a.well_formed();
+    a.well_formedness();
     let is_included = has_no_word_beside(alloc, a, other, kept)?;
     if !is_included {
         return Ok(false);

@@ -54,7 +54,7 @@ fn meets(alloc: Global, a: &Automaton, other: &Automaton) -> Result<bool, PlanFa
     requires { a.now.sets + other.now.sets < 2 ^ 32 }
     ensures { ExaminesFilter result (asked.Intersects (automaton_of other.now)) (automaton_of a.now) }
 {
-    a.well_formed();
+    a.well_formedness();
     let some = accept_together(alloc, a, other)?;
     Ok(some)
 }

@@ -14,6 +14,6 @@ pub(crate) fn is_unambiguous(alloc: Global, a: &Automaton) -> Result<bool, PlanF
     requires size { IsOfReadSize (automaton_of a.now) }
     ensures { ExaminesFilter result asked.IsUnambiguous (automaton_of a.now) }
 {
-    a.well_formed();
+    a.well_formedness();
     Ok(unambiguous::is_unambiguous(alloc, a)?)
 }

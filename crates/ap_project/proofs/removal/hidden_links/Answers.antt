@@ -11,8 +11,8 @@ use Rattle.ap_project.proofs.removal.hidden_links.Goals as goal
 pub hidden_guard-requires-clause-alone : goal.hidden_guard-requires-clause-alone
 hidden_guard-requires-clause-alone c none =
     let a = c.args.a.now in
-    let one = only_name a.names c.well_formed.ensures.well_formed.names_differ c.args.hiding.now.prop c.requires.prop (sym (c.links.invariant.names ∙ c.requires.names) ∙ none) in
-    c.links.invariant.given.names ∙ (c.well_formed.ensures.parts.store_names ∙ one)
+    let one = only_name a.names c.well_formedness.ensures.well_formed.names_differ c.args.hiding.now.prop c.requires.prop (sym (c.links.invariant.names ∙ c.requires.names) ∙ none) in
+    c.links.invariant.given.names ∙ (c.well_formedness.ensures.parts.store_names ∙ one)
 
 pub links-preserved : goal.links-preserved
 links-preserved c =
@@ -26,10 +26,10 @@ links-preserved c =
     let made = c.in_ok-guard.ensures.made in
     let found = c.in_ok-guard.guard in
     let names = made.names ∙ c.links.invariant.names in
-    let has : Has a.store link.guard = read_has (λ l. Has a.store l.guard) a.links c.links.link-index link (λ k d less. (c.well_formed.ensures.parts.links k d less).guard) within at in
+    let has : Has a.store link.guard = read_has (λ l. Has a.store l.guard) a.links c.links.link-index link (λ k d less. (c.well_formedness.ensures.parts.links k d less).guard) within at in
     let is = hidden_before c.hidden_guard.new.made c.links.invariant.given hiding.how hiding.prop hiding.to link.guard found has c.in_ok-guard.ensures.hidden in
-    let well_formed = c.well_formed.ensures.well_formed in
-    let parts = c.well_formed.ensures.parts in
+    let well_formed = c.well_formedness.ensures.well_formed in
+    let parts = c.well_formedness.ensures.parts in
     let label = hidden_label_in a.store c.hidden_guard.new.made a.names hiding.how hiding.prop hiding.to link.guard found
     c.requires.prop well_formed.names_differ parts.store_names (names ∙ c.requires.names) c.requires.places is in
     let marks = c.in_ok-copy_marks.ensures in

@@ -10,7 +10,7 @@ pub returns-clause-accepts : goal.returns-clause-accepts
 returns-clause-accepts c =
     let a = automaton_of c.args.a.now in
     IfOk-weaker c.without_name.result _ _ (λ made same. subst (λ (h : Automaton). AcceptsHidden c.args.how c.args.name.now a h) (sym same)
-    (hidden_accepts c.args.how c.args.name.now a c.well_formed.ensures.well_formed)) c.without_name.ensures
+    (hidden_accepts c.args.how c.args.name.now a c.well_formedness.ensures.well_formed)) c.without_name.ensures
 
 pub returns-clause-names : goal.returns-clause-names
 returns-clause-names c = IfOk-weaker c.without_name.result _ _ (λ made same. ap (λ (h : Automaton). h.names) same

@@ -5,4 +5,4 @@ use Rattle.aut_ops.proofs.completion.made_complete.Goals as goal
 
 pub returns-then-is_complete-clause-shape : goal.returns-then-is_complete-clause-shape
 returns-then-is_complete-clause-shape c =
-    sym (completed_same (automaton_of c.args.a.now) c.well_formed.ensures.well_formed (c.is_complete.ensures.0 c.if-is_complete.true))
+    sym (completed_same (automaton_of c.args.a.now) c.well_formedness.ensures.well_formed (c.is_complete.ensures.0 c.if-is_complete.true))

@@ -9,4 +9,4 @@ pub returns : goal.returns
 returns c =
     let guard = c.args.link.now.guard in
     let never = subst (λ (s : Store). IsTrue c.is_false.result ↔ IsNeverMet s guard) c.guards.ensures c.is_false.ensures.valuations in
-    ap not (never_is c.args.a.now.store guard c.is_false.result never ∙ ap (λ n. is_never n (label_in c.args.a.now.store guard)) c.well_formed.ensures.parts.store_names)
+    ap not (never_is c.args.a.now.store guard c.is_false.result never ∙ ap (λ n. is_never n (label_in c.args.a.now.store guard)) c.well_formedness.ensures.parts.store_names)

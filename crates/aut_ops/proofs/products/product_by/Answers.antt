@@ -38,7 +38,7 @@ returns-clause-accepts c =
     let has_too : All (Contains c.in_ok-names.names) c.args.b.now.names = subst (λ (ns : List (List ℕ)). All (Contains names) ns) c.names-2.ensures c.in_ok-names.ensures.both.second in
     let differ = c.as_slice-distinct.ensures.distinct in
     accepts_over c.args.join (automaton_of c.in_ok-product_over.field-0) a b (automaton_of c.in_ok-both.both.first) (automaton_of c.second.result.now) names
-    (record { differ = differ; has = has }) (record { differ = differ; has = has_too }) c.well_formed.ensures.well_formed c.well_formed-2.ensures.well_formed c.in_ok-both.ensures.first
+    (record { differ = differ; has = has }) (record { differ = differ; has = has_too }) c.well_formedness.ensures.well_formed c.well_formedness-2.ensures.well_formed c.in_ok-both.ensures.first
     (ap automaton_of c.second.ensures ∙ c.in_ok-both.ensures.second) c.in_ok-both.ensures.first_accepts
     (subst (λ (x : SymbolicAutomaton). AcceptTheSame (automaton_of x) b) (sym c.second.ensures) c.in_ok-both.ensures.second_accepts) c.in_ok-product_over.ensures.accepts
 

@@ -33,15 +33,15 @@ returns c =
     let complete = subst (λ (x : SymbolicAutomaton). IsComplete (automaton_of x)) (sym c.made_or-first.ensures) c.in_ok-made_first.ensures.complete in
     let complete_too = subst (λ (x : SymbolicAutomaton). IsComplete (automaton_of x)) (sym c.made_or-second.ensures) c.in_ok-made_second.ensures.complete in
     let names : joined_names one.names two.names ≡ joined_names a.names b.names =
-    λ i. joined_names ((ap (λ (x : Automaton). x.names) shape ∙ completed_names a c.well_formed.ensures.well_formed) i)
-    ((ap (λ (x : Automaton). x.names) shape_too ∙ completed_names b c.well_formed-2.ensures.well_formed) i) in
+    λ i. joined_names ((ap (λ (x : Automaton). x.names) shape ∙ completed_names a c.well_formedness.ensures.well_formed) i)
+    ((ap (λ (x : Automaton). x.names) shape_too ∙ completed_names b c.well_formedness-2.ensures.well_formed) i) in
     let first : over_both one two one ≡ over_both a b (completed a) = λ i. over_names (names i) (shape i) in
     let second : over_both one two two ≡ over_both a b (completed b) = λ i. over_names (names i) (shape_too i) in
     record {
       shape = IfOk-weaker c.product_by.result _ _ (λ made is. subst (λ (x : Automaton). IsProduct disj x (over_both a b (completed b)) (automaton_of made)) first
           (subst (λ (y : Automaton). IsProduct disj (over_both one two one) y (automaton_of made)) second is)) c.product_by.ensures.shape;
       accepts = IfOk-weaker c.product_by.result _ _ (λ made is. either_like (automaton_of made) one two a b accepts accepts_too
-          (is (complete_runs one c.well_formed-3.ensures.well_formed complete) (complete_runs two c.well_formed-4.ensures.well_formed complete_too)))
+          (is (complete_runs one c.well_formedness-3.ensures.well_formed complete) (complete_runs two c.well_formedness-4.ensures.well_formed complete_too)))
           c.product_by.ensures.accepts;
       within = on_ok_weaker c.product_by.result (λ h. subst (λ (ns : List (List ℕ)). length ns ≤ MOST_NAMES) names h) c.product_by.ensures.within;
       few = c.product_by.ensures.few;

@@ -14,7 +14,7 @@ product_parts-requires-clause-store c = keeps_none c.args.a.now.store
 pub returns-clause-accepts : goal.returns-clause-accepts
 returns-clause-accepts c =
     let a = automaton_of c.args.a.now in
-    let formed = c.well_formed.ensures.well_formed in
+    let formed = c.well_formedness.ensures.well_formed in
     let made = c.in_ok-product_parts.ensures in
     subst (λ (m : Automaton). ArePairwise m c.in_ok-product_parts.field-0.pairs.keys a a) (sym made.made.shape)
     (product_pairwise a a refl formed formed c.in_ok-product_parts.field-0.pairs.keys made.pairs)

@@ -12,4 +12,4 @@ returns-clause-accepts c =
     let b = automaton_of c.args.b.now in
     let useful = subst (AreUseful b) (sym c.as_slice.ensures) c.in_ok-useful.ensures in
     IfOk-weaker c.flagged_in_place.result _ _
-    (λ made e. subst (λ (x : Automaton). AcceptTheSame x b) (sym e) (useful_accepts b c.well_formed.ensures.well_formed c.as_slice.result.now useful c.requires.formula)) c.flagged_in_place.ensures
+    (λ made e. subst (λ (x : Automaton). AcceptTheSame x b) (sym e) (useful_accepts b c.well_formedness.ensures.well_formed c.as_slice.result.now useful c.requires.formula)) c.flagged_in_place.ensures

@@ -20,4 +20,4 @@ pub returns-then-eq-clause-second : goal.returns-then-eq-clause-second
 returns-then-eq-clause-second c =
     let same = same_names c.as_slice.result.now c.as_slice-2.result.now c.eq.result c.eq.ensures c.if-eq.true in
     let names : c.args.names.now ≡ c.args.b.now.names = sym c.as_slice.ensures.items ∙ (same ∙ (c.as_slice-2.ensures.items ∙ c.names.ensures)) in
-    sym (ap (λ ns. over_names ns (automaton_of c.args.b.now)) names ∙ over_own c.args.b.now c.well_formed.ensures)
+    sym (ap (λ ns. over_names ns (automaton_of c.args.b.now)) names ∙ over_own c.args.b.now c.well_formedness.ensures)

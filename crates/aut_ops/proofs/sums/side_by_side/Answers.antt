@@ -11,7 +11,7 @@ use Rattle.aut_ops.proofs.sums.side_by_side.Goals.{After-states}
 use Rattle.aut_ops.proofs.sums.side_by_side.Goals as goal
 
 pub either_condition-requires : goal.either_condition-requires
-either_condition-requires c = sets_within c.args.b.now c.well_formed-2.ensures (4294967296 - c.sets-sets.result) (formula_tree c.formula-2.result.now)
+either_condition-requires c = sets_within c.args.b.now c.well_formedness-2.ensures (4294967296 - c.sets-sets.result) (formula_tree c.formula-2.result.now)
     (omega (arith, c.sets-sets.ensures, c.requires.sets)) c.formula-2.ensures
 
 -- the sum as it is handed on
@@ -29,7 +29,7 @@ core c = record {
 is_sum : (c : After-states) → IsSide c.args.a.now c.args.b.now (core c)
 is_sum c = side c.args.a.now c.args.b.now c.in_ok-guards.guards c.in_ok-names.names c.in_ok-starts.starts c.states-states.result c.states.result c.sets-sets.result c.sets.result
     c.new-links.result c.push_links.new.links c.links.result.now c.push_moved.new.links c.links-3.result.now (formula_tree c.in_ok-formula.formula) (formula_tree c.formula.result.now)
-    (formula_tree c.formula-2.result.now) c.well_formed.ensures c.well_formed-2.ensures c.requires.names c.requires.store (c.in_ok-guards.ensures ∙ c.guards.ensures)
+    (formula_tree c.formula-2.result.now) c.well_formedness.ensures c.well_formedness-2.ensures c.requires.names c.requires.store (c.in_ok-guards.ensures ∙ c.guards.ensures)
     (c.in_ok-names.ensures ∙ c.names.ensures) (c.in_ok-starts.ensures ∙ (λ i. c.starts.ensures i ++ map (λ p. p + c.states-states.result) (c.starts-2.ensures i))) c.states-states.ensures
     c.states.ensures c.sets-sets.ensures c.sets.ensures c.new-links.ensures c.links.ensures c.in_ok-push_links.ensures c.links-3.ensures c.in_ok-push_moved.ensures c.formula.ensures
     c.formula-2.ensures c.in_ok-formula.ensures
@@ -45,4 +45,4 @@ returns-clause-accepts c =
     let a = automaton_of c.args.a.now in
     let b = automaton_of c.args.b.now in
     IfOk-weaker c.from_parts.result _ _ (λ made e. subst (λ (x : Automaton). AcceptsEither x a b) (sym (ap automaton_of e ∙ (is_sum (goal.at.returns-clause-accepts c).After-states).is))
-    (sum_accepts a b c.requires.names c.well_formed.ensures.well_formed c.well_formed-2.ensures.well_formed)) c.from_parts.ensures
+    (sum_accepts a b c.requires.names c.well_formedness.ensures.well_formed c.well_formedness-2.ensures.well_formed)) c.from_parts.ensures

@@ -38,7 +38,7 @@ pub from_parts-requires : goal.from_parts-requires
 from_parts-requires c =
     let at = (goal.at.from_parts-requires c).After-states in
     let room = room_of c.args.k c.args.states c.args.watches.now c.requires.some c.requires.room in
-    levelled_parts c.args.k (watch_of c.args.states c.args.watches.now) c.args.a.now (new at) c.well_formed.ensures room (are at)
+    levelled_parts c.args.k (watch_of c.args.states c.args.watches.now) c.args.a.now (new at) c.well_formedness.ensures room (are at)
 
 pub returns : goal.returns
 returns c =

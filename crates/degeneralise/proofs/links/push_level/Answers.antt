@@ -22,13 +22,13 @@ at_link a state i items l all are within is =
 
 pub link_at-requires-clause-from : goal.link_at-requires-clause-from
 link_at-requires-clause-from c =
-    let link = at_link c.args.a.now c.args.state c.links.link-index c.links_of-link-items.result.now c.link-item.result c.well_formed.ensures.parts.links c.links_of-link-items.ensures
+    let link = at_link c.args.a.now c.args.state c.links.link-index c.links_of-link-items.result.now c.link-item.result c.well_formedness.ensures.parts.links c.links_of-link-items.ensures
     c.links-test.true c.link-item.is in
     omega (arith, row_fits c.link-item.result.from c.args.k c.args.a.now.states c.args.k link.from (omega arith), c.requires.fit)
 
 pub link_at-requires-clause-to : goal.link_at-requires-clause-to
 link_at-requires-clause-to c =
-    let link = at_link c.args.a.now c.args.state c.links.link-index c.links_of-link-items.result.now c.link-item.result c.well_formed.ensures.parts.links c.links_of-link-items.ensures
+    let link = at_link c.args.a.now c.args.state c.links.link-index c.links_of-link-items.result.now c.link-item.result c.well_formedness.ensures.parts.links c.links_of-link-items.ensures
     c.links-test.true c.link-item.is in
     omega (arith, row_fits c.link-item.result.to c.args.k c.args.a.now.states c.args.k link.to (omega arith), c.requires.fit)
 
@@ -38,7 +38,7 @@ links-preserved c =
     let l = c.link-item.result in
     let made = c.in_ok-at_level.at_level in
     let its = c.in_ok-at_level.ensures in
-    let link = at_link c.args.a.now c.args.state c.links.link-index c.links_of-link-items.result.now l c.well_formed.ensures.parts.links c.links_of-link-items.ensures c.links-test.true
+    let link = at_link c.args.a.now c.args.state c.links.link-index c.links_of-link-items.result.now l c.well_formedness.ensures.parts.links c.links_of-link-items.ensures c.links-test.true
     c.link-item.is in
     let e : LabelledEdge = edge_at_level c.args.k c.args.watch.now c.args.level (edge_of s l) in
     let is : edge_of s made ≡ e = λ i. record { from = its.from i; label = label_in s (its.guard i); to = its.to i; marks = its.marks i } in

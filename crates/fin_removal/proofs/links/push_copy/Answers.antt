@@ -32,7 +32,7 @@ links-preserved c =
     let one = ap (λ b. before ++ cond b (edge_in n copy e ∷ []) []) (sym c.if-not-meets_all.ensures) in
     let given = c.links-link-items.ensures in
     let link : IsLinkOf c.args.a.now l = subst (IsLinkOf c.args.a.now) (sym (c.link-item.is ∙ ap (λ ls. get_or ls c.links.link-index l) given))
-    (c.well_formed.ensures.parts.links c.links.link-index l (omega (arith, ap length given, c.links-test.true))) in
+    (c.well_formedness.ensures.parts.links c.links.link-index l (omega (arith, ap length given, c.links-test.true))) in
     let states : c.states.result ≡ n = c.states.ensures in
     let marks = c.in_ok-marks_in.ensures in
     subst (λ (es : List LabelledEdge). AddsLinks s c.args.links.now c.push.new.self es) (sym (more ∙ one))

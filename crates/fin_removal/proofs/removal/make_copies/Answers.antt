@@ -67,7 +67,7 @@ are c = record {
 pub from_parts-requires : goal.from_parts-requires
 from_parts-requires c =
     let at = (goal.at.from_parts-requires c).After-all_sets in
-    copied_parts c.args.a.now (new at) c.args.listed.now c.in_ok-copies.copies c.in_ok-owned.owned c.well_formed.ensures (are at)
+    copied_parts c.args.a.now (new at) c.args.listed.now c.in_ok-copies.copies c.in_ok-owned.owned c.well_formedness.ensures (are at)
 
 pub returns : goal.returns
 returns c =

@@ -11,7 +11,7 @@ use Rattle.hoa_writer.proofs.text.JoinedTexts.{seven_written}
 use Rattle.hoa_writer.proofs.write.push_header.Goals as goal
 
 pub push_names-requires : goal.push_names-requires
-push_names-requires c = subst (λ (ns : List (List ℕ)). length ns ≤ MOST_NAMES) (sym (c.as_slice-2.ensures.items ∙ c.names.ensures)) c.well_formed.ensures.parts.few
+push_names-requires c = subst (λ (ns : List (List ℕ)). length ns ≤ MOST_NAMES) (sym (c.as_slice-2.ensures.items ∙ c.names.ensures)) c.well_formedness.ensures.parts.few
 
 pub returns : goal.returns
 returns c =

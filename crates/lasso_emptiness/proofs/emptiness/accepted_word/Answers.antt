@@ -27,7 +27,7 @@ accepting_cycle-requires-clause-within c =
     subst (λ (es : List EdgeRef). All (IsEdgeInRange (length c.links.result.now) c.states.result) es) (sym c.as_slice-in-Some.ensures)
     (subst (λ (ls : List Link). All (IsEdgeInRange (length ls) c.states.result) c.in-Some.component) (sym c.links.ensures)
     (subst (λ n. All (IsEdgeInRange (length a.links) n) c.in-Some.component) (sym c.states.ensures)
-    (each_there (IsEdgeInRange (length a.links) a.states) c.in-Some.component (λ e here. passable_within a c.well_formed.ensures e (carrier.kind e here).passable))))
+    (each_there (IsEdgeInRange (length a.links) a.states) c.in-Some.component (λ e here. passable_within a c.well_formedness.ensures e (carrier.kind e here).passable))))
 
 pub word_around-requires-clause-reached : goal.word_around-requires-clause-reached
 word_around-requires-clause-reached c = λ e here.

@@ -18,7 +18,7 @@ use Rattle.lasso_emptiness.proofs.emptiness.accepting_component.Goals as goal
 pub reached_edges-requires : goal.reached_edges-requires
 reached_edges-requires c =
     each_there (λ (e : EdgeRef). (e.from < c.args.a.now.states) × (e.to < c.args.a.now.states)) c.args.passable.now
-    (λ e here. let within = passable_within c.args.a.now c.well_formed.ensures e (c.requires.each e here) in (within.from, within.to))
+    (λ e here. let within = passable_within c.args.a.now c.well_formedness.ensures e (c.requires.each e here) in (within.from, within.to))
 
 pub search-requires : goal.search-requires
 search-requires c =
@@ -28,7 +28,7 @@ search-requires c =
     (subst (λ (ls : List Link). All (IsEdgeInRange (length ls) c.states.result) reached) (sym c.links.ensures)
     (subst (λ n. All (IsEdgeInRange (length a.links) n) reached) (sym c.states.ensures)
     (each_there (IsEdgeInRange (length a.links) a.states) reached
-    (λ e here. passable_within a c.well_formed.ensures e (c.requires.each e (leaves_reached a.starts c.args.passable.now reached c.in_ok-reached.ensures e here).0)))))
+    (λ e here. passable_within a c.well_formedness.ensures e (c.requires.each e (leaves_reached a.starts c.args.passable.now reached c.in_ok-reached.ensures e here).0)))))
 
 pub returns : goal.returns
 returns c =
@@ -37,6 +37,6 @@ returns c =
     let reached = c.in_ok-reached.reached in
     IfOk-weaker c.search.result (Finds c.links.result.now (Contains c.as_slice.result.now) (formula_tree c.formula.result.now))
     (λ found. MatchOption found (AcceptsNothing (automaton_of a)) (IsAcceptingComponent a.links (IsReachedEdge a passable) a.formula))
-    (λ found finds. component_said a c.well_formed.ensures passable reached c.requires c.in_ok-reached.ensures found
+    (λ found finds. component_said a c.well_formedness.ensures passable reached c.requires c.in_ok-reached.ensures found
     (finds_in c.links.result.now a.links c.as_slice.result.now reached (formula_tree c.formula.result.now) a.formula found c.links.ensures c.as_slice.ensures c.formula.ensures finds))
     c.search.ensures

@@ -7,4 +7,4 @@ pub returns : goal.returns
 returns c =
     let a = c.args.a.now in
     let are = subst (ArePassable a) (sym c.as_slice.ensures) c.in_ok-passable.ensures in
-    some_accepted a c.well_formed.ensures c.as_slice.result.now c.in_ok-found.found c.is_some.result are c.is_some.ensures c.in_ok-found.ensures
+    some_accepted a c.well_formedness.ensures c.as_slice.result.now c.in_ok-found.found c.is_some.result are c.is_some.ensures c.in_ok-found.ensures

@@ -10,7 +10,7 @@ pub returns-in-Some : goal.returns-in-Some
 returns-in-Some c =
     let links = c.links.result.now in
     let link = get_or links c.args.edge.link c.index-links-edge.result in
-    picked_letter c.args.a.now c.well_formed.ensures c.args.edge c.requires links link c.guards.result.now c.names.result.now c.in-Some.letter c.links.ensures
+    picked_letter c.args.a.now c.well_formedness.ensures c.args.edge c.requires links link c.guards.result.now c.names.result.now c.in-Some.letter c.links.ensures
     (ap (λ (l : Link). get_or links c.args.edge.link l) c.index-links-edge.is) c.guards.ensures c.names.ensures
     (some_said (IsNeverMet c.guards.result.now link.guard) (IsLeastLetter c.guards.result.now c.names.result.now link.guard) c.in_ok-letter.field-0 c.in-Some.letter c.in-Some.is
     c.in_ok-letter.ensures)

@@ -14,13 +14,13 @@ use Rattle.lasso_emptiness.proofs.word.word_around.Goals as goal
 pub stem_to-requires-clause-ends : goal.stem_to-requires-clause-ends
 stem_to-requires-clause-ends c =
     each_there (λ (e : EdgeRef). (e.from < c.args.a.now.states) × (e.to < c.args.a.now.states)) c.args.passable.now
-    (λ e here. let within = passable_within c.args.a.now c.well_formed.ensures e (c.requires.passable.each e here) in (within.from, within.to))
+    (λ e here. let within = passable_within c.args.a.now c.well_formedness.ensures e (c.requires.passable.each e here) in (within.from, within.to))
 
 pub stem_to-requires-clause-state : goal.stem_to-requires-clause-state
 stem_to-requires-clause-state c =
     let first = listed_edge c.args.cycle.now 0 in
     let here = Contains-get_or c.args.cycle.now 0 _ c.requires.accepting.some in
-    (passable_within c.args.a.now c.well_formed.ensures first
+    (passable_within c.args.a.now c.well_formedness.ensures first
     (trail_kind (IsPassable c.args.a.now) c.requires.accepting.state c.requires.accepting.state c.args.cycle.now first c.requires.accepting.closed here)).from
 
 pub stem_to-requires-clause-reached : goal.stem_to-requires-clause-reached

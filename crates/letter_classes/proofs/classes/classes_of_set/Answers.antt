@@ -4,10 +4,10 @@ use Rattle.letter_classes.proofs.classes.classes_of_set.Goals as goal
 
 pub returns-clause-classes : goal.returns-clause-classes
 returns-clause-classes c =
-    set_answer c.args.a.now c.well_formed.ensures c.args.set.now c.in_ok-list.list c.in_ok-list.ensures.told c.args.guards.now c.classes.new.self c.requires.store
+    set_answer c.args.a.now c.well_formedness.ensures c.args.set.now c.in_ok-list.list c.in_ok-list.ensures.told c.args.guards.now c.classes.new.self c.requires.store
     (keeps_on c.requires.store c.classes.ensures.keeps) c.args.most c.classes.result (λ cs. cs.items) c.classes.ensures.classes
 
 pub returns-clause-few : goal.returns-clause-few
 returns-clause-few c =
-    few_answer c.args.a.now c.well_formed.ensures c.args.set.now c.in_ok-list.list c.in_ok-list.ensures.told c.args.guards.now c.classes.new.self c.requires.store
+    few_answer c.args.a.now c.well_formedness.ensures c.args.set.now c.in_ok-list.list c.in_ok-list.ensures.told c.args.guards.now c.classes.new.self c.requires.store
     (keeps_on c.requires.store c.classes.ensures.keeps) c.args.most c.classes.result (λ cs. cs.items) c.classes.ensures.classes c.classes.ensures.few

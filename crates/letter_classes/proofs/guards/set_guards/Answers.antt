@@ -13,4 +13,4 @@ pub returns-clause-has : goal.returns-clause-has
 returns-clause-has c =
     let a = c.args.a.now in
     let told : TellTheSame c.set.list (guards_from a c.args.set.now) = returns-clause-told c in
-    told_has a.store c.set.list (guards_from a c.args.set.now) told (guards_has a c.well_formed.ensures c.args.set.now)
+    told_has a.store c.set.list (guards_from a c.args.set.now) told (guards_has a c.well_formedness.ensures c.args.set.now)

@@ -5,7 +5,7 @@ use Rattle.letter_classes.specs.Taken.{reads_at}
 use Rattle.letter_classes.proofs.taken.push_taken.Goals as goal
 
 pub holds_at-requires : goal.holds_at-requires
-holds_at-requires g c = row_guard c.args.a.now c.well_formed.ensures c.args.state c.links.link-index c.links_of-link-items.result.now c.link-item.result _ c.links_of-link-items.ensures
+holds_at-requires g c = row_guard c.args.a.now c.well_formedness.ensures c.args.state c.links.link-index c.links_of-link-items.result.now c.link-item.result _ c.links_of-link-items.ensures
     c.links-test.true c.link-item.is c.guards.ensures
 
 pub returns : goal.returns

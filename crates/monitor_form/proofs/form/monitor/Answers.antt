@@ -5,11 +5,11 @@ use Rattle.monitor_form.proofs.form.monitor.Goals as goal
 
 pub returns-clause-accepts : goal.returns-clause-accepts
 returns-clause-accepts c = IfOk-weaker c.subset_form.result _ _ (λ made shape. accepts_prefixes (automaton_of c.args.a.now) (automaton_of c.in_ok-buchi.buchi) (automaton_of c.in_ok-pruned.pruned)
-    (automaton_of made) c.in_ok-buchi.ensures.accepts c.in_ok-pruned.ensures.accepts c.well_formed.ensures.well_formed c.in_ok-buchi.ensures.formula c.in_ok-pruned.ensures.shape
-    c.well_formed-2.ensures.well_formed shape) c.subset_form.ensures.shape
+    (automaton_of made) c.in_ok-buchi.ensures.accepts c.in_ok-pruned.ensures.accepts c.well_formedness.ensures.well_formed c.in_ok-buchi.ensures.formula c.in_ok-pruned.ensures.shape
+    c.well_formedness-2.ensures.well_formed shape) c.subset_form.ensures.shape
 
 pub returns-clause-deterministic : goal.returns-clause-deterministic
-returns-clause-deterministic c = IfOk-weaker c.subset_form.result _ _ (λ made shape. form_deterministic (automaton_of c.in_ok-pruned.pruned) (automaton_of made) c.well_formed-2.ensures.well_formed
+returns-clause-deterministic c = IfOk-weaker c.subset_form.result _ _ (λ made shape. form_deterministic (automaton_of c.in_ok-pruned.pruned) (automaton_of made) c.well_formedness-2.ensures.well_formed
     shape) c.subset_form.ensures.shape
 
 pub returns-clause-within : goal.returns-clause-within

@@ -10,7 +10,7 @@ use Rattle.parity_det.proofs.complements.complement.Goals as goal
 pub with_formula-requires : goal.with_formula-requires
 with_formula-requires c =
     subst (SetsBelow c.in_ok-own.own.sets) (sym (c.in_ok-formula.ensures.tree ∙ ap dual c.formula.ensures))
-    (dual_below c.in_ok-own.own.sets c.in_ok-own.own.formula c.well_formed-2.ensures.well_formed.formula)
+    (dual_below c.in_ok-own.own.sets c.in_ok-own.own.formula c.well_formedness-2.ensures.well_formed.formula)
 
 pub returns-clause-complements : goal.returns-clause-complements
 returns-clause-complements c =
@@ -19,4 +19,4 @@ returns-clause-complements c =
     let same = ap (λ (k : SymbolicAutomaton). automaton_of k) c.with_formula.ensures
     ∙ ap (λ (f : FormulaTree). automaton_of (record c.in_ok-own.own { formula = f })) (c.in_ok-formula.ensures.tree ∙ ap dual c.formula.ensures) in
     subst (AreComplementLanguages a) (sym same) (complements_of_the_same a own (dualised own) c.in_ok-own.ensures.accepts
-    (dual_is_complement own c.well_formed-2.ensures.well_formed c.in_ok-own.ensures.deterministic c.in_ok-own.ensures.complete))
+    (dual_is_complement own c.well_formedness-2.ensures.well_formed c.in_ok-own.ensures.deterministic c.in_ok-own.ensures.complete))

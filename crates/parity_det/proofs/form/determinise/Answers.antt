@@ -8,7 +8,7 @@ returns-clause-accepts c =
     let b = automaton_of c.args.b.now in
     let pruned = automaton_of c.in_ok-pruned.pruned in
     IfOk-weaker c.tree_form.result _ _ (λ made form. same_through (automaton_of made) pruned b
-    (form_accepts pruned (automaton_of made) c.well_formed-2.ensures.well_formed (pruned_formula b pruned c.in_ok-pruned.ensures.shape c.requires.formula) form) c.in_ok-pruned.ensures.accepts)
+    (form_accepts pruned (automaton_of made) c.well_formedness-2.ensures.well_formed (pruned_formula b pruned c.in_ok-pruned.ensures.shape c.requires.formula) form) c.in_ok-pruned.ensures.accepts)
     c.tree_form.ensures.shape
 
 pub returns-clause-shape : goal.returns-clause-shape

@@ -25,7 +25,7 @@ starts_below b is starts same = subst (λ xs. All (λ s. s < b.states) xs) (sym 
 
 pub explore-requires-clause-fits : goal.explore-requires-clause-fits
 explore-requires-clause-fits c = record {
-  states = c.in_ok-first.ensures.states c.args.b.now.states (starts_below c.args.b.now c.well_formed.ensures c.starts.result.now c.starts.ensures);
+  states = c.in_ok-first.ensures.states c.args.b.now.states (starts_below c.args.b.now c.well_formedness.ensures c.starts.result.now c.starts.ensures);
   keeps = subst (Keeps c.args.b.now.store) (sym (c.new-store.ensures ∙ (c.in_ok-copy.ensures ∙ c.guards.ensures))) (keeps_none c.args.b.now.store);
 }
 
@@ -33,7 +33,7 @@ pub built-requires-clause-keeps : goal.built-requires-clause-keeps
 built-requires-clause-keeps c =
     let first = tree_of c.in_ok-first.first in
     let fits : FitsStore c.args.b.now c.new-store.result (root_states first) = record {
-      states = c.in_ok-first.ensures.states c.args.b.now.states (starts_below c.args.b.now c.well_formed.ensures c.starts.result.now c.starts.ensures);
+      states = c.in_ok-first.ensures.states c.args.b.now.states (starts_below c.args.b.now c.well_formedness.ensures c.starts.result.now c.starts.ensures);
       keeps = subst (Keeps c.args.b.now.store) (sym (c.new-store.ensures ∙ (c.in_ok-copy.ensures ∙ c.guards.ensures))) (keeps_none c.args.b.now.store);
     } in
     let kept : FitsStore c.explore.new.system.automaton.now c.explore.new.system.guards (root_states first) = c.in_ok-found.ensures.keeps.fits first fits in
@@ -43,7 +43,7 @@ built-requires-clause-keeps c =
 started : (c : In_ok-first) → tree_of c.in_ok-first.first ≡ start_tree (automaton_of c.args.b.now)
 started c =
     let b = c.args.b.now in
-    c.in_ok-first.ensures.tree b.states (starts_below b c.well_formed.ensures c.starts.result.now c.starts.ensures) ∙ ap (first_tree b.states) c.starts.ensures
+    c.in_ok-first.ensures.tree b.states (starts_below b c.well_formedness.ensures c.starts.result.now c.starts.ensures) ∙ ap (first_tree b.states) c.starts.ensures
 
 pub built-requires-clause-explored : goal.built-requires-clause-explored
 built-requires-clause-explored c =

@@ -6,7 +6,7 @@ use Rattle.unambiguous.specs.Parted.{ArePartings, IsParted}
 use Rattle.unambiguous.proofs.parted.parted_square.Goals as goal
 
 pub partings-requires-clause-within : goal.partings-requires-clause-within
-partings-requires-clause-within c = states_within c.args.a.now c.well_formed.ensures c.in_ok-made.made.pairs.keys c.in_ok-made.ensures.pairs (length c.as_slice.result.now)
+partings-requires-clause-within c = states_within c.args.a.now c.well_formedness.ensures c.in_ok-made.made.pairs.keys c.in_ok-made.ensures.pairs (length c.as_slice.result.now)
     (ap (λ (fs : List Bool). length fs) c.as_slice.ensures.value ∙ c.in_ok-flags.ensures.ends.size)
 
 pub from_parts-requires : goal.from_parts-requires

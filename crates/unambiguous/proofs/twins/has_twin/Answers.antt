@@ -19,7 +19,7 @@ returns-then-other-link-clause-twin c =
     let there = read_at a.links c.links-links.result.now c.others.other_place other c.links-links.ensures c.link_at-other.ensures in
     let before : c.args.place < c.others.other_place = omega arith in (
       λ e. absurd (false≢true e),
-      λ twin. absurd (none_behind_others a c.well_formed.ensures c.args.pairs.now.keys c.args.place link at c.others.other_place other there before
+      λ twin. absurd (none_behind_others a c.well_formedness.ensures c.args.pairs.now.keys c.args.place link at c.others.other_place other there before
           c.others.invariant.none c.if-other-link.true twin.0 twin.1 twin.2),
     )
 
@@ -37,9 +37,9 @@ returns-then-branch-clause-twin c =
     let before : c.args.place < c.others.other_place = omega arith in
     let from : other.from ≡ link.from = omega arith in
     let doubled : is_doubled pairs link.from ≡ true = sym c.is_paired.ensures ∙ c.if-not-is_paired.false in
-    let meet = same_meet a c.well_formed.ensures c.others.guards c.args.place c.others.other_place link other true at there (keeps_on c.requires.keeps c.others.invariant.keeps)
+    let meet = same_meet a c.well_formedness.ensures c.others.guards c.args.place c.others.other_place link other true at there (keeps_on c.requires.keeps c.others.invariant.keeps)
     (sym c.if-branch.true ∙ c.in_ok-meet.ensures.meet) in
-    (λ _. found a c.well_formed.ensures pairs c.args.place link at c.others.other_place other there before c.others.invariant.none doubled from meet, λ _. refl)
+    (λ _. found a c.well_formedness.ensures pairs c.args.place link at c.others.other_place other there before c.others.invariant.none doubled from meet, λ _. refl)
 
 pub others-preserved : goal.others-preserved
 others-preserved c =
@@ -49,11 +49,11 @@ others-preserved c =
     let at = read_at a.links c.links-links.result.now c.args.place link c.links-links.ensures c.link_at-link.ensures in
     let there = read_at a.links c.links-links.result.now c.others.other_place other c.links-links.ensures c.link_at-other.ensures in
     let before : c.args.place < c.others.other_place = omega arith in
-    let apart = same_meet a c.well_formed.ensures c.others.guards c.args.place c.others.other_place link other false at there (keeps_on c.requires.keeps c.others.invariant.keeps)
+    let apart = same_meet a c.well_formedness.ensures c.others.guards c.args.place c.others.other_place link other false at there (keeps_on c.requires.keeps c.others.invariant.keeps)
     (sym c.if-branch.false ∙ c.in_ok-meet.ensures.meet) in
     record {
       keeps = keeps_on c.others.invariant.keeps c.meet.ensures.keeps;
-      none = one_less a c.well_formed.ensures c.args.pairs.now.keys c.args.place link at c.others.other_place other there before c.others.invariant.none apart;
+      none = one_less a c.well_formedness.ensures c.args.pairs.now.keys c.args.place link at c.others.other_place other there before c.others.invariant.none apart;
     }
 
 pub returns-clause-twin : goal.returns-clause-twin

@@ -24,8 +24,8 @@ links-preserved c =
     let at : slice_get a.links c.links.place ≡ Some link = ap (λ (ls : List Link). slice_get ls c.links.place) (sym c.links-links.ensures) ∙ sym c.link_at-link.ensures in
     record {
       keeps = keeps_on c.links.invariant.keeps c.has_twin.ensures.keeps;
-      ends = set_ends a c.well_formed.ensures pairs c.links.place link at c.links.flags.items c.links.invariant.ends (c.in_ok-has_twin.ensures.twin.0 c.if-not-branch.false);
-      flagged = set_flagged a c.well_formed.ensures pairs c.links.place link at c.links.flags.items c.links.invariant.ends c.links.invariant.flagged;
+      ends = set_ends a c.well_formedness.ensures pairs c.links.place link at c.links.flags.items c.links.invariant.ends (c.in_ok-has_twin.ensures.twin.0 c.if-not-branch.false);
+      flagged = set_flagged a c.well_formedness.ensures pairs c.links.place link at c.links.flags.items c.links.invariant.ends c.links.invariant.flagged;
     }
 
 pub returns-clause-flagged : goal.returns-clause-flagged

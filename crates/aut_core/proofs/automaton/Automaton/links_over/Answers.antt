@@ -28,7 +28,7 @@ links-preserved c =
     let names : AreNames c.bring_more.new.self c.args.names.now = (c.requires.names.0 ∙ sym kept.names, c.requires.names.1) in
     let brought = subst (λ (s : Store). IsGuardOf c.bring_more.new.self (λ on. truth_in s link.guard (λ k. on (slice_index_or c.args.to.now k 0))) c.in_ok-bring_more.field-0) c.guards.ensures
     c.in_ok-bring_more.ensures.brought in
-    let label = brought_label old.store c.bring_more.new.self old.names c.args.names.now c.args.to.now link.guard c.in_ok-bring_more.field-0 c.well_formed.ensures.parts.store_names names
+    let label = brought_label old.store c.bring_more.new.self old.names c.args.names.now c.args.to.now link.guard c.in_ok-bring_more.field-0 c.well_formedness.ensures.parts.store_names names
     c.requires.places brought in
     let marks = c.in_ok-copy_marks.ensures in
     record {

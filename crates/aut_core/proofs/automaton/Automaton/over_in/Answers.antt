@@ -36,7 +36,7 @@ returns-clause-over c =
 pub returns-clause-accepts : goal.returns-clause-accepts
 returns-clause-accepts c =
     let same = relabelled_is c.args.self.now c.args.names.now c.in_ok-copy_names.field-0 c.links_over.new.guards c.in_ok-links.links c.in_ok-copy_names.ensures c.in_ok-links.ensures.edges in
-    IfOk-weaker c.relabelled.result _ _ (λ made e. over_accepts_the_same c.args.self.now made c.args.names.now c.well_formed.ensures
+    IfOk-weaker c.relabelled.result _ _ (λ made e. over_accepts_the_same c.args.self.now made c.args.names.now c.well_formedness.ensures
     (record { differ = c.as_slice-distinct.ensures.distinct; has = c.requires.has }) (ap automaton_of e ∙ same)) c.relabelled.ensures
 
 pub returns-clause-keeps : goal.returns-clause-keeps

@@ -20,17 +20,17 @@ are c = c.in_ok-goals.ensures ∙ ap (λ qs. successor_set (automaton_of c.args.
 pub returns-then-is_empty-clause-step : goal.returns-then-is_empty-clause-step
 returns-then-is_empty-clause-step c =
     let at = (goal.at.returns-then-is_empty-clause-step c).In_ok-goals in
-    step_lacks c.args.self.now.automaton.now c.well_formed.ensures c.args.self.now.guards c.args.state.now c.args._number c.args.class c.requires.fits c.requires.class c.in-Some.number (meets at)
+    step_lacks c.args.self.now.automaton.now c.well_formedness.ensures c.args.self.now.guards c.args.state.now c.args._number c.args.class c.requires.fits c.requires.class c.in-Some.number (meets at)
     c.in_ok-goals.goals (are at) (sym c.if-is_empty.ensures)
 
 pub returns-clause-step : goal.returns-clause-step
 returns-clause-step c =
     let at = (goal.at.returns-clause-step c).In_ok-goals in
-    step_gives c.args.self.now.automaton.now c.well_formed.ensures c.args.self.now.guards c.args.state.now c.args._number c.args.class c.requires.fits c.requires.class c.in-Some.number (meets at)
+    step_gives c.args.self.now.automaton.now c.well_formedness.ensures c.args.self.now.guards c.args.state.now c.args._number c.args.class c.requires.fits c.requires.class c.in-Some.number (meets at)
     c.in_ok-goals.goals (are at) (sym c.if-is_empty.ensures)
 
 pub returns-clause-gives : goal.returns-clause-gives
 returns-clause-gives c =
     let at = (goal.at.returns-clause-gives c).In_ok-goals in
-    goals_fit c.args.self.now.automaton.now c.well_formed.ensures c.args.self.now.guards c.args.state.now c.args._number c.args.class c.requires.fits c.requires.class c.in-Some.number (meets at)
+    goals_fit c.args.self.now.automaton.now c.well_formedness.ensures c.args.self.now.guards c.args.state.now c.args._number c.args.class c.requires.fits c.requires.class c.in-Some.number (meets at)
     c.in_ok-goals.goals (are at)

@@ -14,7 +14,7 @@ use Rattle.parity_det.proofs.trees.TreesTransitionSystem.step.Goals as goal
 
 -- the moves are those of the class
 taken : (c : In_ok-moves) → c.in_ok-moves.moves ≡ class_moves (automaton_of c.args.self.now.automaton.now) (tree_of c.args.state.now) c.requires.class.valuation
-taken c = class_taken c.args.self.now.automaton.now c.well_formed.ensures c.args.self.now.guards (tree_of c.args.state.now) c.args._number c.args.class c.requires.fits c.requires.class
+taken c = class_taken c.args.self.now.automaton.now c.well_formedness.ensures c.args.self.now.guards (tree_of c.args.state.now) c.args._number c.args.class c.requires.fits c.requires.class
     c.root_states.result.now c.root_states.ensures c.in-Some.number
     (met_number c.args.self.now.guards _ c.args.class _ c.in-Some.number c.guards.ensures c.in-Some.is c.meeting.ensures) c.in_ok-moves.moves c.in_ok-moves.ensures.moves
 
@@ -27,7 +27,7 @@ returns-in-Ok-clause-step c =
     let s = c.args.self.now.guards in
     let t = tree_of c.args.state.now in
     let moves = taken (goal.at.returns-in-Ok-clause-step c).In_ok-moves in
-    step_gives a c.well_formed.ensures s t c.args._number c.args.class c.requires.fits c.requires.class c.in_ok-moves.moves moves (tree_of c.in-Ok.made.0)
+    step_gives a c.well_formedness.ensures s t c.args._number c.args.class c.requires.fits c.requires.class c.in_ok-moves.moves moves (tree_of c.in-Ok.made.0)
     (c.in-Ok.ensures.tree ∙ ap (λ n. pruned (grown n c.in_ok-moves.moves t)) c.states.ensures) c.in-Ok.ensures.few
 
 pub returns-in-Ok-clause-output : goal.returns-in-Ok-clause-output
@@ -36,7 +36,7 @@ returns-in-Ok-clause-output c =
     let s = c.args.self.now.guards in
     let t = tree_of c.args.state.now in
     let moves = taken (goal.at.returns-in-Ok-clause-output c).In_ok-moves in
-    step_told a c.well_formed.ensures s t c.args._number c.args.class c.requires.fits c.requires.class c.in_ok-moves.moves moves c.in-Ok.made.1
+    step_told a c.well_formedness.ensures s t c.args._number c.args.class c.requires.fits c.requires.class c.in_ok-moves.moves moves c.in-Ok.made.1
     (c.in-Ok.ensures.event ∙ ap (λ n. event_of n c.in_ok-moves.moves t) c.states.ensures)
 
 pub returns-in-Ok-clause-gives : goal.returns-in-Ok-clause-gives
@@ -52,5 +52,5 @@ returns-in-Err-clause-step c =
     let t = tree_of c.args.state.now in
     let moves = taken (goal.at.returns-in-Err-clause-step c).In_ok-moves in
     step_refused Event tree_of _ c.in-Err.fault c.step_fault.result c.step_fault.ensures (λ nodes.
-    step_fails a c.well_formed.ensures s t c.args._number c.args.class c.requires.fits c.requires.class c.in_ok-moves.moves moves
+    step_fails a c.well_formedness.ensures s t c.args._number c.args.class c.requires.fits c.requires.class c.in_ok-moves.moves moves
     (subst (λ n. MOST_NODES < length (pruned (grown n c.in_ok-moves.moves t))) c.states.ensures (c.in-Err.ensures.nodes (ap Err nodes))))

@@ -7,7 +7,7 @@ use Rattle.plan_meaning.proofs.changes.DisjunctiveForm.{disjunctive_accepts, dis
 use Rattle.plan_meaning.proofs.changing.disjunctive.with_disjuncts.Goals as goal
 
 pub with_formula-requires : goal.with_formula-requires
-with_formula-requires c = disjuncts_below c.args.a c.well_formed.ensures _ c.in_ok-terms.terms (c.in_ok-terms.ensures.list ∙ ap terms c.formula.ensures) c.in_ok-formula.ensures.tree
+with_formula-requires c = disjuncts_below c.args.a c.well_formedness.ensures _ c.in_ok-terms.terms (c.in_ok-terms.ensures.list ∙ ap terms c.formula.ensures) c.in_ok-formula.ensures.tree
 
 pub returns-clause-shape : goal.returns-clause-shape
 returns-clause-shape c =

@@ -5,4 +5,4 @@ use Rattle.plan_meaning.proofs.changing.shaping.completed.Goals as goal
 pub returns-clause-steps : goal.returns-clause-steps
 returns-clause-steps c =
     let r = c.in_ok-complete in
-    complete_made (automaton_of c.args.a.now) (automaton_of r.field-0) c.well_formed.ensures.well_formed r.ensures.shape r.ensures.complete r.ensures.deterministic r.ensures.accepts
+    complete_made (automaton_of c.args.a.now) (automaton_of r.field-0) c.well_formedness.ensures.well_formed r.ensures.shape r.ensures.complete r.ensures.deterministic r.ensures.accepts

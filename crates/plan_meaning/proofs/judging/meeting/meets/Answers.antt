@@ -5,4 +5,4 @@ use Rattle.plan_meaning.proofs.judging.meeting.meets.Goals as goal
 pub returns : goal.returns
 returns c =
     let said = c.in_ok-some.ensures in
-    examines_both (automaton_of c.args.a.now) (automaton_of c.args.other.now) c.in_ok-some.some c.well_formed.ensures.settled said.within said.few said.some
+    examines_both (automaton_of c.args.a.now) (automaton_of c.args.other.now) c.in_ok-some.some c.well_formedness.ensures.settled said.within said.few said.some

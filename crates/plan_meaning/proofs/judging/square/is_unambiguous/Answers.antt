@@ -5,4 +5,4 @@ use Rattle.plan_meaning.proofs.judging.square.is_unambiguous.Goals as goal
 pub returns : goal.returns
 returns c =
     let r = c.in_ok-is_unambiguous in
-    examined r.field-0 (automaton_of c.args.a.now) c.well_formed.ensures.settled r.ensures.few r.ensures.answer
+    examined r.field-0 (automaton_of c.args.a.now) c.well_formedness.ensures.settled r.ensures.few r.ensures.answer
