@@ -8,4 +8,5 @@ use Rattle.parity_det.proofs.moves.moves_at.Goals as goal
 pub returns-clause-within : goal.returns-clause-within
 returns-clause-within c =
     let a = c.args.a.now in
-    IfOk-weaker c.taken_at.result _ _ (λ moves is. subst (All (IsMoveInRange a.states)) (sym is) (moves_within a c.well_formedness.ensures c.args.set.now (reads_at a c.args.number))) c.taken_at.ensures
+    IfOk-weaker c.taken_at.result _ _ (λ moves is. subst (All (IsMoveInRange a.states)) (sym is) (moves_within a c.well_formedness.ensures c.args.set.now (reads_at a c.args.number)))
+    c.taken_at.ensures

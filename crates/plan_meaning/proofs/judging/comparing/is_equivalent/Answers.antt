@@ -14,5 +14,6 @@ pub returns-clause-examines : goal.returns-clause-examines
 returns-clause-examines c =
     let a = automaton_of c.args.a.now in
     let b = automaton_of c.args.other.now in
-    equivalent_if a b c.well_formedness.ensures.settled c.has_no_word_beside-2.result (subst (λ (x : Bool). ComparesInclusion (Ok x) a b) c.if-not-is_included.false c.in_ok-is_included.ensures.compares)
+    equivalent_if a b c.well_formedness.ensures.settled c.has_no_word_beside-2.result
+    (subst (λ (x : Bool). ComparesInclusion (Ok x) a b) c.if-not-is_included.false c.in_ok-is_included.ensures.compares)
     c.has_no_word_beside-2.ensures.compares
