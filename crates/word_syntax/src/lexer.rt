@@ -71,7 +71,7 @@ fn sign_token(byte: u8) -> Option<Token>
 
 // How often the sign stands at the front, up to twice.
 fn doubled(sign: u8, bytes: &[u8]) -> usize
-    ensures { result ≡ doubled sign bytes.now }
+    ensures { result ≡ sign_count sign bytes.now }
 {
     if bytes.len() > 1 && bytes[1] == sign {
         2
