@@ -1,4 +1,4 @@
--- Conditions without `Fin` on longer cycles, and any condition on cycles whose edges carry no set.
+-- Conditions without `Fin` on longer cycles, and any condition on cycles whose edges are in no acceptance set.
 use Rattle.std.proofs.Common.{◌≡◌, ◌∙◌, ℕ, ◌<◌, Bool, true, false, not, ◌&&◌, ◌||◌, List, [], ◌∷◌, ◌++◌, length, refl, sym, ap, arith, ⊎_elim}
 use Rattle.std.specs.List.{All, list_any, list_all}
 use Rattle.std.proofs.lemmas.Bool.{true≢false, and_parts, and_from, or_parts, or_cases, or_left, or_right}
@@ -52,7 +52,7 @@ module _ (cycle edges : List (List ℕ)) where
         (λ rest. or_right (met (cycle ++ edges) f) _ (some_met-longer fs parts.1 rest))
         (or_cases (met cycle f) (some_met cycle fs) holds)
 
--- a test over a list whose elements are all empty, where it is that of its elements under an operation that takes two alike for one
+-- a fold of a test over a list of empty marks is the test of empty marks, where the operation is idempotent
 over-empty : (op : Bool → Bool → Bool) (over : List (List ℕ) → Bool) (p : List ℕ → Bool) → ((marks : List ℕ) (cycle : List (List ℕ)) → over (marks ∷ cycle) ≡ op (p marks) (over cycle))
     → op (p []) (over []) ≡ p [] → op (p []) (p []) ≡ p [] → (cycle : List (List ℕ)) → 0 < length cycle → All (λ marks. marks ≡ []) cycle → over cycle ≡ p []
 over-empty op over p step once twice [] some empty = absurd (omega arith)

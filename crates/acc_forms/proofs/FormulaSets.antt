@@ -1,4 +1,4 @@
--- The sets of conditions that are made of others.
+-- The acceptance sets that occur in conditions made of others.
 use Rattle.std.proofs.Common.{◌+◌, ◌≤◌, ◌||◌, ℕ, Bool, true, false, cond, List, [], ◌∷◌, ◌++◌, arith}
 use Rattle.std.specs.List.{AllByRecursion}
 use Rattle.acc_forms.specs.Joined.{and_of, conj, conjuncts, disj, disjuncts, is_false, is_true, parts_list, some_of}

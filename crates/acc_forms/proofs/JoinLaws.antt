@@ -1,4 +1,4 @@
--- Joins: what they mean, and where a join is one of the two conditions.
+-- Joins: on which cycles they hold, and where a join is one of the two conditions.
 use Rattle.std.proofs.Common.{◌≡◌, ◌∙◌, ℕ, ◌+◌, Bool, true, false, not, cond, drop, Some, slice_get, ◌&&◌, ◌||◌, List, [], ◌∷◌, ◌++◌, refl, sym, ap, ⊎_elim}
 use Rattle.std.specs.List.{list_any, list_all}
 use Rattle.std.proofs.lemmas.Bool.{cases_Bool, or_cases, and_right, or_left, or_right, or_from}
@@ -25,7 +25,7 @@ trees-listed : (fs : FormulaTrees) → trees (parts_list fs) ≡ fs
 trees-listed none = refl
 trees-listed (more f fs) = ap (more f) (trees-listed fs)
 
--- the parts that a node gives
+-- the parts that an And or an Or contributes
 pub parts_under-And : (p : Formulas) → parts_under join.All (formula_tree (formula.And p)) ≡ formula_list p
 parts_under-And p = ap conjuncts (formula_tree-And p) ∙ ap (λ fs. (formula_parts p).first ∷ (formula_parts p).second ∷ fs) (listed-trees (formula_parts p).others)
 
@@ -38,7 +38,7 @@ parts_of-And j f p all is = ap (λ i. parts_under i (formula_tree f)) all ∙ ap
 pub parts_of-Or : (j : Join) (f : Formula) (p : Formulas) → j ≡ join.Any → f ≡ formula.Or p → parts_under j (formula_tree f) ≡ formula_list p
 parts_of-Or j f p any is = ap (λ i. parts_under i (formula_tree f)) any ∙ ap (λ g. disjuncts (formula_tree g)) is ∙ parts_under-Or p
 
--- the condition that outweighs any other, and the one that leaves any other as it is
+-- the condition that absorbs any other, and the neutral one
 abbrev sink : Join → FormulaTree
 sink join.All = False
 sink join.Any = True
@@ -61,12 +61,12 @@ is_sink join.Any (Fin set neg) h = absurd cc
 is_sink join.Any (And a b cs) h = absurd cc
 is_sink join.Any (Or a b cs) h = absurd cc
 
--- what is neutral in one join outweighs in the other
+-- a condition is neutral where it is the neutral one of the connective
 is_the_neutral : (j : Join) (f : FormulaTree) → is_neutral j f ≡ true → f ≡ neutral j
 is_the_neutral join.All = is_sink join.Any
 is_the_neutral join.Any = is_sink join.All
 
--- a join, by whether one of the two outweighs
+-- a join, by whether one of the two absorbs the other
 by_weight : (j : Join) (f g : FormulaTree) (b : Bool) → (outweighs j f || outweighs j g) ≡ b → joined_by j f g ≡ cond b (sink j) (node j (parts_under j f ++ parts_under j g))
 by_weight join.All f g b h = ap (λ x. cond x False (node join.All (conjuncts f ++ conjuncts g))) h
 by_weight join.Any f g b h = ap (λ x. cond x True (node join.Any (disjuncts f ++ disjuncts g))) h
@@ -115,7 +115,7 @@ second_neutral j f g h = neutral_right j f ∙ ap (joined_by j f) (sym (is_the_n
 pub first_neutral : (j : Join) (f g : FormulaTree) → is_neutral j f ≡ true → g ≡ joined_by j f g
 first_neutral j f g h = neutral_left j g ∙ ap (λ x. joined_by j x g) (sym (is_the_neutral j f h))
 
--- parts looked at one after the other, until one decides
+-- parts tested one after the other, until one decides
 pub pass_more : (j : Join) (p : FormulaTree → Bool) (fs : List FormulaTree) (k : ℕ) (f : FormulaTree) → slice_get fs k ≡ Some f → parts_pass j p (drop k fs) ≡ parts_pass j p fs
     → p f ≡ is_all j → parts_pass j p (drop (k + 1) fs) ≡ parts_pass j p fs
 pass_more join.All = all_more
@@ -126,7 +126,7 @@ pub decided_here : (j : Join) (p : FormulaTree → Bool) (fs : List FormulaTree)
 decided_here join.All = all_not_here
 decided_here join.Any = any_here
 
--- both, or one of the two
+-- the connective on truth values
 abbrev agree : Join → Bool → Bool → Bool
 agree join.All a b = a && b
 agree join.Any a b = a || b

@@ -1,4 +1,4 @@
--- The condition of parity automata holds where the least set that is carried is odd.
+-- The condition of parity automata holds exactly where the least set that is visited is odd.
 use Rattle.std.proofs.Common.{◌≡◌, ◌∙◌, ℕ, zero, suc, ◌+◌, ◌-◌, ◌%◌, ◌<◌, ◌≤◌, Bool, true, false, cond, not, ◌&&◌, ◌||◌, List, inl, inr, refl, sym, ap, subst, arith, ⊎_elim}
 use Rattle.std.specs.List.{list_any}
 use Rattle.std.proofs.lemmas.Bool.{cases_Bool, cases_eq, cases_lt, eq-eqb, ne_eqb, both_ways}
@@ -45,7 +45,7 @@ module _ (cycle : List (List ℕ)) where
   met-first true set rest = either_way (carried set) (met cycle rest)
   met-first false set rest = ap (λ x. x && (met cycle rest && true)) (all-not (is_in set) cycle) ∙ both_needed (carried set) (met cycle rest)
 
-  -- where the set is carried it decides
+  -- where the set is visited it decides
   here : (more set : ℕ) → carried set ≡ true → met cycle (parity_from more set) ≡ is_odd set
   here zero set is = met-atom (is_odd set) set ∙ ap (λ c. cond c (is_odd set) (not (is_odd set))) is
   here (suc more) set is = met-first (is_odd set) set (parity_from more (set + 1)) ∙ ap (λ c. cond c (is_odd set) (met cycle (parity_from more (set + 1)))) is
@@ -81,7 +81,7 @@ module _ (cycle : List (List ℕ)) where
       (λ is. says more (set + 1) n (omega arith) (none_up_to_next set below is) (sym (later more set is) ∙ holds))
       (cases_Bool (carried set))
 
-  -- the least one that is carried is where the first is that is
+  -- where no set before this one is visited and this one is, it is the least
   same_least : (n set : ℕ) → ((k : ℕ) → k < set → ¬ (IsCarried cycle k)) → carried set ≡ true → set < n → MinIsOdd n cycle → is_odd set ≡ true
   same_least n set below is within (inl l) =
       ⊎_elim

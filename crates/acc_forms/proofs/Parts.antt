@@ -1,4 +1,4 @@
--- What a condition's parts say of it, for each way to go down a condition.
+-- What holds of a condition by what holds of its parts, for each recursive function over conditions.
 use Rattle.std.proofs.Common.{◌≡◌, ◌∙◌, ℕ, zero, suc, ◌&&◌, ◌||◌, List, [], ◌∷◌, map, Some, slice_get, refl, sym, ap, subst}
 use Rattle.std.proofs.lemmas.Option.{same_Some, none-some}
 use Rattle.std.specs.List.{list_any, list_all}
@@ -20,7 +20,7 @@ some_met-trees : (cycle : List (List ℕ)) (fs : List FormulaTree) → some_met 
 some_met-trees cycle [] = refl
 some_met-trees cycle (f ∷ fs) = ap (λ b. met cycle f || b) (some_met-trees cycle fs)
 
--- the truth of parts under an And or an Or, where they are at least two
+-- the truth of a conjunction and of a disjunction of two parts or more
 pub met-all_of : (cycle : List (List ℕ)) (a b : FormulaTree) (cs : List FormulaTree) → met cycle (and_of (a ∷ b ∷ cs)) ≡ list_all (met cycle) (a ∷ b ∷ cs)
 met-all_of cycle a b cs = ap (λ rest. met cycle a && (met cycle b && rest)) (all_met-trees cycle cs)
 
@@ -73,11 +73,11 @@ shift-Or n p q parts =
     formula_tree-Or q ∙ ap some_of parts
     ∙ sym (ap (shift n) (formula_tree-Or p) ∙ ap (λ rest. FormulaTree.Or (shift n (formula_parts p).first) (shift n (formula_parts p).second) rest) (shifts-trees n (formula_parts p).others))
 
--- the sets of the part at a place
+-- the sets of the part at an index
 pub below-at : (n : ℕ) (fs : List FormulaTree) (place : ℕ) (part : FormulaTree) → slice_get fs place ≡ Some part → EachSetsBelow n (trees fs) → SetsBelow n part
 below-at n [] place part is below = absurd (none-some part is)
 below-at n (f ∷ fs) zero part is below = subst (SetsBelow n) (same_Some f part is) below.0
 below-at n (f ∷ fs) (suc place) part is below = below-at n fs place part is below.1
 
--- by which a function that goes over parts ends
+-- the sizes of parts, by which a recursion over them ends
 pub ruleset part_sizes = (formula_size-at)

@@ -14,7 +14,7 @@ same_test n set mark least =
     (λ differ. ne_eqb mark (set + n) differ ∙ sym (ne_eqb (mark - n) set (λ h. differ (omega arith))))
     (cases_eq mark (set + n))
 
--- one mark
+-- a single mark
 mark_in : (n set mark : ℕ) (rest : List ℕ)
     → (nat_eq mark (set + n) || list_any (λ m. nat_eq m set) (map (λ m. m - n) rest)) ≡ list_any (λ m. nat_eq m set) (map (λ m. m - n) (cond (nat_le n mark) (mark ∷ rest) rest))
 mark_in n set mark rest =
@@ -58,7 +58,7 @@ module _ (n : ℕ) (cycle : List (List ℕ)) where
     some_met-shifts none = refl
     some_met-shifts (more f fs) = ap (λ x. x || some_met cycle (shifts n fs)) (met-shift f) ∙ ap (λ x. met (lowered n cycle) f || x) (some_met-shifts fs)
 
--- raised and lowered again
+-- marks that are raised and lowered again are the same
 lower-raise : (n : ℕ) (marks : List ℕ) → map (λ mark. mark - n) (filter (nat_le n) (map (λ mark. mark + n) marks)) ≡ marks
 lower-raise n [] = refl
 lower-raise n (mark ∷ marks) =

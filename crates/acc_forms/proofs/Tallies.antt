@@ -1,4 +1,4 @@
--- The tally of joined terms.
+-- The numbers of terms and literals of joins.
 use Rattle.std.proofs.Common.{◌≡◌, ◌∙◌, ℕ, ◌+◌, ◌*◌, ◌-◌, ◌^◌, min, List, length, map, take, ◌++◌, [], ◌∷◌, Some, slice_get, sym, ap}
 use Rattle.std.specs.List.{flat_map}
 use Rattle.std.proofs.lemmas.List.{map-append, append-nil}
@@ -40,7 +40,7 @@ times_tally a b xs ys number first second all is_a is_b is_number is_first is_se
     let make : ℕ → ℕ → Tally = λ (t : ℕ) (l : ℕ). record { terms = t; literals = l } in
     ap (λ n. make n all) product ∙ ap (λ n. make (min (length (pairs xs ys)) s) n) sum
 
--- the choices, and the terms, of one more part
+-- the choices of terms, and the terms, once a part is added
 pub choices_more : (fs : List FormulaTree) (place : ℕ) (f : FormulaTree) → slice_get fs place ≡ Some f
     → choices (map terms (take (place + 1) fs)) ≡ pairs (choices (map terms (take place fs))) (terms f)
 choices_more fs place f is =

@@ -1,4 +1,4 @@
--- The terms of a condition hold where it does, and the condition of terms where they do.
+-- A condition holds exactly where one of its terms does, and the condition of given terms exactly where one of them does.
 use Rattle.std.proofs.Common.{◌≡◌, ◌∙◌, ℕ, Bool, true, ◌&&◌, ◌||◌, List, [], ◌∷◌, map, refl, sym, ap}
 use Rattle.std.specs.List.{list_all, flat_map, fold}
 use Rattle.std.proofs.lemmas.List.Folds.{list_any-append, flat_map-map}
@@ -47,7 +47,7 @@ module _ (cycle : List (List ℕ)) where
         ap (λ x. x || some_met cycle fs) (met-terms f) ∙ ap (λ x. some_term_met cycle (terms f) || x) (some_met-each fs)
         ∙ sym (list_any-append (list_all (holds cycle)) (terms f) (flat_map (λ those. those) (each_terms fs)))
 
--- a term's literals joined to what there is
+-- a condition to which a term's literals are joined one by one
 met-fold_conj : (cycle : List (List ℕ)) (f : FormulaTree) (literals : List Literal)
     → met cycle (fold (λ g literal. conj g (literal_formula literal)) f literals) ≡ (met cycle f && list_all (holds cycle) literals)
 met-fold_conj cycle f [] = sym (and-true (met cycle f))

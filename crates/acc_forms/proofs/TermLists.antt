@@ -34,7 +34,7 @@ pairs-one_right : (xs : List (List Literal)) → pairs xs ([] ∷ []) ≡ xs
 pairs-one_right [] = refl
 pairs-one_right (x ∷ xs) = ap (λ v. v ∷ pairs xs ([] ∷ [])) (append-nil x) ∙ ap (λ vs. x ∷ vs) (pairs-one_right xs)
 
--- the choices with one more list
+-- the choices once a list is added
 pub choices-push : (ts : List (List (List Literal))) (t : List (List Literal)) → choices (ts ++ t ∷ []) ≡ pairs (choices ts) t
 choices-push [] t = pairs-one_right t ∙ sym (pairs-one_left t)
 choices-push (u ∷ us) t = ap (pairs u) (choices-push us t) ∙ sym (pairs_assoc u (choices us) t)
@@ -66,7 +66,7 @@ literals-pairs (x ∷ xs) ys =
     let sum : literals (pairs (x ∷ xs) ys) ≡ (length x + literals xs) * length ys + literals ys * length (x ∷ xs) = omega arith in
     sum ∙ sym (ap (λ n. n * length ys + literals ys * length (x ∷ xs)) own)
 
--- a literal's test on joined terms
+-- a test of all literals, on joined terms
 any-joined : (p : Literal → Bool) (x : List Literal) (ys : List (List Literal)) → list_any (list_all p) (map (λ y. x ++ y) ys) ≡ (list_all p x && list_any (list_all p) ys)
 any-joined p x [] = none_and (list_all p x)
   where
@@ -85,7 +85,7 @@ any-pairs p (x ∷ xs) ys =
     ∙ ap (λ b. list_any (list_all p) (map (λ y. x ++ y) ys) || b) (any-pairs p xs ys)
     ∙ or_and (list_all p x) (list_any (list_all p) xs) _ (list_any (list_all p) ys) (any-joined p x ys)
 
--- the pairs with one more first term
+-- the pairs once a first term is added
 pub pairs_more : (xs ys : List (List Literal)) (i : ℕ) (x : List Literal) (old new : List (List Literal)) → i < length xs → x ≡ get_or xs i x → old ≡ pairs (take i xs) ys
     → new ≡ old ++ map (λ y. x ++ y) ys → new ≡ pairs (take (i + 1) xs) ys
 pairs_more xs ys i x old new within is so_far made =

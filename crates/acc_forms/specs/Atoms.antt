@@ -1,9 +1,9 @@
--- Which atoms stand in a condition.
+-- Whether a condition has an atom `Fin`.
 use Rattle.std.specs.Prelude.{Bool, true, false, ◌||◌}
 use Rattle.aut_base.specs.Formula.{FormulaTree, FormulaTrees, True, False, Inf, Fin, And, Or, none, more}
 
--- Whether some `Fin` stands in it. Law: one without `Fin` that holds on a cycle holds on each that has more edges
--- behind these.
+-- Whether some `Fin` occurs in the condition. Law: a condition without `Fin` that holds on a cycle holds on each cycle that has
+-- further edges after these.
 abbrev mutual
   pub has_fin : FormulaTree → Bool
   has_fin True = false

@@ -1,31 +1,31 @@
--- Two conditions joined by And or by Or.
+-- Conjunction and disjunction of two conditions, as flat trees.
 use Rattle.std.specs.Prelude.{Bool, true, false, ◌||◌, if◌then◌else◌, List, [], ◌∷◌, ◌++◌}
 use Rattle.aut_base.specs.Formula.{FormulaTree, FormulaTrees, True, False, And, Or, none, more, trees}
 
--- a tree's parts behind the second, as a list
+-- a tree's parts after the second, as a list
 abbrev pub parts_list : FormulaTrees → List FormulaTree
 parts_list none = []
 parts_list (more f fs) = f ∷ parts_list fs
 
--- the parts that a condition gives to a conjunction: `t` none, an And its own, and any other itself
+-- the parts that a condition contributes to a conjunction: `t` none, an And its own parts, and any other itself
 abbrev pub conjuncts : FormulaTree → List FormulaTree
 conjuncts True = []
 conjuncts (And a b cs) = a ∷ b ∷ parts_list cs
 conjuncts f = f ∷ []
 
--- the parts that a condition gives to a disjunction: `f` none, an Or its own, and any other itself
+-- the parts that a condition contributes to a disjunction: `f` none, an Or its own parts, and any other itself
 abbrev pub disjuncts : FormulaTree → List FormulaTree
 disjuncts False = []
 disjuncts (Or a b cs) = a ∷ b ∷ parts_list cs
 disjuncts f = f ∷ []
 
--- these parts under an And, if they are two or more
+-- the conjunction of these parts, which is an And where they are two or more
 abbrev pub and_of : List FormulaTree → FormulaTree
 and_of [] = True
 and_of (f ∷ []) = f
 and_of (a ∷ b ∷ cs) = And a b (trees cs)
 
--- these parts under an Or, if they are two or more
+-- the disjunction of these parts, which is an Or where they are two or more
 abbrev pub some_of : List FormulaTree → FormulaTree
 some_of [] = False
 some_of (f ∷ []) = f
@@ -39,10 +39,10 @@ abbrev pub is_false : FormulaTree → Bool
 is_false False = true
 is_false f = false
 
--- Both. Law: it holds on a cycle exactly where both do.
+-- The conjunction. Law: it holds on a cycle exactly where both conditions do.
 abbrev pub conj : FormulaTree → FormulaTree → FormulaTree
 conj f g = if is_false f || is_false g then False else and_of (conjuncts f ++ conjuncts g)
 
--- One of the two. Law: it holds on a cycle exactly where one of them does.
+-- The disjunction. Law: it holds on a cycle exactly where one of the conditions does.
 abbrev pub disj : FormulaTree → FormulaTree → FormulaTree
 disj f g = if is_true f || is_true g then True else some_of (disjuncts f ++ disjuncts g)

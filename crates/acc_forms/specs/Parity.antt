@@ -1,4 +1,4 @@
--- The condition of parity automata, by the least set.
+-- The condition of parity automata (parity min odd), and when the least set that is visited is odd.
 use Rattle.std.specs.Prelude.{ℕ, zero, suc, ◌+◌, ◌-◌, ◌%◌, ◌<◌, Bool, false, ◌==◌, if◌then◌else◌, IsTrue, ◌⊎◌, List}
 use Rattle.std.specs.List.{list_any}
 use Rattle.aut_base.specs.Formula.{FormulaTree, Inf, Fin, And, Or, none}
@@ -11,14 +11,14 @@ is_odd n = n % 2 == 1
 abbrev pub parity_atom : ℕ → FormulaTree
 parity_atom set = if is_odd set then Inf set false else Fin set false
 
--- the condition of the sets from one on, where so many more follow it
+-- the condition over a set and as many more sets after it
 abbrev pub parity_from : ℕ → ℕ → FormulaTree
 parity_from zero set = parity_atom set
 parity_from (suc more) set =
     if is_odd set then Or (parity_atom set) (parity_from more (set + 1)) none
     else And (parity_atom set) (parity_from more (set + 1)) none
 
--- The condition of the first n sets. Law: it holds on a cycle exactly where MinIsOdd does.
+-- The condition over the first n sets. Law: it holds on a cycle exactly where MinIsOdd does.
 abbrev pub parity_min_odd : ℕ → FormulaTree
 parity_min_odd n = parity_from (n - 1) 0
 

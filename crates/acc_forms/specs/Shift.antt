@@ -1,4 +1,4 @@
--- A condition about sets with higher numbers.
+-- A condition with the numbers of its sets raised.
 use Rattle.std.specs.Prelude.{ℕ, ◌+◌, ◌-◌, nat_le, List, map}
 use Rattle.std.specs.List.{filter}
 use Rattle.aut_base.specs.Formula.{FormulaTree, FormulaTrees, True, False, Inf, Fin, And, Or, none, more}

@@ -1,4 +1,4 @@
--- The terms of a condition: each is a list of atoms, and the condition holds where all atoms of some term do.
+-- The terms of a condition's disjunctive normal form, their number and size, and the condition of given terms.
 use Rattle.std.specs.Prelude.{ℕ, max, length, Bool, List, [], ◌∷◌, ◌++◌, map}
 use Rattle.std.specs.Int.{div_ceil}
 use Rattle.std.specs.List.{list_any, list_all, flat_map, fold, sum_by}
@@ -16,7 +16,7 @@ literal_formula (Fin set neg) = FormulaTree.Fin set neg
 abbrev pub some_term_met : List (List ℕ) → List (List Literal) → Bool
 some_term_met cycle terms = list_any (λ term. list_all (λ literal. met cycle (literal_formula literal)) term) terms
 
--- each term of the first with each of the second joined to it; the choice from the first varies slowest
+-- each term of the first list joined with each of the second; the term of the first varies slowest
 abbrev pub pairs : List (List Literal) → List (List Literal) → List (List Literal)
 pairs firsts seconds = flat_map (λ first. map (λ second. first ++ second) seconds) firsts
 
@@ -25,7 +25,7 @@ abbrev pub choices : List (List (List Literal)) → List (List Literal)
 choices [] = [] ∷ []
 choices (terms ∷ rest) = pairs terms (choices rest)
 
--- The terms. Nothing is merged or dropped. Law: the condition holds on a cycle exactly where all atoms of some term do.
+-- The terms of a condition, none merged or dropped. Law: the condition holds on a cycle exactly where all atoms of some term do.
 abbrev mutual
   pub terms : FormulaTree → List (List Literal)
   terms True = [] ∷ []
@@ -43,14 +43,14 @@ abbrev mutual
 abbrev pub literals : List (List Literal) → ℕ
 literals terms = sum_by length terms
 
--- how much these terms count: their number, or their literals by the 1,024, whichever is more
+-- the size of these terms: their number, or that of their literals divided by 1,024 and rounded up, whichever is more
 abbrev pub count : List (List Literal) → ℕ
 count terms = max (length terms) (div_ceil (literals terms) 1024)
 
--- the condition that all literals of a term hold
+-- the conjunction of a term's literals
 abbrev pub of_term : List Literal → FormulaTree
 of_term literals = fold (λ f literal. conj f (literal_formula literal)) True literals
 
--- The condition that has these terms. Law: it holds on a cycle exactly where all atoms of some term do.
+-- The disjunction of these terms. Law: it holds on a cycle exactly where all atoms of some term do.
 abbrev pub of_terms : List (List Literal) → FormulaTree
 of_terms terms = fold (λ f term. disj f (of_term term)) False terms

@@ -1,3 +1,3 @@
--- Definitions for functions that are not public.
+-- Definitions that only the contracts of inner functions use.
 pub mod Join
 pub mod Tally

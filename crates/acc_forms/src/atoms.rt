@@ -1,4 +1,4 @@
-//! What the atoms of a condition tell.
+//! Questions that the atoms of a condition decide.
 
 ghost use Rattle.std.specs.Prelude.{◌≡◌, ℕ, ◌<◌, List, [], ◌∷◌, ◌++◌, length, All, IsTrue, false};
 ghost use Rattle.std.specs.List.{list_any};
@@ -10,7 +10,7 @@ use crate::join::Join;
 use aut_base::{Formula, Formulas};
 
 // Why so: 'What `has_fin` means is said of longer cycles' in docs/DECISIONS.md.
-/// Whether some `Fin` stands in the condition.
+/// Whether some `Fin` occurs in the condition.
 pub fn has_fin(formula: &Formula) -> bool
     ensures tree { result ≡ has_fin (formula_tree formula.now) }
     ensures meaning { result ≡ false → ((cycle edges : List (List ℕ)) → IsTrue (met cycle (formula_tree formula.now)) → IsTrue (met (cycle ++ edges) (formula_tree formula.now))) }
@@ -18,7 +18,7 @@ pub fn has_fin(formula: &Formula) -> bool
     fin_stands_in(formula)
 }
 
-/// Whether the condition holds on a cycle whose edges carry no set.
+/// Whether the condition holds on a cycle whose edges are in no acceptance set.
 pub fn empty_meets(formula: &Formula) -> bool
     ensures tree { result ≡ met ([] ∷ []) (formula_tree formula.now) }
     ensures meaning { (cycle : List (List ℕ)) → 0 < length cycle → All (λ marks. marks ≡ []) cycle → result ≡ met cycle (formula_tree formula.now) }

@@ -1,4 +1,4 @@
-//! Why there are no terms.
+//! The errors of listing terms.
 
 ghost use Rattle.std.specs.Prelude.{◌≡◌};
 ghost use Rattle.acc_forms.specs.declared.fault.FormFault.{FormFault};
@@ -8,7 +8,7 @@ use aut_base::Memory;
 /// Why the terms of a condition were not listed.
 #[derive(Clone, Copy, Debug, PartialEq, Eq)]
 pub enum FormFault {
-    /// They are too many.
+    /// There are too many.
     Terms,
     /// Want of memory.
     Memory,

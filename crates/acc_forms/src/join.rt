@@ -1,4 +1,4 @@
-//! Two conditions joined by And or by Or.
+//! Conjunction and disjunction of two conditions.
 
 ghost use Rattle.std.specs.Prelude.{◌≡◌, ℕ, ◌<◌, ◌≤◌, ◌&&◌, ◌||◌, ◌++◌, List, drop, length, IfOk, OnOk, IfSome, IfNone, ◌∷◌, [], false};
 ghost use Rattle.aut_base.specs.Formula.{formula_tree, formula_list, met, trees};
@@ -8,7 +8,7 @@ ghost use Rattle.acc_forms.specs.inner.Join.{joined_by, outweighs, is_all, is_ne
 use aut_base::{Formula, Formulas, Memory};
 use std::alloc::Global;
 
-/// Both conditions. Parts are copied.
+/// The conjunction of the two conditions, whose parts are copied.
 pub fn conj(alloc: Global, f: &Formula, g: &Formula) -> Result<Formula, Memory>
     ensures tree { IfOk result (λ new. formula_tree new ≡ conj (formula_tree f.now) (formula_tree g.now)) }
     ensures meaning { IfOk result (λ new. (cycle : List (List ℕ)) → met cycle (formula_tree new) ≡ (met cycle (formula_tree f.now) && met cycle (formula_tree g.now))) }
@@ -17,7 +17,7 @@ pub fn conj(alloc: Global, f: &Formula, g: &Formula) -> Result<Formula, Memory>
     join_to(alloc, Join::All, first, g)
 }
 
-/// One of the two conditions. Parts are copied.
+/// The disjunction of the two conditions, whose parts are copied.
 pub fn disj(alloc: Global, f: &Formula, g: &Formula) -> Result<Formula, Memory>
     ensures tree { IfOk result (λ new. formula_tree new ≡ disj (formula_tree f.now) (formula_tree g.now)) }
     ensures meaning { IfOk result (λ new. (cycle : List (List ℕ)) → met cycle (formula_tree new) ≡ (met cycle (formula_tree f.now) || met cycle (formula_tree g.now))) }
@@ -26,24 +26,24 @@ pub fn disj(alloc: Global, f: &Formula, g: &Formula) -> Result<Formula, Memory>
     join_to(alloc, Join::Any, first, g)
 }
 
-/// How two conditions are joined.
+/// The connective by which conditions are joined.
 #[derive(Clone, Copy)]
 pub(crate) enum Join {
-    /// Both, by And.
+    /// And.
     All,
-    /// One of them, by Or.
+    /// Or.
     Any,
 }
 
 impl Join {
-    /// Whether it joins by And.
+    /// Whether it is And.
     pub(crate) fn is_all(self) -> bool
         ensures { result ≡ is_all self }
     {
         matches!(self, Join::All)
     }
 
-    /// Whether this condition, joined with any other, stays as it is.
+    /// Whether the condition absorbs any other that it is joined with: `f` under And, `t` under Or.
     fn outweighs(self, formula: &Formula) -> bool
         ensures { result ≡ outweighs self (formula_tree formula.now) }
     {
@@ -53,7 +53,7 @@ impl Join {
         }
     }
 
-    /// Whether this condition, joined with another, leaves that one.
+    /// Whether the condition is neutral: `t` under And, `f` under Or.
     fn is_neutral(self, formula: &Formula) -> bool
         ensures { result ≡ is_neutral self (formula_tree formula.now) }
     {
@@ -63,7 +63,7 @@ impl Join {
         }
     }
 
-    /// The parts of a condition that is joined in this way, and None of any other.
+    /// The parts of a condition that is itself a join by this connective, and None of any other.
     #[tactic(auto, using(aut_base::proofs::trees::FormulaTrees::formula_trees))]
     fn parts(self, formula: &Formula) -> Option<&Formulas>
         ensures found { IfSome result (λ parts. parts_under self (formula_tree formula.now) ≡ formula_list parts.now) }
@@ -76,7 +76,7 @@ impl Join {
         }
     }
 
-    /// The condition of these parts.
+    /// The join of these parts by this connective.
     #[tactic(auto, using(aut_base::proofs::trees::FormulaTrees::formula_trees))]
     fn node(self, parts: Formulas) -> Formula
         ensures { formula_tree result ≡ node self (formula_list parts) }
@@ -88,7 +88,7 @@ impl Join {
     }
 }
 
-/// Two conditions joined, where the second is copied.
+/// The join of two conditions, of which the second is copied.
 pub(crate) fn join_to(alloc: Global, join: Join, f: Formula, g: &Formula) -> Result<Formula, Memory>
     ensures { IfOk result (λ new. formula_tree new ≡ joined_by join (formula_tree f) (formula_tree g.now)) }
 {
@@ -115,7 +115,7 @@ fn joined_parts(alloc: Global, join: Join, f: Formula, g: &Formula) -> Result<Fo
     }
 }
 
-/// These parts, and those of a condition behind them.
+/// These parts, and after them copies of those of a condition.
 fn with_more(alloc: Global, join: Join, parts: Formulas, g: &Formula) -> Result<Formulas, Memory>
     requires { is_neutral join (formula_tree g.now) ≡ false }
     ensures { IfOk result (λ new. formula_list new ≡ formula_list parts ++ parts_under join (formula_tree g.now)) }
@@ -131,7 +131,7 @@ fn with_more(alloc: Global, join: Join, parts: Formulas, g: &Formula) -> Result<
     Ok(all)
 }
 
-/// This part, and those of a condition behind it.
+/// This part, and after it copies of those of a condition.
 fn pair_with_more(alloc: Global, join: Join, part: Formula, g: &Formula) -> Result<Formulas, Memory>
     requires { is_neutral join (formula_tree g.now) ≡ false }
     ensures { IfOk result (λ new. formula_list new ≡ formula_tree part ∷ parts_under join (formula_tree g.now)) }
@@ -150,7 +150,7 @@ fn pair_with_more(alloc: Global, join: Join, part: Formula, g: &Formula) -> Resu
     }
 }
 
-/// Adds copies of the parts from a place on.
+/// Adds copies of the parts from an index on.
 fn push_from(
     alloc: Global,
     parts: &mut Formulas,

@@ -1,6 +1,6 @@
-//! Operations on acceptance conditions (Emerson-Lei conditions, HOA v1, Acceptance): the dual, sets with higher
-//! numbers, joins, the terms of a condition, and the condition of parity automata. A caller has the resulting
-//! condition as an exact tree, and what it means on every cycle of marks. `specs/` has the trees, a file for each.
+//! Operations on acceptance conditions (Emerson-Lei conditions, HOA v1, Acceptance): the dual, renumbering of sets,
+//! conjunction and disjunction, disjunctive normal form, and the condition of parity automata. Contracts say which tree the resulting
+//! condition is, and on which cycles it holds. `specs/` defines the trees, in a file for each operation.
 #![tactic(auto)]
 
 mod atoms;

@@ -1,21 +1,21 @@
-//! The atoms of a condition.
+//! The atoms of a condition, and terms of them.
 
 ghost use Rattle.std.specs.Prelude.{◌≡◌};
 ghost use Rattle.aut_base.specs.Formula.{formula_tree};
 
 use aut_base::{Formula, Seq};
 
-/// An atom of a condition. `neg` stands for the `!` before the set's number.
+/// An atom of a condition. `neg` is true where `!` is before the set's number.
 #[derive(Clone, Copy, Debug, PartialEq, Eq)]
 pub enum Literal {
     Inf { set: u32, neg: bool },
     Fin { set: u32, neg: bool },
 }
 
-/// A term: all of these hold.
+/// A term: a conjunction of atoms.
 pub type Literals = Seq<Literal>;
 
-/// Terms, one of which holds.
+/// Terms, as of a disjunctive normal form.
 pub type Terms = Seq<Literals>;
 
 impl Literal {

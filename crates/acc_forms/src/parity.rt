@@ -7,7 +7,7 @@ ghost use Rattle.acc_forms.specs.Parity.{is_odd, parity_atom, parity_min_odd, Mi
 use aut_base::{Formula, Formulas, Memory};
 use std::alloc::Global;
 
-/// The condition over n sets that the least one that is met again and again is odd, or that there is none and n is odd.
+/// The condition `parity min odd n`: the least of the n sets that is visited infinitely often is odd, or none is and n is odd.
 pub fn parity_min_odd(alloc: Global, n: u32) -> Result<Formula, Memory>
     requires some { 1 ≤ n }
     requires most { n ≤ 1000 }
@@ -33,7 +33,7 @@ fn atom(set: u32) -> Formula
     }
 }
 
-/// The condition that this set decides, and where no edge is in it the rest.
+/// The condition whose truth is decided by this set where it is visited, and by the rest where it isn't.
 #[tactic(auto, using(aut_base::proofs::trees::FormulaTrees::formula_trees))]
 fn decided_first(alloc: Global, set: u32, rest: Formula) -> Result<Formula, Memory>
     ensures { IfOk result (λ new. formula_tree new ≡ (if is_odd set then Or (parity_atom set) (formula_tree rest) none else And (parity_atom set) (formula_tree rest) none)) }

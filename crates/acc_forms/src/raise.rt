@@ -1,4 +1,4 @@
-//! Conditions about sets with higher numbers.
+//! Conditions with the numbers of their sets raised.
 
 ghost use Rattle.std.specs.Prelude.{◌≡◌, ℕ, ◌-◌, ◌^◌, List, map, IfOk};
 ghost use Rattle.aut_base.specs.Formula.{formula_tree, formula_list, met, trees, SetsBelow, EachSetsBelow};

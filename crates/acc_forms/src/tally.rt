@@ -1,4 +1,4 @@
-//! How many terms a condition has, without making them.
+//! The size of a condition's disjunctive normal form, computed without making it.
 
 ghost use Rattle.std.specs.Prelude.{◌≡◌, ◌++◌, ◌-◌, ◌^◌, List, [], min, max};
 ghost use Rattle.std.specs.Int.{div_ceil};
@@ -9,19 +9,19 @@ ghost use Rattle.acc_forms.specs.inner.Tally.{part_terms, tally_of};
 use crate::join::Join;
 use aut_base::{Formula, Formulas};
 
-/// As many literals count as much as a term.
+/// As many literals count as much as one term.
 const LITERALS_OF_ONE: u128 = 1_024;
 
 // Why so: 'Both numbers of `terms_count` end at the same last value' in docs/DECISIONS.md.
-/// What the terms of a condition count: their number, or the number of their literals divided by 1,024 and rounded up,
-/// whichever is more. An answer of `u64::MAX` stands for all numbers from there on. No term is made.
+/// The size of a condition's disjunctive normal form: the number of its terms, or the number of their literals divided by 1,024 and
+/// rounded up, whichever is more. An answer of `u64::MAX` is for all numbers from there on. No term is made.
 pub fn terms_count(formula: &Formula) -> u64
     ensures { result ≡ min (count (terms (formula_tree formula.now))) (2 ^ 64 - 1) }
 {
     tally_of_formula(formula).count()
 }
 
-/// The number of terms, and of their literals together. The last value of the type stands for all numbers from there on.
+/// The number of terms, and of the literals of all of them. The last value of the type is for all numbers from there on.
 #[derive(Clone, Copy)]
 pub(crate) struct Tally {
     pub(crate) terms: u128,
@@ -33,7 +33,7 @@ impl Tally {
     ghost use Rattle.acc_forms.specs.Terms.{pairs};
     ghost use Rattle.acc_forms.specs.inner.Tally.{joined_terms, part_terms, tally_of};
 
-    /// What both count.
+    /// The size by both numbers, as `terms_count` answers it.
     fn count(self) -> u64
         ensures { result ≡ min (max self.terms (div_ceil self.literals 1024)) (2 ^ 64 - 1) }
     {
@@ -41,7 +41,7 @@ impl Tally {
         count.min(u128::from(u64::MAX)) as u64
     }
 
-    /// That of the terms of no conditions, joined in this way.
+    /// The tally of the terms of an empty conjunction, or disjunction.
     fn of_none(join: Join) -> Tally
         ensures { result ≡ tally_of (part_terms join []) }
     {
@@ -57,7 +57,7 @@ impl Tally {
         }
     }
 
-    /// That of the terms of two conditions, joined in this way.
+    /// The tally of the terms of two conditions joined by this connective, from those of each.
     fn joined(self, join: Join, other: Tally) -> Tally
         ensures { (xs ys : List (List Literal)) → self ≡ tally_of xs → other ≡ tally_of ys → result ≡ tally_of (joined_terms join xs ys) }
     {
@@ -67,7 +67,7 @@ impl Tally {
         }
     }
 
-    /// That of the terms of both.
+    /// The tally of both lists of terms together.
     fn plus(self, other: Tally) -> Tally
         ensures { (xs ys : List (List Literal)) → self ≡ tally_of xs → other ≡ tally_of ys → result ≡ tally_of (xs ++ ys) }
     {
@@ -77,7 +77,7 @@ impl Tally {
         }
     }
 
-    /// That of the terms of one joined to those of the other.
+    /// The tally of all pairs of a term of the one and a term of the other, joined.
     fn times(self, other: Tally) -> Tally
         ensures { (xs ys : List (List Literal)) → self ≡ tally_of xs → other ≡ tally_of ys → result ≡ tally_of (pairs xs ys) }
     {
@@ -90,7 +90,7 @@ impl Tally {
     }
 }
 
-/// That of the terms of a condition.
+/// The tally of the terms of a condition.
 #[cycle(tally)]
 fn tally_of_formula(formula: &Formula) -> Tally
     ensures { result ≡ tally_of (terms (formula_tree formula.now)) }
@@ -107,7 +107,7 @@ fn tally_of_formula(formula: &Formula) -> Tally
     }
 }
 
-/// That of the terms of these, joined in this way.
+/// The tally of the terms of these parts, joined by this connective.
 #[cycle(tally)]
 #[tactic(auto, using(crate::proofs::Parts::part_sizes))]
 pub(crate) fn tally_of_parts(join: Join, parts: &Formulas) -> Tally

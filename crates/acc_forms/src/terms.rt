@@ -1,4 +1,4 @@
-//! The terms of a condition, and the condition of terms.
+//! The terms of a condition (its disjunctive normal form), and the condition of given terms.
 
 ghost use Rattle.std.specs.Prelude.{◌≡◌, ℕ, ◌<◌, ◌++◌, List, [], ◌∷◌, map, IfOk, OnOk};
 ghost use Rattle.std.specs.List.{flat_map};
@@ -13,8 +13,8 @@ use aut_base::{Formula, Formulas, MOST_TERMS, Memory};
 use std::alloc::Global;
 
 // Why so: '`disjuncts` looks for a part without terms first' in docs/DECISIONS.md.
-/// The terms of a condition, none merged or dropped. Refused where they count more than `MOST_TERMS`, as `terms_count`
-/// has it.
+/// The terms of a condition's disjunctive normal form, none merged or dropped. Refused as `Terms` where `terms_count` is more than
+/// `MOST_TERMS`.
 pub fn disjuncts(alloc: Global, formula: &Formula) -> Result<Terms, FormFault>
     ensures list { IfOk result (λ found. found ≡ terms (formula_tree formula.now)) }
     ensures passed { MOST_TERMS < count (terms (formula_tree formula.now)) → result ≡ Err FormFault.Terms }
@@ -29,7 +29,7 @@ pub fn disjuncts(alloc: Global, formula: &Formula) -> Result<Terms, FormFault>
     Ok(found)
 }
 
-/// The condition that has these terms.
+/// The disjunction of these terms.
 pub fn of_terms(alloc: Global, terms: &Terms) -> Result<Formula, Memory>
     ensures tree { IfOk result (λ new. formula_tree new ≡ of_terms terms.now) }
     ensures meaning { IfOk result (λ new. (cycle : List (List ℕ)) → met cycle (formula_tree new) ≡ some_term_met cycle terms.now) }
@@ -42,7 +42,7 @@ pub fn of_terms(alloc: Global, terms: &Terms) -> Result<Formula, Memory>
     Ok(some)
 }
 
-/// The condition that all literals of a term hold.
+/// The conjunction of a term's literals.
 fn of_term(alloc: Global, term: &Literals) -> Result<Formula, Memory>
     ensures { IfOk result (λ new. formula_tree new ≡ of_term term.now) }
 {
@@ -80,8 +80,8 @@ fn terms_of(alloc: Global, formula: &Formula) -> Result<Terms, Memory>
     }
 }
 
-/// The terms of the conjunction of these. Where a part has none there are none, and the other parts are not looked
-/// into: theirs may be too many.
+/// The terms of the conjunction of these parts. Where a part has no terms, neither has the conjunction, and those of the other parts
+/// are not made: they may be too many.
 #[cycle(terms)]
 #[tactic(auto, using(crate::proofs::Parts::part_sizes))]
 fn terms_of_all(alloc: Global, parts: &Formulas) -> Result<Terms, Memory>
@@ -98,7 +98,7 @@ fn terms_of_all(alloc: Global, parts: &Formulas) -> Result<Terms, Memory>
     Ok(found)
 }
 
-/// The terms of the disjunction of these.
+/// The terms of the disjunction of these parts.
 #[cycle(terms)]
 #[tactic(auto, using(crate::proofs::Parts::part_sizes))]
 fn terms_of_some(alloc: Global, parts: &Formulas) -> Result<Terms, Memory>
@@ -112,7 +112,7 @@ fn terms_of_some(alloc: Global, parts: &Formulas) -> Result<Terms, Memory>
     Ok(found)
 }
 
-/// This term alone.
+/// The list of this term alone.
 fn one_term(alloc: Global, term: Literals) -> Result<Terms, Memory>
     ensures { IfOk result (λ found. found ≡ term ∷ []) }
 {
@@ -121,7 +121,7 @@ fn one_term(alloc: Global, term: Literals) -> Result<Terms, Memory>
     Ok(found)
 }
 
-/// The term of this literal alone.
+/// The list of the term of this literal alone.
 fn one_literal(alloc: Global, literal: Literal) -> Result<Terms, Memory>
     ensures { IfOk result (λ found. found ≡ (literal ∷ []) ∷ []) }
 {
@@ -140,7 +140,7 @@ fn append(found: &mut Terms, those: Terms) -> Result<(), Memory>
     Ok(())
 }
 
-/// Each term of the first with each of the second joined to it.
+/// Each term of the first list joined with each of the second.
 fn pairs(alloc: Global, firsts: &Terms, seconds: &Terms) -> Result<Terms, Memory>
     ensures { IfOk result (λ found. found ≡ pairs firsts.now seconds.now) }
 {
@@ -151,7 +151,7 @@ fn pairs(alloc: Global, firsts: &Terms, seconds: &Terms) -> Result<Terms, Memory
     Ok(found)
 }
 
-/// Adds this term with each of the others joined to it.
+/// Adds this term joined with each of the others.
 fn push_joined(
     alloc: Global,
     found: &mut Terms,
@@ -167,7 +167,7 @@ fn push_joined(
     Ok(())
 }
 
-/// The literals of both.
+/// The literals of both terms.
 fn literals_of_both(alloc: Global, first: &Literals, second: &Literals) -> Result<Literals, Memory>
     ensures { IfOk result (λ both. both ≡ first.now ++ second.now) }
 {

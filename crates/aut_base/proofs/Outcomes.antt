@@ -1,4 +1,4 @@
--- What calls that may fail, or find nothing, tell.
+-- Lemmas on the values of calls that return a `Result` or an `Option`.
 use Rattle.std.proofs.Common.{◌≡◌, ◌<◌, true, false, List, [], ◌∷◌, length, nat_eq, Option, None, Some, Result, Ok, Err, IsErrOf, ap, arith, subst, sym}
 use Rattle.std.specs.Prelude.{MatchOption, OnOk, is_some}
 use Rattle.std.specs.Result.{IsErrAnd}
@@ -26,21 +26,21 @@ some_said P Q r x is said = subst (λ o. MatchOption o P Q) is said
 pub none_said : {A : Type 0} (P : Type 0) (Q : A → Type 0) (r : Option A) → r ≡ None → MatchOption r P Q → P
 none_said P Q r is said = subst (λ o. MatchOption o P Q) is said
 
--- the test whether a list is empty
+-- a list that doesn't test as empty has an item
 pub some_in : {A : Type 0} (xs : List A) → false ≡ nat_eq (length xs) 0 → 0 < length xs
 some_in [] is = absurd (true≢false (sym is))
 some_in (x ∷ xs) is = omega arith
 
--- the error that `?` passes on is the one that came
+-- the error that `?` passes on is the error of the inner call
 pub failed_as : {T F : Type 0} (r : Result T F) (came : F) → IsErrAnd r (λ y. y ≡ came) → r ≡ Err came
 failed_as (Ok x) came passed = absurd passed
 failed_as (Err y) came passed = ap Err passed
 
--- so what holds of it holds of the result
+-- so what holds of that error holds of the result
 pub hands_on : {T F : Type 0} (r : Result T F) (came : F) (P : Result T F → Type 0) → IsErrAnd r (λ y. y ≡ came) → P (Err came) → P r
 hands_on r came P passed holds = subst P (sym (failed_as r came passed)) holds
 
--- and it is the one that is told
+-- and it is the error of the result
 pub told_fault : {T F : Type 0} (r : Result T F) (came told : F) → IsErrAnd r (λ y. y ≡ came) → r ≡ Err told → came ≡ told
 told_fault r came told passed is = let same = failed_as r came passed in cc
 

@@ -1,4 +1,4 @@
--- Canonical labels: the truth that they keep, the valuations that they are made of, and their laws.
+-- Canonical labels: their truth, the valuations that they are made of, and their laws.
 pub mod CanonicalAutomata
 pub mod CanonicalBelow
 pub mod CanonicalLabels

@@ -1,4 +1,4 @@
--- Lists: what stands in them and where, what holds of each item, and tests of the items.
+-- Lists: their members and indices, what holds of each item, and tests of the items.
 pub mod AllByRecursion
 pub mod Copies
 pub mod ListTests

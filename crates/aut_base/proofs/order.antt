@@ -1,4 +1,4 @@
--- Lists that stand in order or pair by pair in a relation, as the edges of a well-formed automaton do.
+-- Lists that are ordered, or related pair by pair, as the edges of a well-formed automaton are.
 pub mod AllPairsOf
 pub mod Climbing
 pub mod Ordered

@@ -1,4 +1,4 @@
--- Labels and conditions as trees: constructor by constructor, their parts, and how large they are.
+-- Labels and conditions as trees: constructor by constructor, their parts, and their sizes.
 pub mod FormulaSizes
 pub mod FormulaTrees
 pub mod LabelSizes

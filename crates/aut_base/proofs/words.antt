@@ -1,4 +1,4 @@
--- Names, letters made of them, lasso words that spell the same infinite word, and their turns.
+-- Names, letters made of them, and lasso words: their prefixes, and those that spell the same infinite word.
 pub mod LetterNames
 pub mod SameEdges
 pub mod SameWord

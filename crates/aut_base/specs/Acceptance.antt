@@ -1,5 +1,5 @@
--- Which lasso words an automaton accepts. Nothing bounds how often the cycle is gone round, and there is no
--- search: any two paths that fit will do.
+-- Which lasso words an automaton accepts: those with an accepting run, which is a path from a start and a closed path at its end. The
+-- paths may read the word's cycle any number of times.
 use Rattle.std.specs.Prelude.{◌≡◌, ℕ, ◌<◌, true, List, [], ◌∷◌, ◌++◌, map, Contains, ◌↔◌, length}
 use Rattle.aut_base.specs.Automaton.{LabelledEdge, Automaton}
 use Rattle.aut_base.specs.Formula.{met}
@@ -7,7 +7,7 @@ use Rattle.aut_base.specs.Label.{truth, holds_at}
 use Rattle.aut_base.specs.Word.{NameSet, copies, SpellsSame}
 
 -- a path from `p` to `q` along these edges, which reads these letters: each edge starts where the one before
--- ends, and its label holds of the letter in its place
+-- ends, and its label holds of the letter at the same index
 abbrev pub IsPath : Automaton → ℕ → List NameSet → List LabelledEdge → ℕ → Type 0
 IsPath a p [] [] q = p ≡ q
 IsPath a p [] (e ∷ es) q = ⊥

@@ -1,4 +1,4 @@
--- An automaton as a value: what a `Description` says, apart from how it lies in memory.
+-- Transition-based Emerson-Lei automata as values, which ones are well formed, and the one that a `Description` in memory stands for.
 use Rattle.std.specs.Prelude.{◌≢◌, ◌<◌, ℕ, List, length, map, All, AllPairs}
 use Rattle.std.specs.List.Sorted.{IsNonDecreasing}
 use Rattle.aut_base.specs.Formula.{FormulaTree, SetsBelow, formula_tree}
@@ -28,7 +28,7 @@ labelled_edge e = record { from = e.from; label = label_tree e.label; to = e.to;
 abbrev pub automaton : Description → Automaton
 automaton d = record { names = d.names; starts = d.starts; states = d.states; edges = map labelled_edge d.edges; sets = d.sets; formula = formula_tree d.formula }
 
--- the edge speaks of the automaton's own states, propositions and acceptance sets
+-- the edge's states, propositions and marks are among the automaton's, and its marks increase
 pub record IsEdgeOf (a : Automaton) (e : LabelledEdge) : Type 0 where
   pub from : e.from < a.states
   pub to : e.to < a.states
@@ -36,7 +36,7 @@ pub record IsEdgeOf (a : Automaton) (e : LabelledEdge) : Type 0 where
   pub marks : All (λ mark. mark < a.sets) e.marks
   pub marks_rise : AllPairs (λ m n. m < n) e.marks
 
--- Names differ, starts are distinct, edges stand in the order of the states that they leave, the marks of an edge rise,
+-- Names differ, starts are distinct, edges are in the order of the states that they leave, the marks of an edge increase,
 -- and every number is in range.
 pub record IsWellFormed (a : Automaton) : Type 0 where
   pub names_differ : AllPairs (λ name other. name ≢ other) a.names

@@ -6,17 +6,17 @@ use Rattle.aut_base.specs.Automaton.{LabelledEdge, Automaton}
 use Rattle.aut_base.specs.Label.{LabelTree, True, False, Prop, Not, And, Or, trees}
 use Rattle.aut_base.specs.Valuation.{truth_on, valuations}
 
--- a proposition, and whether it holds
+-- a literal: a proposition, and whether it holds or fails
 pub record Literal : Type 0 where
   pub prop : ℕ
   pub holds : Bool
 
--- the first of n + 1 propositions makes no difference
+-- a truth function of n + 1 propositions doesn't depend on the first
 abbrev pub is_independent : ℕ → (List Bool → Bool) → Bool
 is_independent n g = list_all (λ v. beq (g (false ∷ v)) (g (true ∷ v))) (valuations n)
 
--- The cubes of a truth function of the n propositions from the i-th on. A proposition on which it doesn't depend is
--- passed over; on another one, the cubes where it fails come before those where it holds.
+-- The cubes of a truth function of the n propositions from the i-th on. A proposition on which the function doesn't depend occurs in
+-- no cube; of one on which it depends, the cubes where it fails come before those where it holds.
 abbrev pub cubes : ℕ → ℕ → (List Bool → Bool) → List (List Literal)
 cubes i zero g = if g [] then [] ∷ [] else []
 cubes i (suc n) g =
@@ -27,19 +27,19 @@ cubes i (suc n) g =
 abbrev pub literal_tree : Literal → LabelTree
 literal_tree l = if l.holds then Prop l.prop else Not (Prop l.prop)
 
--- their conjunction; one label stands for itself
+-- the conjunction of these labels; a single one is its own
 abbrev pub all_of : List LabelTree → LabelTree
 all_of [] = True
 all_of (t ∷ []) = t
 all_of (t ∷ u ∷ us) = And t u (trees us)
 
--- their disjunction; one label stands for itself
+-- the disjunction of these labels; a single one is its own
 abbrev pub one_of : List LabelTree → LabelTree
 one_of [] = False
 one_of (t ∷ []) = t
 one_of (t ∷ u ∷ us) = Or t u (trees us)
 
--- no cube is `f`, one empty cube is `t`
+-- the disjunction of cubes: `f` where there is none, `t` where the only one is empty
 abbrev pub cubes_tree : List (List Literal) → LabelTree
 cubes_tree cs = one_of (map (λ cube. all_of (map literal_tree cube)) cs)
 

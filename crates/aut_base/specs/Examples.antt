@@ -1,4 +1,4 @@
--- Small automata over one proposition `a`, for which one sees by eye what they accept.
+-- Small automata over one proposition `a`, and words that they accept and reject.
 use Rattle.std.specs.Prelude.{ℕ, true, false, List, [], ◌∷◌}
 use Rattle.std.specs.FinSet as set
 use Rattle.aut_base.specs.Acceptance.{Accepts}
@@ -35,7 +35,7 @@ one_state at_on at_off sets formula = record {
   formula = formula;
 }
 
--- In the end `a` holds for ever: the automaton guesses when.
+-- `a` holds at all but finitely many letters: the automaton guesses from when on.
 abbrev pub ever_after : Automaton
 ever_after = record {
   names = name_a ∷ [];
@@ -46,11 +46,11 @@ ever_after = record {
   formula = FormulaTree.Inf 0 false;
 }
 
--- some edge outside set 0, and every edge inside set 1
+-- `Inf(!0) & Fin(!1)`: some edge of the cycle is outside set 0, and every edge is in set 1
 abbrev pub barred : FormulaTree
 barred = FormulaTree.And (FormulaTree.Inf 0 true) (FormulaTree.Fin 1 true) FormulaTrees.none
 
--- `a` holds again and again, or only so often
+-- `a` holds infinitely often, or finitely often
 abbrev pub again : Automaton
 again = one_state (0 ∷ []) [] 1 (FormulaTree.Inf 0 false)
 
@@ -65,7 +65,7 @@ off_again = one_state (0 ∷ 1 ∷ []) (1 ∷ []) 2 barred
 abbrev pub never : Automaton
 never = one_state (0 ∷ 1 ∷ []) (0 ∷ []) 2 barred
 
--- Every other edge is in set 0, whatever is read: a cycle of one letter has to be gone round twice.
+-- Every other edge is in set 0, whatever is read: over a cycle of one letter a run closes after two rounds, and not after one.
 abbrev pub alternating : Automaton
 alternating = record {
   names = name_a ∷ [];
@@ -76,7 +76,7 @@ alternating = record {
   formula = FormulaTree.Inf 0 false;
 }
 
--- For ever on or for ever off, by the start.
+-- `a` holds at each letter, from start 0, or at none, from start 1.
 abbrev pub either_way : List ℕ → Automaton
 either_way starts = record {
   names = name_a ∷ [];
@@ -87,11 +87,11 @@ either_way starts = record {
   formula = FormulaTree.True;
 }
 
--- the text "b", of which none of these automata knows
+-- the text "b", a proposition that none of these automata has
 abbrev pub name_b : List ℕ
 name_b = 98 ∷ []
 
--- letters with the foreign name, beside `a` and alone
+-- letters at which the foreign proposition holds, together with `a` and alone
 abbrev pub on_and_foreign : NameSet
 on_and_foreign = set.from_list (name_a ∷ name_b ∷ [])
 

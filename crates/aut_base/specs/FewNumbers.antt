@@ -1,4 +1,4 @@
--- Few numbers, apart from where they lie.
+-- The list that a `FewNumbers` holds, whichever way it is stored.
 use Rattle.std.specs.Prelude.{ℕ, List, []}
 use Rattle.aut_base.specs.declared.few.Held.{Held}
 use Rattle.aut_base.specs.declared.few.Held.TheVariants.{None, One, Two, Three, More}

@@ -1,4 +1,4 @@
--- What an acceptance condition says, apart from how it lies in memory (HOA v1, Acceptance).
+-- Acceptance conditions as trees, which cycles meet them (HOA v1, Acceptance), and the tree of a condition in memory.
 use Rattle.std.specs.Prelude.{◌+◌, ◌<◌, ℕ, Bool, true, false, not, ◌&&◌, ◌||◌, List, [], ◌∷◌}
 use Rattle.std.specs.List.{list_any, list_all}
 use Rattle.aut_base.specs.Marks.{is_in}
@@ -7,7 +7,7 @@ use Rattle.aut_base.specs.declared.formula.Formula.TheOpen.{Formula-F}
 use Rattle.aut_base.specs.declared.formula.Formula.TheFolds.{fold-Formula, fold-Formulas}
 use Rattle.aut_base.specs.declared.formula.Formulas.{Formulas}
 
--- an Emerson-Lei condition over sets that go by number; a conjunction or disjunction has two parts or more
+-- an Emerson-Lei condition over numbered acceptance sets; a conjunction or disjunction has two parts or more
 mutual
   pub data FormulaTree : Type 0 where
     True : FormulaTree
@@ -22,7 +22,7 @@ mutual
     none : FormulaTrees
     more : FormulaTree → FormulaTrees → FormulaTrees
 
--- Whether a condition is met where the edges that come again and again are those of a cycle, given by the
+-- Whether a run meets the condition whose edges that occur infinitely often are those of a cycle, given by the
 -- marks of each. `Inf(n)`: some edge is in n. `Inf(!n)`: some edge isn't. `Fin(n)`: none is. `Fin(!n)`: all are.
 abbrev mutual
   pub met : List (List ℕ) → FormulaTree → Bool
@@ -71,7 +71,7 @@ abbrev mutual
   formulas_size none = 0
   formulas_size (more f fs) = formula_size f + formulas_size fs
 
--- the list, as a tree holds it
+-- the list of parts, in the type that trees have for it
 abbrev pub trees : List FormulaTree → FormulaTrees
 trees [] = none
 trees (f ∷ fs) = more f (trees fs)
@@ -82,7 +82,7 @@ pub record FormulaParts : Type 0 where
   pub second : FormulaTree
   pub others : List FormulaTree
 
--- one level of a formula, with trees in the place of what it holds
+-- one level of a formula, whose parts are given as trees
 abbrev pub formula_step : Formula-F FormulaTree FormulaParts → FormulaTree
 formula_step Formula-F.True = True
 formula_step Formula-F.False = False

@@ -1,4 +1,4 @@
--- What a label says, apart from how it lies in memory (HOA v1, label-expr).
+-- Labels as trees, where they are true (HOA v1, label-expr), and the tree of a label in memory.
 use Rattle.std.specs.Prelude.{◌+◌, ◌<◌, ℕ, Bool, true, false, not, ◌&&◌, ◌||◌, List, [], ◌∷◌, slice_get}
 use Rattle.std.specs.FinSet.{contains}
 use Rattle.std.specs.Option.{option_map_or}
@@ -8,7 +8,7 @@ use Rattle.aut_base.specs.declared.label.Label.TheOpen.{Label-F}
 use Rattle.aut_base.specs.declared.label.Label.TheFolds.{fold-Label, fold-Labels}
 use Rattle.aut_base.specs.declared.label.Labels.{Labels}
 
--- a Boolean formula over propositions that go by number; a conjunction or disjunction has two parts or more
+-- a Boolean formula over numbered propositions; a conjunction or disjunction has two parts or more
 mutual
   pub data LabelTree : Type 0 where
     True : LabelTree
@@ -54,7 +54,7 @@ abbrev mutual
   EachBelow n none = Unit {0}
   EachBelow n (more t ts) = AllBelow n t × EachBelow n ts
 
--- The number of signs in a label, by which a recursion over its parts ends.
+-- The number of nodes of a label's tree, a measure for recursion over its parts.
 abbrev mutual
   pub label_size : LabelTree → ℕ
   label_size True = 1
@@ -72,7 +72,7 @@ abbrev mutual
 abbrev pub holds_at : List (List ℕ) → NameSet → ℕ → Bool
 holds_at names letter i = option_map_or (contains letter) (slice_get names i) false
 
--- the list, as a tree holds it
+-- the list of parts, in the type that trees have for it
 abbrev pub trees : List LabelTree → LabelTrees
 trees [] = none
 trees (t ∷ ts) = more t (trees ts)
@@ -83,7 +83,7 @@ pub record LabelParts : Type 0 where
   pub second : LabelTree
   pub others : List LabelTree
 
--- one level of a label, with trees in the place of what it holds
+-- one level of a label, whose parts are given as trees
 abbrev pub label_step : Label-F LabelTree LabelParts → LabelTree
 label_step Label-F.True = True
 label_step Label-F.False = False

@@ -1,4 +1,4 @@
--- Labels in canonical form, as one sees by eye, and the order of valuations.
+-- Examples of canonical labels, and of the order of valuations.
 use Rattle.std.specs.Prelude.{◌≡◌, ◌^◌, ℕ, true, false, [], ◌∷◌, map, codes}
 use Rattle.std.specs.List.{range_with_len}
 use Rattle.aut_base.specs.Label.{LabelTree, Prop, Not, And, Or, none}

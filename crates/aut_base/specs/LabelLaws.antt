@@ -1,4 +1,4 @@
--- What the canonical form of labels keeps, and what it tells apart.
+-- Laws of canonical labels: they keep the truth, equal truth is one label, and automata with them accept the same words.
 use Rattle.std.specs.Prelude.{◌≡◌, ◌≢◌, ◌↔◌, ℕ, Bool, List, ◌++◌, length, All, AllPairs}
 use Rattle.aut_base.specs.Acceptance.{Accepts}
 use Rattle.aut_base.specs.Automaton.{Automaton, IsWellFormed}
@@ -24,13 +24,13 @@ SameTruthSameLabel = (names : List (List ℕ)) (t u : LabelTree) → AllPairs (�
 abbrev pub LabelsBelow : Automaton → Type 0
 LabelsBelow a = All (λ e. AllBelow (length a.names) e.label) a.edges
 
--- An automaton accepts the same words when each of its labels stands in canonical form. It stays well formed, and
+-- An automaton accepts the same words once each of its labels is replaced by its canonical form. It stays well formed, and
 -- canonical labels are their own canonical forms.
 pub record CanonicalAcceptsTheSame (a : Automaton) : Type 0 where
   pub accepts : LabelsBelow a → (u v : List NameSet) → Accepts (canonical a) u v ↔ Accepts a u v
   pub well_formed : IsWellFormed a → IsWellFormed (canonical a)
   pub settled : canonical (canonical a) ≡ canonical a
 
--- Further names, of which no label speaks, make no difference.
+-- Further propositions, which occur in no label, don't change which words an automaton accepts.
 abbrev pub OtherNamesPlayNoPart : Type 0
 OtherNamesPlayNoPart = (a : Automaton) (others : List (List ℕ)) → LabelsBelow a → (u v : List NameSet) → Accepts (record a { names = a.names ++ others }) u v ↔ Accepts a u v

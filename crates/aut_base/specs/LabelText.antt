@@ -17,7 +17,7 @@ literal_text l = if l.holds then decimal l.prop else codes "!" ++ decimal l.prop
 abbrev pub cube_text : List Literal → List ℕ
 cube_text literals = joined (codes "&") (map literal_text literals)
 
--- no cube is `f`, one empty cube is `t`
+-- the disjunction of cubes: `f` where there is none, `t` where the only one is empty
 abbrev pub cubes_text : List (List Literal) → List ℕ
 cubes_text [] = codes "f"
 cubes_text ([] ∷ cs) = codes "t"

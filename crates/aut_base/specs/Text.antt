@@ -1,4 +1,4 @@
--- Texts, which are lists of bytes.
+-- Equality of texts, which are lists of bytes.
 use Rattle.std.specs.Prelude.{ℕ, Bool, ◌==◌, List}
 use Rattle.std.specs.Cmp.Lexicographic.{pointwise}
 

@@ -1,5 +1,5 @@
--- Valuations: which of n propositions hold, as a list of truth values by place. Bit k of a valuation's number is the
--- truth of proposition k, as it is where labels are implicit (HOA v1, implicit labels). So proposition 0 varies fastest.
+-- Valuations of n propositions, as lists of truth values, and their numbers. Bit k of a valuation's number is the
+-- truth of proposition k, as in HOA v1, implicit labels. So proposition 0 varies fastest.
 use Rattle.std.specs.Prelude.{◌≡◌, ℕ, zero, suc, ◌+◌, ◌*◌, ◌≤◌, Bool, true, false, if◌then◌else◌, List, [], ◌∷◌, ◌++◌, flat_map, map, length}
 use Rattle.std.specs.FinSet as set
 use Rattle.std.specs.List.{range_with_len, slice_index_or}
@@ -20,7 +20,7 @@ valuations (suc n) = flat_map (λ v. (false ∷ v) ∷ (true ∷ v) ∷ []) (val
 abbrev pub holds_in : List Bool → ℕ → Bool
 holds_in v i = slice_index_or v i false
 
--- the valuation of n propositions in which the same ones hold
+-- the valuation of the first n propositions, of which `holds` says which hold
 abbrev pub valuation_of : ℕ → (ℕ → Bool) → List Bool
 valuation_of n holds = map holds (range_with_len 0 n)
 
@@ -28,7 +28,7 @@ valuation_of n holds = map holds (range_with_len 0 n)
 abbrev pub truth_on : LabelTree → List Bool → Bool
 truth_on t v = truth (holds_in v) t
 
--- the names whose propositions hold
+-- the names of the propositions that hold under the valuation
 abbrev pub names_on : List (List ℕ) → List Bool → List (List ℕ)
 names_on [] v = []
 names_on (name ∷ names) [] = []

@@ -1,14 +1,14 @@
--- Letters and ultimately periodic words.
+-- Letters and lasso words (ultimately periodic words).
 use Rattle.std.specs.Prelude.{◌≡◌, ◌≢◌, ℕ, zero, suc, ◌-◌, ◌%◌, ◌≤◌, List, [], ◌∷◌, ◌++◌, length, Option, nat_lt, if◌then◌else◌, slice_get}
 use Rattle.std.specs.Cmp.Lexicographic.{slice_cmp}
 use Rattle.std.specs.FinSet.{FinSet}
 use Rattle.std.specs.Ordering.{nat_cmp}
 
--- The propositions that hold at one moment, by name. A name is a list of bytes.
+-- A letter: the names of the propositions that hold at one position of a word. A name is a list of bytes.
 abbrev pub NameSet : Type 0
 NameSet = FinSet (slice_cmp nat_cmp)
 
--- a list, this many times
+-- the list repeated this many times
 abbrev pub copies : {A : Type 0} → ℕ → List A → List A
 copies zero v = []
 copies (suc k) v = v ++ copies k v
@@ -25,7 +25,7 @@ letter_at u v n = nth u v n
 abbrev pub SpellsSame : List NameSet → List NameSet → List NameSet → List NameSet → Type 0
 SpellsSame u v x y = (n : ℕ) → letter_at u v n ≡ letter_at x y n
 
--- the word is the shortest that spells its infinite word
+-- no lasso word with a shorter stem or cycle spells the same infinite word
 pub record IsReduced (u v : List NameSet) : Type 0 where
   -- the cycle is not two or more copies of a list
   pub primitive : (w : List NameSet) (k : ℕ) → 2 ≤ k → v ≢ copies k w

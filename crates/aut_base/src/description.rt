@@ -17,7 +17,7 @@ pub struct Edge {
 /// A transition-based omega-automaton with an Emerson-Lei condition.
 #[derive(Debug, Drop)]
 pub struct Description {
-    /// The atomic propositions; labels name them by their place.
+    /// The names of the atomic propositions; a label refers to a proposition by its index in this list.
     pub names: Names,
     pub starts: Numbers,
     /// The number of states, which are the numbers below it.

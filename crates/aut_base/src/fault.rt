@@ -1,8 +1,8 @@
-//! The ways in which the outside and the memory can fail.
+//! The ways in which input, output and allocation can fail.
 
 use std::alloc::{AllocError, AllocFailed};
 
-/// Want of memory.
+/// An allocation failed.
 #[derive(Clone, Copy, Debug, PartialEq, Eq)]
 pub struct Memory;
 
@@ -13,9 +13,9 @@ pub struct Failed;
 /// Why a text could not be opened.
 #[derive(Clone, Copy, Debug, PartialEq, Eq)]
 pub enum OpenFail {
-    /// The outside refused.
+    /// The text could not be opened.
     Failed,
-    /// Want of memory.
+    /// An allocation failed.
     Memory,
 }
 

@@ -1,4 +1,4 @@
-//! Few numbers, which lie in the value itself.
+//! A list of numbers that holds up to three of them without an allocation.
 
 ghost use Rattle.std.specs.Prelude.{◌≡◌, ◌==◌, [], ◌∷◌, ◌++◌, length, IfOk, OnOk, OnErr};
 ghost use Rattle.aut_base.specs.FewNumbers.{held_numbers};
@@ -8,15 +8,15 @@ use std::alloc::{AllocError, Global};
 use std::marker::Model;
 
 // Why so: 'What is short lies in the value itself' in docs/DECISIONS.md.
-/// Numbers, of which up to three lie in the value itself: nearly all sets of an edge, goals and starts are as few. Contracts see
-/// the list.
+/// A list of numbers. Up to three are stored in the value itself, without an allocation: the lists of a text's starts, of an edge's
+/// target states and of its sets are seldom longer. Contracts see the list.
 #[derive(Debug, Drop)]
 pub struct FewNumbers {
     alloc: Global,
     held: Held,
 }
 
-/// Where the numbers lie.
+/// How the numbers are stored.
 #[derive(Debug, Drop)]
 pub(crate) enum Held {
     None,
@@ -36,7 +36,7 @@ impl Model for FewNumbers {
 }
 
 impl FewNumbers {
-    /// No number yet.
+    /// An empty list.
     #[inline]
     pub fn new(alloc: Global) -> FewNumbers
         ensures { result ≡ [] }
@@ -47,7 +47,7 @@ impl FewNumbers {
         }
     }
 
-    /// The numbers, to go over.
+    /// The numbers as a slice.
     #[inline]
     pub fn as_slice(&self) -> &[u32]
         ensures { result.now ≡ self.now }
@@ -61,7 +61,7 @@ impl FewNumbers {
         }
     }
 
-    /// How many there are.
+    /// The length of the list.
     #[inline]
     pub fn len(&self) -> usize
         ensures { result ≡ length self.now }
@@ -69,7 +69,7 @@ impl FewNumbers {
         self.as_slice().len()
     }
 
-    /// Whether there is none.
+    /// Whether the list is empty.
     #[inline]
     pub fn is_empty(&self) -> bool
         ensures { result ≡ (length self.now == 0) }
@@ -97,7 +97,7 @@ impl FewNumbers {
     }
 }
 
-/// Three numbers and one more.
+/// The allocated list of three numbers and a fourth.
 #[cold]
 fn four(alloc: Global, three: &[u32], number: u32) -> Result<Held, Memory>
     ensures { IfOk result (λ held. held_numbers held ≡ three.now ++ number ∷ []) }
@@ -107,7 +107,7 @@ fn four(alloc: Global, three: &[u32], number: u32) -> Result<Held, Memory>
     Ok(Held::More(Box::new(alloc, numbers)?))
 }
 
-/// Adds a number to a list.
+/// Adds a number at the end of an allocated list.
 fn push_more(numbers: &mut Vec<u32>, number: u32) -> Result<(), Memory>
     ensures ok { OnOk result (numbers.new.items ≡ numbers.old.items ++ number ∷ []) }
     ensures err { OnErr result (numbers.new.items ≡ numbers.old.items) }
@@ -139,7 +139,7 @@ impl Clone for FewNumbers {
     }
 }
 
-/// The same numbers, in a list of their own.
+/// An allocated list of these numbers.
 fn copied(alloc: Global, numbers: &[u32]) -> Result<Box<Vec<u32>>, AllocError>
     ensures { IfOk result (λ copy. copy.value.items ≡ numbers.now) }
 {

@@ -8,8 +8,8 @@ ghost use Rattle.aut_base.specs.Formula.{FormulaTree, FormulaParts, trees, SetsB
 use crate::{Marks, Memory};
 use std::alloc::Global;
 
-/// An Emerson-Lei condition over the acceptance sets (HOA v1, Acceptance). `neg` stands for the `!` before
-/// the set's number, and speaks of the edges that don't belong to the set.
+/// An Emerson-Lei condition over the acceptance sets (HOA v1, Acceptance). `neg` is true where `!` is before the set's number: then
+/// the atom is about the edges that aren't in the set.
 #[cycle(formula)]
 #[derive(Debug, Drop)]
 pub enum Formula {
@@ -31,7 +31,7 @@ pub struct Formulas {
 }
 
 impl Formula {
-    /// The same condition, held apart.
+    /// A copy of the condition.
     #[cycle(formula_copy)]
     pub fn copy(&self, alloc: Global) -> Result<Formula, Memory>
         ensures { IfOk result (λ new. formula_tree new ≡ formula_tree self.now) }
@@ -54,8 +54,7 @@ impl Formula {
 }
 
 impl Formula {
-    /// Whether the condition is met where the edges that come again and again are those of a cycle, given by the
-    /// marks of each.
+    /// Whether a run meets the condition whose edges that occur infinitely often are those of this cycle, given by the marks of each.
     #[cycle(formula_met)]
     #[tactic(auto, using(crate::proofs::trees::FormulaTrees::formula_trees))]
     pub fn met_by(&self, cycle: &[Marks]) -> bool
@@ -149,7 +148,7 @@ impl Formulas {
         self.others.len() + 2
     }
 
-    /// The part at this place, from 0.
+    /// The part at this index, from 0.
     pub fn at(&self, place: usize) -> &Formula
         requires { place < length (formula_list self.now) }
         ensures { slice_get (formula_list self.now) place ≡ Some (formula_tree result.now) }
@@ -161,7 +160,7 @@ impl Formulas {
         }
     }
 
-    /// The same parts, held apart.
+    /// A copy of the parts.
     #[cycle(formula_copy)]
     pub fn copy(&self, alloc: Global) -> Result<Formulas, Memory>
         ensures { IfOk result (λ new. formula_parts new ≡ formula_parts self.now) }

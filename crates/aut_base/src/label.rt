@@ -7,15 +7,14 @@ ghost use Rattle.aut_base.specs.Label.{LabelTree, LabelParts, AllBelow, EachBelo
 use crate::{Letter, Memory, Names};
 use std::alloc::Global;
 
-/// A Boolean formula over the atomic propositions, which go by their place in the automaton's list of names
-/// (HOA v1, label-expr).
+/// A Boolean formula over the atomic propositions, each given by its index in the automaton's list of names (HOA v1, label-expr).
 #[cycle(label)]
 #[derive(Debug, Drop)]
 pub enum Label {
     True,
     False,
     Prop(u32),
-    /// A proposition behind `!`: most negations are of one, and this takes no box. It is seen as the negation that it is.
+    /// The negation of a proposition, as most negations are: unlike `Not`, it needs no box. Contracts see the same tree for both.
     Negated(u32),
     Not(Box<Label>),
     And(Box<Labels>),
@@ -33,7 +32,7 @@ pub struct Labels {
 }
 
 impl Label {
-    /// The same label, held apart.
+    /// A copy of the label.
     #[cycle(label_copy)]
     pub fn copy(&self, alloc: Global) -> Result<Label, Memory>
         ensures { IfOk result (λ new. label_tree new ≡ label_tree self.now) }
@@ -59,7 +58,7 @@ impl Label {
     }
 
     // Why so: '`Label::truth` is public beside `Label::holds`' in docs/DECISIONS.md.
-    /// Whether the label is true where `on` says of each proposition whether it holds.
+    /// The truth of the label under a valuation: `on` says of each proposition whether it holds.
     #[cycle(label_truth)]
     #[tactic(auto, using(crate::proofs::trees::LabelTrees::label_trees))]
     pub fn truth(&self, on: &[bool]) -> bool
@@ -81,7 +80,7 @@ impl Label {
 }
 
 impl Label {
-    /// Whether the label holds of the letter, where propositions go by their place in the list of names.
+    /// Whether the label holds of the letter, where `names` has the name of each proposition by its index.
     #[cycle(label_holds)]
     #[tactic(auto, using(crate::proofs::trees::LabelTrees::label_trees))]
     pub fn holds(&self, names: &Names, letter: &Letter) -> bool
@@ -165,7 +164,7 @@ impl Labels {
         self.others.len() + 2
     }
 
-    /// The part at this place, from 0.
+    /// The part at this index, from 0.
     pub fn at(&self, place: usize) -> &Label
         requires { place < length (label_list self.now) }
         ensures { slice_get (label_list self.now) place ≡ Some (label_tree result.now) }
@@ -177,7 +176,7 @@ impl Labels {
         }
     }
 
-    /// The same parts, held apart.
+    /// A copy of the parts.
     #[cycle(label_copy)]
     pub fn copy(&self, alloc: Global) -> Result<Labels, Memory>
         ensures { IfOk result (λ new. label_parts new ≡ label_parts self.now) }

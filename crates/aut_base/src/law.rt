@@ -11,7 +11,7 @@ pub fn same_word_same_verdict()
     ensures { SameWordSameVerdict }
 {}
 
-/// What some automata of one and two states accept, and what they don't.
+/// Which words some automata of one and two states accept, and which they don't.
 pub fn worked_examples()
     ensures { WorkedExamples }
 {}
@@ -26,12 +26,12 @@ pub fn same_truth_same_label()
     ensures { SameTruthSameLabel }
 {}
 
-/// An automaton accepts the same words when each of its labels stands in canonical form.
+/// An automaton accepts the same words once each of its labels is replaced by its canonical form.
 pub fn canonical_accepts_the_same()
     ensures { (a : Automaton) → CanonicalAcceptsTheSame a }
 {}
 
-/// Further names, of which no label speaks, make no difference.
+/// Further propositions, which occur in no label, don't change which words an automaton accepts.
 pub fn other_names_play_no_part()
     ensures { OtherNamesPlayNoPart }
 {}

@@ -1,4 +1,4 @@
-//! Letters, and the infinite words that end in a cycle.
+//! Letters, and lasso words (ultimately periodic infinite words).
 
 ghost use Rattle.std.specs.Prelude.{◌≡◌, ◌<◌, ℕ, List, ◌↔◌, IsTrue, Contains, OnOk, OnErr, length};
 ghost use Rattle.std.specs.FinSet as set;
@@ -11,7 +11,7 @@ use std::marker::Model;
 pub type Letters = Seq<Letter>;
 
 // Why so: 'A letter is seen as a set of names' in docs/DECISIONS.md.
-/// The propositions that hold at one moment. Contracts see the finite set of their names.
+/// A letter: the propositions that hold at one position of a word. Contracts see the finite set of their names.
 #[derive(Debug, Drop)]
 pub struct Letter {
     names: Names,
@@ -67,7 +67,7 @@ impl Letter {
     }
 }
 
-/// An ultimately periodic word: the letters of `stem`, and then those of `cycle` again and again.
+/// A lasso word: the ultimately periodic word of the letters of `stem`, and then those of `cycle` again and again.
 #[derive(Debug, Drop)]
 pub struct Lasso {
     pub stem: Letters,

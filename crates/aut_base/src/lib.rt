@@ -1,5 +1,5 @@
-//! The words that every other crate speaks in: texts, names, letters, lasso words, labels,
-//! acceptance conditions, and the automaton that a text describes.
+//! The types that every other crate uses: texts, names, letters, lasso words, labels, acceptance conditions, and the automaton that
+//! a text describes.
 //!
 //! A caller sees these types, what their methods compute, the limits of a run, and laws. Letters and words are defined in
 //! `specs/Word`, labels and conditions as trees in `specs/Label` and `specs/Formula`, automata in `specs/Automaton`, which

@@ -38,7 +38,7 @@ impl Clone for Marks {
 }
 
 impl Marks {
-    /// No mark.
+    /// No marks.
     #[inline]
     pub fn new(alloc: Global) -> Self
         ensures { result ≡ [] }
@@ -64,7 +64,7 @@ impl Marks {
         self.items.is_empty()
     }
 
-    /// The mark at this place, from 0.
+    /// The mark at this index, from 0.
     #[inline]
     pub fn at(&self, place: usize) -> &u32
         requires { place < length self.now }
@@ -82,7 +82,7 @@ impl Marks {
         self.items.as_slice().contains(&set)
     }
 
-    /// The marks, to go over. They increase.
+    /// The marks as a slice, in increasing order.
     #[inline]
     pub fn as_slice(&self) -> &[u32]
         ensures items { result.now ≡ self.now }

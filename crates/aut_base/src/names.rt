@@ -24,7 +24,7 @@ impl Model for Names {
 }
 
 impl Names {
-    /// No name.
+    /// An empty list.
     pub fn new(alloc: Global) -> Self
         ensures { result ≡ [] }
     {
@@ -33,7 +33,7 @@ impl Names {
         }
     }
 
-    /// These names, without a copy.
+    /// The list of these names, without a copy.
     pub fn from_texts(texts: Words) -> Self
         requires { AllPairs (λ a b. a ≢ b) texts }
         ensures { result ≡ texts }
@@ -57,7 +57,7 @@ impl Names {
         self.items.is_empty()
     }
 
-    /// The name at this place, from 0.
+    /// The name at this index, from 0.
     pub fn at(&self, place: usize) -> &Text
         requires { place < length self.now }
         ensures value { Some result.now ≡ slice_get self.now place }
@@ -73,7 +73,7 @@ impl Names {
         place_of(&self.items, name).is_some()
     }
 
-    /// The place of this name, from 0, or `None` exactly where the list doesn't have it.
+    /// The index of this name, from 0, or `None` exactly where the list doesn't have it.
     pub fn position(&self, name: &Text) -> Option<u32>
         requires { length self.now ≤ 2 ^ 32 }
         ensures { MatchOption result (All (λ other. other ≢ name.now) self.now) (λ place. slice_get self.now place ≡ Some name.now) }
@@ -84,7 +84,7 @@ impl Names {
         }
     }
 
-    /// The names, to go over. No two of them are equal.
+    /// The names as a slice. No two of them are equal.
     pub fn as_slice(&self) -> &[Text]
         ensures items { result.now ≡ self.now }
         ensures distinct { AllPairs (λ a b. a ≢ b) self.now }
@@ -105,7 +105,7 @@ impl Names {
     }
 }
 
-// The place of this name, or `None` exactly where it isn't there.
+// The index of this name, or `None` exactly where the list doesn't have it.
 fn place_of(items: &[Text], name: &Text) -> Option<usize>
     ensures { MatchOption result (All (λ other. other ≢ name.now) items.now) (λ place. slice_get items.now place ≡ Some name.now) }
 {

@@ -1,4 +1,4 @@
-//! A list that contracts see as a list: where it lies in memory is out of sight.
+//! The list type of the repository. Contracts see its items alone, and nothing of the memory that it takes.
 
 ghost use Rattle.std.specs.Prelude.{◌≡◌, ◌==◌, ◌<◌, ◌↔◌, [], ◌∷◌, ◌++◌, length, slice_get, IsTrue, IfOk, OnOk, OnErr};
 ghost use Rattle.std.specs.List.{slice_index_or};
@@ -28,10 +28,10 @@ pub type Numbers = Seq<u32>;
 /// Arcs of a graph, each from a node to a node.
 pub type Arcs = Seq<(u32, u32)>;
 
-/// Truth values, as one for each node of a graph.
+/// Truth values, such as one for each node of a graph.
 pub type Flags = Seq<bool>;
 
-/// Places in a list, from 0.
+/// Indices into a list, from 0.
 pub type Places = Seq<usize>;
 
 impl<T> Model for Seq<T> {
@@ -66,7 +66,7 @@ impl<T> Seq<T> {
         self.items.is_empty()
     }
 
-    /// The item at this place, from 0.
+    /// The item at this index, from 0.
     pub fn at(&self, place: usize) -> &T
         requires { place < length self.now }
         ensures value { Some result.now ≡ slice_get self.now place }
@@ -75,7 +75,7 @@ impl<T> Seq<T> {
         &self.items[place]
     }
 
-    /// The items, to go over.
+    /// The items as a slice.
     pub fn as_slice(&self) -> &[T]
         ensures { result.now ≡ self.now }
     {
@@ -133,7 +133,7 @@ impl Seq<u8> {
         }
     }
 
-    /// The same text, held apart.
+    /// A copy of the text.
     pub fn copy(&self, alloc: Global) -> Result<Text, Memory>
         ensures { IfOk result (λ copy. copy ≡ self.now) }
     {
@@ -181,7 +181,7 @@ impl Seq<u8> {
 }
 
 impl Seq<Text> {
-    /// The same texts, held apart.
+    /// A copy of the list and its texts.
     pub fn copy(&self, alloc: Global) -> Result<Words, Memory>
         ensures { IfOk result (λ copy. copy ≡ self.now) }
     {
@@ -189,7 +189,7 @@ impl Seq<Text> {
     }
 }
 
-/// The texts, in a list of their own.
+/// A copy of the texts.
 fn copy_all(alloc: Global, texts: &[Text]) -> Result<Words, Memory>
     ensures { IfOk result (λ copy. copy ≡ texts.now) }
 {

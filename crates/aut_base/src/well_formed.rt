@@ -1,4 +1,4 @@
-//! Whether a description keeps the rules that make it well formed.
+//! Whether a description is well formed.
 
 ghost use Rattle.std.specs.Prelude.{◌≢◌, ℕ, ◌<◌, ◌≤◌, ◌↔◌, IsTrue, All, AllPairs, length, map};
 ghost use Rattle.std.specs.List.Sorted.{IsNonDecreasing};
@@ -9,9 +9,9 @@ use crate::{Description, Edge};
 
 impl Description {
     // Why so: 'Well-formed is decided and not a rule of the type' in docs/DECISIONS.md.
-    /// Whether starts are distinct, edges stand in the order of the states that they leave, and every number is in
-    /// range. Names differ and marks rise by their types. Takes time in proportion to the size of the description, and to
-    /// the square of the number of starts.
+    /// Whether starts are distinct, edges are in the order of the states that they leave, and every number is in
+    /// range. That names differ and marks increase is ensured by their types. Takes time in proportion to the size of the description,
+    /// and to the square of the number of starts.
     #[tactic(auto, using(crate::proofs::order::WellFormed::well_formed))]
     pub fn is_well_formed(&self) -> bool
         ensures { IsTrue result ↔ IsWellFormed (automaton self.now) }
@@ -44,7 +44,7 @@ fn are_distinct(starts: &[u32]) -> bool
     true
 }
 
-/// Whether the start at this place differs from those before it.
+/// Whether the start at this index differs from those before it.
 fn is_new(starts: &[u32], i: usize) -> bool
     requires { i < length starts.now }
     ensures { IsTrue result ↔ DiffersFromEarlier starts.now i }

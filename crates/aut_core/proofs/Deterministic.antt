@@ -1,4 +1,4 @@
--- What is true of the edges of each state, and of the automaton.
+-- Determinism and completeness of an automaton, by the edges of each state.
 use Rattle.aut_base.proofs.order.AllPairsOf.{pairs_first, pairs_rest}
 use Rattle.aut_base.proofs.order.Ordered.{any_kept, of_kept}
 use Rattle.std.proofs.Common.{◌≡◌, ◌∙◌, ◌↔◌, ◌==◌, ◌<◌, ◌≤◌, ℕ, Bool, true, false, cond, IsTrue, List, [], ◌∷◌, All, AllPairs, Contains, ap, arith, get_or, leb, length, not, refl, subst, sym}
@@ -13,7 +13,7 @@ use Rattle.aut_core.specs.Deterministic.{AreApart, HasSuccessor, GoesOneWay, IsC
 use Rattle.aut_core.specs.Surveys.{AreAllApart, AreSurveyed, IsFilled, edges_from}
 use Rattle.aut_core.specs.declared.survey.GuardSurvey.{GuardSurvey}
 
--- the edges with this start, of a list that begins with e
+-- the edges that leave q, of a list that begins with e
 abbrev from_or : ℕ → LabelledEdge → List LabelledEdge → Bool → List LabelledEdge
 from_or q e es b = cond b (e ∷ edges_from q es) (edges_from q es)
 
@@ -74,7 +74,7 @@ complete_if a b some is = (
 pub not_complete : (a : Automaton) (b : Bool) → (length a.starts == 0) ≡ true → b ≡ not (length a.starts == 0) → IsTrue b ↔ IsComplete a
 not_complete a b none is = (λ e. absurd (false≢true (sym (ap not none) ∙ (sym is ∙ e))), λ d. absurd (omega (arith, d.start, eqb-true (length a.starts) 0 none)))
 
--- Where each letter meets just one edge of every state, both are so.
+-- Where each letter meets exactly one edge of every state, edges are disjoint and exhaustive.
 pub one_way_surveyed : (a : Automaton) (found : GuardSurvey) → GoesOneWay a → found.disjoint ≡ true → found.exhaustive ≡ true → AreSurveyed a.names a.edges a.states found
 one_way_surveyed a found one disjoint exhaustive = record {
   disjoint = (λ e q l. state_by_apart a.names a.edges one.disjoint q, λ h. disjoint);

@@ -1,4 +1,4 @@
--- Links that stand for edges, made one by one.
+-- Links of given edges, made one by one.
 use Rattle.std.proofs.Common.{All, List, [], ap, arith, get_or, length, map, refl, subst, suc, sym, take, zero, ℕ, ◌++◌, ◌+◌, ◌<◌, ◌∙◌, ◌∷◌, ◌≡◌, ◌≤◌}
 use Rattle.std.proofs.lemmas.List.{map-append, take_all}
 use Rattle.std.proofs.lemmas.List.Elements.{All-append, All-weaker}
@@ -36,7 +36,7 @@ pub stand_push : (s : Store) (links new : List Link) (l : Link) (es : List Label
     → StandFor s new (es ++ e ∷ [])
 stand_push s links new l es e so_far has is pushed = stand_append s links (l ∷ []) new es (e ∷ []) so_far (stand_one s l e has is) pushed
 
--- a link more, for the next item of a list whose items say which edges
+-- another link, for the edge of the next item of a list
 pub stand_more : {X : Type 0} (f : X → LabelledEdge) (xs : List X) (k : ℕ) (x : X) (s t : Store) (old new : List Link) (l : Link) → k < length xs → x ≡ get_or xs k x
     → StandFor s old (map f (take k xs)) → Keeps s t → Has t l.guard → edge_of t l ≡ f x → new ≡ old ++ l ∷ [] → StandFor t new (map f (take (k + 1) xs))
 stand_more f xs k x s t old new l within is so_far keeps has e pushed =

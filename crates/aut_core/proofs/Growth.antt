@@ -1,4 +1,4 @@
--- Stores that keep what they have, and links whose labels so stay.
+-- Stores that grow keep their guards, so links keep their labels.
 use Rattle.std.proofs.Common.{◌≡◌, ◌∙◌, suc, List, [], ◌∷◌, All, ap, arith, map, refl}
 use Rattle.label_guards.specs.Store.{Has, Keeps, Store}
 use Rattle.aut_core.specs.SymbolicAutomata.{edge_of}

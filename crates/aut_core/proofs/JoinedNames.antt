@@ -1,4 +1,4 @@
--- Names that are put together, name by name.
+-- The joint list of names, made name by name.
 use Rattle.aut_base.proofs.lists.Lists.{take-push}
 use Rattle.aut_base.proofs.order.Ordered.{of_kept}
 use Rattle.aut_base.proofs.words.Texts as texts
@@ -19,7 +19,7 @@ among a name there = list_any-from_Contains nat_list_eq_equiv name a there
 pub not_among : (a : List (List ℕ)) (name : List ℕ) → All (λ other. other ≢ name) a → is_among a name ≡ false
 not_among a name all = list_any_none (same_text name) a (λ k d within. false_from_ne_true (same_text name (get_or a k d)) (λ e. all k d within (sym (texts.same_text name (get_or a k d) e))))
 
--- the names of the second list, as far as place k, that the first lacks
+-- those of the first k names of the second list that the first list lacks
 abbrev pub lacking : List (List ℕ) → List (List ℕ) → ℕ → List (List ℕ)
 lacking a b k = filter (λ name. not (is_among a name)) (take k b)
 

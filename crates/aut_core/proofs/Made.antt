@@ -1,4 +1,4 @@
--- What holds of an automaton that is made of parts.
+-- Automata made of parts that fit together are well formed, and have canonical labels.
 use Rattle.std.proofs.Common.{◌≡◌, ◌≢◌, ◌∙◌, ◌<◌, ◌≤◌, List, [], ◌∷◌, All, AllPairs, ap, arith, get_or, length, map, refl, subst, sym}
 use Rattle.std.proofs.lemmas.List.{get_or-map, length-map}
 use Rattle.aut_base.specs.declared.limit.TheConstants.{MOST_NAMES}

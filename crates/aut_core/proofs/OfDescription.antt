@@ -1,4 +1,4 @@
--- The automaton of a description.
+-- The automaton of a description, made of its parts.
 use Rattle.std.proofs.Common.{◌≡◌, ◌↔◌, ◌∙◌, ◌≤◌, ℕ, List, All, ap, arith, get_or, length, map, refl, subst, sym}
 use Rattle.std.proofs.lemmas.List.{get_or-map, length-map}
 use Rattle.std.proofs.lemmas.Simd.{map-map}
@@ -18,7 +18,7 @@ use Rattle.aut_core.specs.OtherNames.{AcceptTheSame}
 use Rattle.aut_core.specs.declared.link.Link.{Link}
 use Rattle.aut_core.proofs.Made.{parts_from}
 
--- the labels speak of the store's propositions
+-- the propositions of the labels are among the store's
 pub labels_below : (d : Description) (n : ℕ) (es : List Edge) → IsWellFormed (automaton d) → n ≡ length d.names → es ≡ d.edges → All (λ e. AllBelow n (labelled_edge e).label) es
 labels_below d n es formed count same = subst (λ xs. All (λ e. AllBelow n (labelled_edge e).label) xs) (sym same) (λ k e within.
     let edge = subst (λ (t : LabelledEdge). AllBelow (length d.names) t.label) (get_or-map labelled_edge d.edges k e (labelled_edge e) within)

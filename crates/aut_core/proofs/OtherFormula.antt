@@ -6,7 +6,7 @@ use Rattle.aut_base.specs.Formula.{FormulaTree, SetsBelow}
 use Rattle.aut_core.specs.SymbolicAutomata.{SymbolicAutomaton}
 use Rattle.aut_core.specs.Kept.{IsIndexed}
 
--- what is known of it stays: nothing of that speaks of the condition
+-- its index and its flags stay right, since they don't depend on the condition
 pub kept_under : (c : SymbolicAutomaton) (f : FormulaTree) (rows : List ℕ) (deterministic complete : Bool) → SetsBelow c.sets f → IsIndexed c rows deterministic complete
     → IsIndexed (record c { formula = f }) rows deterministic complete
 kept_under c f rows deterministic complete below kept = record {

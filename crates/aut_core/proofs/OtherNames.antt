@@ -1,4 +1,4 @@
--- A label over other names.
+-- Labels and automata over other names.
 use Rattle.std.proofs.Common.{◌≡◌, ◌≢◌, ◌∙◌, ◌<◌, ◌≤◌, ◌+◌, ⊎_elim, ℕ, Bool, false, List, [], ◌∷◌, ◌++◌, All, AllPairs, Contains, Some, ap, arith}
 use Rattle.std.proofs.Common.{get_or, length, length-append, map, slice_get, subst, sym}
 use Rattle.std.proofs.lemmas.Bool.{cases_lt}
@@ -32,11 +32,11 @@ use Rattle.aut_core.specs.OtherNames.{AcceptTheSame, label_over, over_names}
 use Rattle.aut_core.specs.declared.link.Link.{Link}
 use Rattle.aut_core.proofs.Made.{label_in_below, label_in_settled, parts_from}
 
--- each name stands in the other list at its place
+-- each old name is in the new list, at the index that `to` has for it
 abbrev pub ArePlaces : List (List ℕ) → List (List ℕ) → List ℕ → Type 0
 ArePlaces old new to = (k : ℕ) → k < length old → slice_get new (slice_index_or to k 0) ≡ slice_get old k
 
--- the label of a guard that was brought
+-- the label of a guard that was translated into another store
 pub brought_label : (s t : Store) (old new : List (List ℕ)) (to : List ℕ) (g h : Guard) → s.names ≡ length old → AreNames t new → ArePlaces old new to
     → IsGuardOf t (λ on. truth_in s g (λ k. on (slice_index_or to k 0))) h → label_in t h ≡ label_over old new (label_in s g)
 brought_label s t old new to g h count names places is =
@@ -46,7 +46,7 @@ brought_label s t old new to g h count names places is =
     sym (label_in_settled t h) ∙ (label_of-same t.names (truth_on (label_in t h)) (λ v. truth (holds_at old (letter_of new v)) (label_in s g)) at
     ∙ ap (λ n. label_of_truth n (λ v. truth (holds_at old (letter_of new v)) (label_in s g))) (sym names.0))
 
--- the places of the first k names
+-- the indices of the first k names
 pub record IsPlaced (old new : List (List ℕ)) (to : List ℕ) (k : ℕ) : Type 0 where
   pub count : length to ≡ k
   pub within : All (λ place. place < length new) to
@@ -67,7 +67,7 @@ placed_more old new to more k place x within at placed found pushed = subst (λ 
       (cases_lt i k);
 })
 
--- What is asked of an automaton's names.
+-- The new names differ, and include the old ones.
 pub record AreAmong (old new : List (List ℕ)) : Type 0 where
   pub differ : AllPairs (λ p q. p ≢ q) new
   pub has : All (Contains new) old
@@ -87,7 +87,7 @@ same_at old new among x i less =
     ∙ (holds_in-valuation_of (length new) (holds_at new x) j there.1
     ∙ ap (λ o. option_map_or (contains x) o false) (sym both)))
 
--- over its own names a label is as it was
+-- over the same names a label is the same
 label_over_own : (s : Store) (names : List (List ℕ)) → AreNames s names → (g : Guard) → label_over names names (label_in s g) ≡ label_in s g
 label_over_own s names are g =
     label_of-same (length names) (λ v. truth (holds_at names (letter_of names v)) (label_in s g)) (truth_on (label_in s g))

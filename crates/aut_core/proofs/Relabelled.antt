@@ -1,4 +1,4 @@
--- An automaton over other names, with its guards in another store.
+-- An automaton over other names, with its guards in another store, is well formed, and is deterministic or complete as before.
 use Rattle.std.proofs.Common.{◌≡◌, ◌∙◌, ◌↔◌, ◌<◌, ◌≤◌, ℕ, Bool, IsTrue, List, All, AllPairs, Contains, ap, arith, get_or, length, map, refl, subst, sym}
 use Rattle.std.proofs.lemmas.List.{get_or-map, length-map}
 use Rattle.std.proofs.lemmas.List.Elements.{All-contains}
@@ -22,7 +22,7 @@ use Rattle.aut_core.specs.declared.link.Link.{Link}
 use Rattle.aut_core.proofs.Made.{parts_are_well_formed}
 use Rattle.aut_core.proofs.OtherNames.{AreAmong, over_edge, over_parts, over_says, over_well_formed}
 
--- The edges are met by the same letters.
+-- Edges over the new names are met by the same letters.
 
 module _ (a : Automaton) (names : List (List ℕ)) (among : AreAmong a.names names) (below : LabelsBelow a) where
   met_at : (k : ℕ) (e : LabelledEdge) → k < length a.edges → (x : NameSet) → is_met names x (over_edge a.names names (get_or a.edges k e)) ≡ is_met a.names x (get_or a.edges k e)
@@ -99,12 +99,12 @@ begins_like old new state place same begins = record {
         sym (get_or-map (λ (l : Link). l.from) new k d 0 within)
         ∙ (ap (λ (ns : List ℕ). get_or ns k 0) same ∙ get_or-map (λ (l : Link). l.from) old k d 0 (omega (arith, within, size)))
 
--- The links stand for the edges over these names.
+-- The automaton of the new links is the old one over these names.
 pub relabelled_is : (c : SymbolicAutomaton) (names over : List (List ℕ)) (t : Store) (links : List Link) → over ≡ names → StandFor t links (over_names names (automaton_of c)).edges
     → automaton_of (record c { names = over; store = t; links = links }) ≡ over_names names (automaton_of c)
 relabelled_is c names over t links is stand = λ i. record (over_names names (automaton_of c)) { names = is i; edges = stand.edges i }
 
--- What is known of the automaton stays.
+-- The index and the flags of the automaton stay right.
 pub kept_over : (c : SymbolicAutomaton) (names : List (List ℕ)) (t : Store) (links : List Link) (rows : List ℕ) (deterministic complete : Bool) → AreAmong c.names names → length names ≤ MOST_NAMES
     → t.names ≡ length names → StandFor t links (over_names names (automaton_of c)).edges → IsIndexed c rows deterministic complete
     → IsIndexed (record c { names = names; store = t; links = links }) rows deterministic complete

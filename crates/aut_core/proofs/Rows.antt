@@ -1,4 +1,4 @@
--- The items of a list in order that have one key: a part of it between two places.
+-- The items of a sorted list that have one key: the part of it between two indices.
 use Rattle.std.proofs.Common.{◌≡◌, ◌≢◌, ◌∙◌, ◌++◌, ⊎_elim, ◌==◌, ◌+◌, ◌-◌, ◌<◌, ◌≤◌, ℕ, zero, suc, cond, List, [], ◌∷◌, arith, ap, sym, drop, filter, get_or, length, map, refl, subst, take}
 use Rattle.std.proofs.lemmas.Bool.{cases_lt, eq-eqb, ne_eqb}
 use Rattle.std.proofs.lemmas.List.{get_or_append_left, get_or-append_right, get_or_default, get_or-map, length-append, length-map}
@@ -15,8 +15,8 @@ by_key key xs rises i j d order within =
     let less = rises i j 0 order (omega arith) in
     omega arith
 
--- The keys are below q before the first place, and at least q from there on. They are at most q before the second
--- place, and above q from there on.
+-- The keys are below q before the index a, and at least q from there on. They are at most q before the index b, and above q from
+-- there on.
 pub record Surrounds {X : Type 0} (key : X → ℕ) (q : ℕ) (xs : List X) (a b : ℕ) : Type 0 where
   pub low : (k : ℕ) (d : X) → k < a → k < length xs → key (get_or xs k d) < q
   pub from : (k : ℕ) (d : X) → a ≤ k → k < length xs → q ≤ key (get_or xs k d)
@@ -35,7 +35,7 @@ taken_of_none : {X : Type 0} (n : ℕ) (xs : List X) → xs ≡ [] → take n xs
 taken_of_none zero xs e = refl
 taken_of_none (suc n) xs e = ap (take (suc n)) e
 
--- none before the first place, all up to the second one, and none from there on
+-- the items with the key q are those between the two indices
 pub between : {X : Type 0} (key : X → ℕ) (q : ℕ) (xs : List X) (a b : ℕ) → Surrounds key q xs a b → slice_range xs a b ≡ filter (λ x. key x == q) xs
 between key q [] zero b s = taken_of_none (b - 0) [] refl
 between key q [] (suc a) b s = taken_of_none (b - suc a) [] refl
@@ -69,9 +69,9 @@ in_order key q (x ∷ xs) (suc a) (suc b) most s =
     let fewer = in_order key q xs a b (omega (arith, most)) (rest key q x xs (suc a) (suc b) a b s (omega arith) (omega arith)) in
     omega arith
 
--- Rows of links.
+-- The links of one state.
 
--- the links from the place where those of a state begin up to where the next begin
+-- the links of a state are between the index where they begin and that where those of the next state do
 pub surrounds : {links : List Link} {state a b : ℕ} → IsRowStart links state a → IsRowStart links (state + 1) b → Surrounds (λ (l : Link). l.from) state links a b
 surrounds {links} {state} {a} {b} first second = record {
   low = λ k d l w. first.before k d l;
@@ -86,7 +86,7 @@ row_between {links} {state} {a} {b} first second = between (λ (l : Link). l.fro
 pub row_in_order : {links : List Link} {state a b : ℕ} → IsRowStart links state a → IsRowStart links (state + 1) b → a ≤ b
 row_in_order {links} {state} {a} {b} first second = in_order (λ (l : Link). l.from) state links a b first.within (surrounds first second)
 
--- the links of a state as far as they were looked at
+-- the links from `start` to before `end` leave the state or earlier ones
 pub record IsInRow (links : List Link) (state start end : ℕ) : Type 0 where
   pub low : start ≤ end
   pub within : end ≤ length links

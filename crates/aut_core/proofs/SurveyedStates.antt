@@ -1,4 +1,4 @@
--- What is true of the links of each state, state by state.
+-- Surveys of links, one state after another.
 use Rattle.std.proofs.Common.{◌≡◌, ◌↔◌, ◌<◌, ◌≤◌, ◌+◌, ◌==◌, ◌⊎◌, inl, inr, ⊎_elim, ℕ, Bool, IsTrue, List, arith, filter, map, subst, sym}
 use Rattle.std.proofs.lemmas.Bool.{cases_lt}
 use Rattle.aut_base.proofs.order.Ordered.{filter_map_of}
@@ -18,7 +18,7 @@ below_more P n b c f g = (
   λ h. g.1 (f.1 (λ k l. h k (omega arith)), h n (omega arith)),
 )
 
--- A state more.
+-- The survey once another state is added.
 pub surveyed_more : (names : List (List ℕ)) (s : Store) (links : List Link) (state : ℕ) (known found : GuardSurvey) → AreSurveyed names (map (edge_of s) links) state known
     → IsSurvey names (map (edge_of s) (filter (λ (l : Link). l.from == state) links)) known found → AreSurveyed names (map (edge_of s) links) (state + 1) found
 surveyed_more names s links state known found so_far survey =

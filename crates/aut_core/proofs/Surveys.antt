@@ -1,4 +1,4 @@
--- What the guards of links tell, by halves.
+-- Surveys of the links of one state, by halves.
 use Rattle.aut_base.proofs.numbers.Truth.{or-false}
 use Rattle.std.proofs.Common.{◌≡◌, ◌∙◌, ◌↔◌, ◌+◌, ◌-◌, ◌/◌, ◌<◌, ◌≤◌, ℕ, Bool, true, false, ◌&&◌, ◌||◌, IfOk, IsTrue, List, [], ◌∷◌, ◌++◌, All, Err}
 use Rattle.std.proofs.Common.{Ok, Result, ap, arith, drop, get_or, length, length-append, map, refl, subst, sym, take}
@@ -72,7 +72,7 @@ apart_from names es fs all letter =
     let right = get_or-append-add es fs next.0 found.1 ∙ (get_or_default fs next.0 found.1 next.1 next.2 ∙ next.3) in
     all found.0 (length es + next.0) found.1 (omega (arith, found.2)) (omega (arith, size, next.2)) letter (ap (is_met names letter) left ∙ found.4) (ap (is_met names letter) right ∙ next.4))
 
--- one link alone
+-- the survey of a single link
 pub alone_met : (names : List (List ℕ)) (s : Store) (x : Link) (known : GuardSurvey) → Has s x.guard
     → IsUnionSurveyed names s (edge_of s x ∷ []) known (record { guard = x.guard; disjoint = known.disjoint })
 alone_met names s x known has = record {
@@ -81,7 +81,7 @@ alone_met names s x known has = record {
   disjoint = (λ e. (e, λ i j d less within. absurd (omega (arith, less, within))), λ h. h.0);
 }
 
--- Where nothing is left to be learnt, any guard will do.
+-- Where neither answer is needed any more, any guard will do.
 pub unasked_met : (names : List (List ℕ)) (s : Store) (es : List LabelledEdge) (g : Guard) (known : GuardSurvey) → known.disjoint ≡ false → known.exhaustive ≡ false → Has s g
     → IsUnionSurveyed names s es known (record { guard = g; disjoint = known.disjoint })
 unasked_met names s es g known not_apart not_filled has = record {
@@ -90,7 +90,7 @@ unasked_met names s es g known not_apart not_filled has = record {
   disjoint = (λ e. absurd (false≢true (sym not_apart ∙ e)), λ h. h.0);
 }
 
--- Where two edges were met together before, only the guard is asked.
+-- Where edges that aren't disjoint were found before, only the disjunction is needed.
 pub in_turn_met : (names : List (List ℕ)) (s now : Store) (links : List Link) (known : GuardSurvey) (met : Met) → known.disjoint ≡ false → met.disjoint ≡ false
     → IsGuardOf now (λ on. list_any (λ l. truth_in s l.guard on) links) met.guard → IsUnionSurveyed names now (map (edge_of s) links) known met
 in_turn_met names s now links known met before disjoint guard = record {
@@ -99,7 +99,7 @@ in_turn_met names s now links known met before disjoint guard = record {
   disjoint = (λ e. absurd (false≢true (sym disjoint ∙ e)), λ h. absurd (false≢true (sym before ∙ h.0)));
 }
 
--- Two halves, of which the second was told with the first.
+-- Two halves, of which the second was surveyed given what the first found.
 pub halves_met : (names : List (List ℕ)) (s t now : Store) (es fs : List LabelledEdge) (known : GuardSurvey) (first second met : Met) → IsUnionSurveyed names s es known first → Keeps s t
     → IsUnionSurveyed names t fs (record { disjoint = first.disjoint; exhaustive = known.exhaustive }) second → Has now met.guard
     → (IsTrue (second.disjoint || known.exhaustive) → IsGuardOf now (λ on. truth_in t first.guard on || truth_in t second.guard on) met.guard)
@@ -131,7 +131,7 @@ halves_met names s t now es fs known first second met is_first keeps is_second h
     here e f letter i =
         first_there (or_left first.disjoint known.exhaustive e) (holds_at names letter) i && is_second.truth (or_left second.disjoint known.exhaustive f) (holds_at names letter) i
 
--- What links of one state tell, by the guard that is true where one of them is met.
+-- The survey once the links of a state are added, by the disjunction of their guards.
 pub met_survey : (names : List (List ℕ)) (s : Store) (es : List LabelledEdge) (known found : GuardSurvey) (met : Met) → IsUnionSurveyed names s es known met → found.disjoint ≡ met.disjoint
     → (IsTrue found.exhaustive ↔ (IsTrue known.exhaustive × IsMetAlways s names met.guard)) → IsSurvey names es known found
 met_survey names s es known found met is disjoint exhaustive = record {
@@ -153,7 +153,7 @@ one_link [] x some few is = absurd (omega (arith, some))
 one_link (y ∷ []) x some few is = ap (λ z. z ∷ []) is
 one_link (y ∷ z ∷ zs) x some few is = absurd (omega (arith, few))
 
--- Without a link nothing is met, and nothing twice.
+-- Without links, the edges of a state are disjoint, and not exhaustive.
 pub none_surveyed : (names : List (List ℕ)) (s : Store) (never : Guard) (known found : GuardSurvey) → IsGuardOf s (λ on. false) never → found.disjoint ≡ known.disjoint
     → (IsTrue found.exhaustive ↔ (IsTrue known.exhaustive × IsMetAlways s names never)) → IsSurvey names [] known found
 none_surveyed names s never known found is disjoint exhaustive = record {
@@ -167,7 +167,7 @@ none_surveyed names s never known found is disjoint exhaustive = record {
   );
 }
 
--- What is said of edges in a store that keeps the labels.
+-- A survey stays right in a store that keeps the labels.
 pub kept_survey : (names : List (List ℕ)) (s t : Store) (links : List Link) (known found : GuardSurvey) → Keeps s t → All (λ l. Has s l.guard) links
     → IsSurvey names (map (edge_of t) links) known found → IsSurvey names (map (edge_of s) links) known found
 kept_survey names s t links known found keeps has = subst (λ (es : List LabelledEdge). IsSurvey names es known found) (kept_edges links keeps has)
@@ -192,12 +192,12 @@ rest_has {s} {t} links keeps has =
     All-weaker (λ (l : Link). Has s l.guard) (λ (l : Link). Has t l.guard) (λ l h. keeps.has l.guard h) (rest_of links)
     (All-take (λ (l : Link). Has s l.guard) (length links - length links / 2) (drop (length links / 2) links) (All-drop (λ (l : Link). Has s l.guard) (length links / 2) links has))
 
--- what follows of an answer of which two things are known
+-- two facts of an answer combined
 pub of_two : {E : Type 0} {P Q R : Met → Type 0} (r : Result Met E) → ((m : Met) → P m → Q m → R m) → IfOk r P → IfOk r Q → IfOk r R
 of_two (Ok m) f p q = f m p q
 of_two (Err e) f p q = tt
 
--- what follows of an answer of which three things are known
+-- three facts of an answer combined
 pub of_three : {E : Type 0} {P Q R T : Met → Type 0} (r : Result Met E) → ((m : Met) → P m → Q m → R m → T m) → IfOk r P → IfOk r Q → IfOk r R → IfOk r T
 of_three (Ok m) f p q r = f m p q r
 of_three (Err e) f p q r = tt

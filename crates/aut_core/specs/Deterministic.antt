@@ -1,4 +1,4 @@
--- Deterministic and complete automata (HOA v1, properties).
+-- Deterministic and complete automata (HOA v1, properties). A letter meets an edge where it satisfies the edge's label.
 use Rattle.std.specs.Prelude.{◌≡◌, ℕ, ◌<◌, ◌≤◌, Bool, true, List, length, AllPairs, Contains}
 use Rattle.aut_base.specs.Automaton.{Automaton, LabelledEdge}
 use Rattle.aut_base.specs.Label.{holds_at, truth}
@@ -29,7 +29,7 @@ pub record IsComplete (a : Automaton) : Type 0 where
   pub start : 0 < length a.starts
   pub edges : (state : ℕ) → state < a.states → (letter : NameSet) → HasSuccessor a state letter
 
--- At every state each letter meets just one edge, as it is with implicit labels (HOA v1, implicit labels).
+-- At every state each letter meets exactly one edge, as with implicit labels (HOA v1).
 pub record GoesOneWay (a : Automaton) : Type 0 where
   pub disjoint : AllPairs (λ d e. d.from ≡ e.from → AreApart a.names d e) a.edges
   pub on : (state : ℕ) → state < a.states → (letter : NameSet) → HasSuccessor a state letter

@@ -1,10 +1,10 @@
--- How the prover's logic stores a condition: as its postfix notation. Nothing else is said by it.
+-- A code of conditions, their postfix notation, by which the prover compares them. It has no meaning beyond that.
 use Rattle.std.specs.Prelude.{◌≡◌, ℕ, ◌==◌, true, false, if◌then◌else◌, List, [], ◌∷◌, refl}
 use Rattle.std.specs.Coded.{Coded, code_by, coded×, coded_list, coded_ℕ}
 use Rattle.std.proofs.Common.{◌∙◌}
 use Rattle.aut_base.specs.Formula.{FormulaTree, FormulaTrees, True, False, Inf, Fin, And, Or, none, more}
 
--- the words of a condition before others: what stands there, and the number of a set
+-- the postfix notation of a condition, followed by other words: each is the kind of an operator or atom, and the number of a set
 abbrev mutual
   pub words : FormulaTree → List (ℕ × ℕ) → List (ℕ × ℕ)
   words True rest = (0, 0) ∷ rest
@@ -20,7 +20,7 @@ abbrev mutual
   part_words none rest = (8, 0) ∷ rest
   part_words (more f fs) rest = words f (part_words fs ((9, 0) ∷ rest))
 
--- what was read and isn't part of anything yet, the last first
+-- the stack of a reader of the notation: conditions and lists of parts that aren't part of another yet, the last one first
 pub record Read : Type 0 where
   pub conditions : List FormulaTree
   pub parts : List FormulaTrees

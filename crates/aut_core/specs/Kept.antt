@@ -1,4 +1,4 @@
--- What holds of an automaton and of what it knows since it was made.
+-- The invariant of an automaton in memory: it is well formed, and its index of links and its two flags are right.
 use Rattle.std.specs.Prelude.{◌↔◌, ℕ, Bool, IsTrue, List}
 use Rattle.aut_core.specs.SymbolicAutomata.{SymbolicAutomaton, IsWellFormedSymbolic, automaton_of}
 use Rattle.aut_core.specs.Deterministic.{IsComplete, IsDeterministic}

@@ -1,4 +1,4 @@
--- Names of two automata put together, and an automaton over more names than its own.
+-- The joint list of names of two automata, an automaton over more names than its own, and language equivalence.
 use Rattle.std.specs.Prelude.{ℕ, Bool, not, List, ◌++◌, length, map, filter, All, Contains, ◌↔◌}
 use Rattle.std.specs.List.{list_any}
 use Rattle.aut_base.specs.Acceptance.{Accepts}
@@ -17,12 +17,12 @@ is_among names name = list_any (same_text name) names
 abbrev pub joined_names : List (List ℕ) → List (List ℕ) → List (List ℕ)
 joined_names a b = a ++ filter (λ name. not (is_among a name)) b
 
--- the names have those of both lists
+-- the names include those of both lists
 pub record HaveBoth (a b names : List (List ℕ)) : Type 0 where
   pub first : All (Contains names) a
   pub second : All (Contains names) b
 
--- The canonical label over new names that says the same as this one over the old names: it is true on a valuation
+-- The canonical label over new names that is equivalent to this one over the old names: it is true on a valuation
 -- exactly where this one is true at the letter of the valuation.
 abbrev pub label_over : List (List ℕ) → List (List ℕ) → LabelTree → LabelTree
 label_over old new t = label_of_truth (length new) (λ v. truth (holds_at old (letter_of new v)) t)

@@ -1,4 +1,4 @@
--- An automaton whose labels are guards of a store of its own, as contracts see it.
+-- Symbolic automata, whose labels are guards (decision diagrams) of a store of their own, and the automata that they are.
 use Rattle.std.specs.Prelude.{◌≡◌, ◌≢◌, ℕ, ◌<◌, ◌≤◌, List, length, map, All, AllPairs}
 use Rattle.std.specs.List.Sorted.{IsNonDecreasing}
 use Rattle.aut_base.specs.Automaton.{Automaton, IsWellFormed, LabelledEdge}
@@ -18,22 +18,22 @@ pub record SymbolicAutomaton : Type 0 where
   pub formula : FormulaTree
   pub store : Store
 
--- the edge that a link stands for: the same ends and marks, and the label that its guard has in the store
+-- the edge of a link: the same states and marks, and the label that its guard has in the store
 abbrev pub edge_of : Store → Link → LabelledEdge
 edge_of s l = record { from = l.from; label = label_in s l.guard; to = l.to; marks = l.marks }
 
--- the automaton as a value, whose k-th edge is that of the k-th link
+-- the automaton with labels as trees, whose k-th edge is that of the k-th link
 abbrev pub automaton_of : SymbolicAutomaton → Automaton
 automaton_of c = record { names = c.names; starts = c.starts; states = c.states; edges = map (edge_of c.store) c.links; sets = c.sets; formula = c.formula }
 
--- the link has a guard of the store, and speaks of the automaton's own states and acceptance sets
+-- the link has a guard of the store, and its states and marks are among the automaton's
 pub record IsLinkOf (c : SymbolicAutomaton) (l : Link) : Type 0 where
   pub from : l.from < c.states
   pub guard : Has c.store l.guard
   pub to : l.to < c.states
   pub marks : All (λ mark. mark < c.sets) l.marks
 
--- Parts that make an automaton. That names differ and marks rise, their types say.
+-- The parts fit together to an automaton. That names differ and marks increase is ensured by their types.
 pub record AreSymbolicParts (c : SymbolicAutomaton) : Type 0 where
   pub few : length c.names ≤ MOST_NAMES
   pub store_names : c.store.names ≡ length c.names

@@ -1,4 +1,4 @@
-//! Automata whose labels are guards.
+//! Automata whose labels are guards: decision diagrams in a store.
 
 ghost use Rattle.std.specs.Prelude.{◌≡◌, ◌==◌, ◌<◌, ◌≤◌, ◌↔◌, ℕ, All, Contains, filter, IfOk, IsTrue, length, map};
 ghost use Rattle.aut_base.specs.Formula.{SetsBelow, formula_tree};
@@ -22,11 +22,11 @@ use std::marker::Model;
 /// A transition-based omega-automaton with an Emerson-Lei condition, and its labels in a store of its own.
 #[derive(Drop)]
 pub struct Automaton {
-    /// In a box, so that an automaton is passed on as a pointer and let go by a call, wherever that may be.
+    /// In a box, so that moving an automaton moves a pointer, and dropping one is a call and not code at each place.
     fields: Box<Fields>,
 }
 
-/// What an automaton holds.
+/// The parts of an automaton.
 #[derive(Drop)]
 struct Fields {
     names: Names,
@@ -34,7 +34,7 @@ struct Fields {
     states: u32,
     starts: Numbers,
     links: Links,
-    /// For each state the place where its links begin, and behind them the number of links.
+    /// For each state the index of its first link, and at the end the number of links.
     rows: Places,
     sets: u32,
     formula: Formula,
@@ -98,8 +98,8 @@ impl Automaton {
         )
     }
 
-    /// The automaton of these parts, where each letter meets just one edge of every state, as it is with implicit labels (HOA v1).
-    /// So no guard is looked at. Refused for want of memory, it drops them.
+    /// The automaton of these parts, in which each letter satisfies the label of just one edge of every state, as with implicit labels
+    /// (HOA v1). So determinism and completeness are known, and no guard is compared. Refused for want of memory, it drops the parts.
     pub fn from_letters(
         alloc: Global,
         names: Names,
@@ -124,7 +124,7 @@ impl Automaton {
         )
     }
 
-    /// The automaton of these parts, with what its guards tell and where the links of each state begin.
+    /// The automaton of these parts, whose guards were surveyed, with the index of each state's first link.
     fn surveyed(
         alloc: Global,
         names: Names,
@@ -221,7 +221,7 @@ impl Automaton {
         self.fields.links.as_slice()
     }
 
-    /// The edges that leave this state, in order. Takes no search.
+    /// The edges that leave this state, in order. Takes constant time.
     #[inline]
     pub fn links_of(&self, state: u32) -> &[Link]
         requires { state < self.now.states }
@@ -233,7 +233,7 @@ impl Automaton {
         &fields.links.as_slice()[start..end]
     }
 
-    /// Whether there is at most one start and no letter meets two edges of one state. Takes no time.
+    /// Whether there is at most one start and no letter satisfies the labels of two edges of a state. Takes constant time.
     #[inline]
     pub fn is_deterministic(&self) -> bool
         ensures { IsTrue result ↔ IsDeterministic (automaton_of self.now) }
@@ -241,7 +241,7 @@ impl Automaton {
         self.fields.is_deterministic
     }
 
-    /// Whether there is a start and at every state each letter meets some edge. Takes no time.
+    /// Whether there is a start and at every state each letter satisfies the label of some edge. Takes constant time.
     #[inline]
     pub fn is_complete(&self) -> bool
         ensures { IsTrue result ↔ IsComplete (automaton_of self.now) }
@@ -249,7 +249,7 @@ impl Automaton {
         self.fields.is_complete
     }
 
-    /// The same automaton, held apart.
+    /// A copy of the automaton.
     pub fn copy(&self, alloc: Global) -> Result<Automaton, Memory>
         ensures { IfOk result (λ copy. copy ≡ self.now) }
     {
@@ -271,7 +271,7 @@ impl Automaton {
         })
     }
 
-    /// An automaton of these states, starts and links, with copies of what else this one has.
+    /// An automaton of these states, starts and links, with copies of this one's names, labels, acceptance sets and condition.
     pub fn with_states(
         &self,
         alloc: Global,
@@ -298,8 +298,8 @@ impl Automaton {
     }
 
     // Why so: 'Determinism and completeness are known when an automaton is made' in docs/DECISIONS.md.
-    /// The same automaton over these names, which have all of its own, by links that stand for its edges there. The same letters
-    /// meet them, so what is known of it stays, and no guard is looked at.
+    /// The same automaton over these names, which include its own, with links that are its edges under guards of the new store. The same
+    /// letters satisfy their labels, so it is deterministic or complete as it was, and no guard is compared.
     pub(crate) fn relabelled(
         &self,
         alloc: Global,
@@ -342,7 +342,7 @@ impl Automaton {
         Automaton { fields }
     }
 
-    /// Tells a proof what holds of each automaton.
+    /// Gives proofs what holds of each automaton.
     pub fn well_formedness(&self)
         ensures { IsWellFormedSymbolic self.now }
     {

@@ -1,4 +1,4 @@
-//! The automaton of a description.
+//! The automaton that a description describes.
 
 ghost use Rattle.std.specs.Prelude.{◌≡◌, ◌≤◌, All, IfOk, length, map};
 ghost use Rattle.aut_base.specs.declared.limit.TheConstants.{MOST_NAMES};
@@ -17,8 +17,8 @@ use label_guards::Guards;
 use std::alloc::Global;
 
 impl Automaton {
-    /// The automaton that is described, with each label in its canonical form. It accepts the same words. Whether a
-    /// description is well formed, `Description::is_well_formed` tells.
+    /// The automaton that is described, with each label in its canonical form. It accepts the same words. The description has to be well
+    /// formed, which `Description::is_well_formed` decides.
     pub fn from_description(alloc: Global, d: &Description) -> Result<Automaton, Memory>
         requires few { length d.now.names ≤ MOST_NAMES }
         requires well_formed { IsWellFormed (automaton d.now) }

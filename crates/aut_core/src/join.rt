@@ -1,4 +1,4 @@
-//! The names of two automata put together.
+//! The joint list of names of two automata.
 
 ghost use Rattle.std.specs.Prelude.{◌≡◌, ◌≤◌, ◌<◌, IfOk, OnOk, IsErrOf, length};
 ghost use Rattle.aut_base.specs.declared.limit.TheConstants.{MOST_NAMES};
@@ -9,7 +9,7 @@ use crate::copies::copy_names;
 use aut_base::{MOST_NAMES, Memory, Names};
 use std::alloc::Global;
 
-/// Why names could not be put together.
+/// Why there is no joint list of names.
 #[derive(Clone, Copy, Debug, PartialEq, Eq)]
 pub enum NameFault {
     /// There are more than an automaton may have.
@@ -40,7 +40,7 @@ pub fn join_names(alloc: Global, a: &Names, b: &Names) -> Result<Names, NameFaul
     Ok(names)
 }
 
-/// The same, however many they are.
+/// The same, without a limit.
 fn names_of_both(alloc: Global, a: &Names, b: &Names) -> Result<Names, Memory>
     ensures joined { IfOk result (λ names. names ≡ joined_names a.now b.now) }
     ensures both { IfOk result (HaveBoth a.now b.now) }

@@ -1,8 +1,8 @@
-//! Automata whose labels are guards of a store of their own.
+//! Automata whose labels are guards: decision diagrams in a store that each automaton owns.
 //!
-//! A caller sees `Automaton`: how one is made, what it has, whether it is deterministic and complete, and the same
-//! automaton over more names. What contracts see of it is defined in `specs/Core`, the two properties in
-//! `specs/Deterministic`, and names put together in `specs/OtherNames`.
+//! A caller sees `Automaton`: its constructors, its parts, whether it is deterministic and complete, and the same
+//! automaton over more names. What contracts see of it is defined in `specs/SymbolicAutomata`, the two properties in
+//! `specs/Deterministic`, and other lists of names in `specs/OtherNames`.
 #![tactic(auto)]
 
 mod automaton;

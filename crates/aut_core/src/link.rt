@@ -1,4 +1,4 @@
-//! The edges of an automaton, under guards.
+//! Links: the edges of an automaton, with guards for labels.
 
 ghost use Rattle.std.specs.Prelude.{◌+◌, ◌<◌, ◌≤◌, All, AllPairs, IfOk, map};
 ghost use Rattle.std.specs.List.Sorted.{IsNonDecreasing};
@@ -20,7 +20,7 @@ pub struct Link {
     pub marks: Marks,
 }
 
-/// Where the links of each state begin, and behind them the number of links.
+/// The index of each state's first link, and at the end the number of links. A state without links has that of the next state.
 pub(crate) fn rows_of(alloc: Global, links: &[Link], states: u32) -> Result<Places, Memory>
     requires { IsNonDecreasing (map (λ l. l.from) links.now) }
     ensures { IfOk result (IsIndex links.now states) }
@@ -36,7 +36,7 @@ pub(crate) fn rows_of(alloc: Global, links: &[Link], states: u32) -> Result<Plac
     Ok(Places::from_vec(rows))
 }
 
-/// The end of the links that leave this state, which begin at this place.
+/// The index after the links that leave this state, which begin at the index `start`.
 #[inline]
 pub(crate) fn row_end(links: &[Link], start: usize, state: u32) -> usize
     requires in_order { IsNonDecreasing (map (λ l. l.from) links.now) }
@@ -51,7 +51,7 @@ pub(crate) fn row_end(links: &[Link], start: usize, state: u32) -> usize
     end
 }
 
-/// Tells a proof that the marks of each link rise.
+/// Gives proofs that the marks of each link increase.
 pub(crate) fn marks_rise(links: &[Link])
     ensures { All (λ l. AllPairs (λ m n. m < n) l.marks) links.now }
 {

@@ -17,8 +17,8 @@ use label_guards::{Brought, Guards};
 use std::alloc::Global;
 
 impl Automaton {
-    /// The same automaton over a list of names that has all of its own, in any order. It accepts the same words. Over its own
-    /// names it is copied, and no guard is brought.
+    /// The same automaton over a list of names that includes its own, in any order. It accepts the same words. Over its own
+    /// names it is a plain copy.
     pub fn over(&self, alloc: Global, names: &Names) -> Result<Automaton, Memory>
         requires has { All (Contains names.now) self.now.names }
         requires few { length names.now ≤ MOST_NAMES }
@@ -33,8 +33,8 @@ impl Automaton {
         self.over_in(alloc, names, guards)
     }
 
-    /// The same automaton over these names, which have all of its own, with its guards brought into this store, which is over
-    /// them. What the store has it keeps.
+    /// The same automaton over these names, which include its own, with its guards translated into this store, whose propositions have
+    /// these names. The store keeps the guards that it has.
     pub fn over_in(
         &self,
         alloc: Global,
@@ -55,7 +55,7 @@ impl Automaton {
         self.relabelled(alloc, copy_names(names)?, guards, links)
     }
 
-    /// The links with guards of another store, over the names there.
+    /// The links with their guards translated into another store, over its names.
     fn links_over(
         &self,
         alloc: Global,
@@ -85,7 +85,7 @@ impl Automaton {
     }
 }
 
-/// The place of each name in the other list.
+/// The index of each name in the other list.
 fn places_in(alloc: Global, names: &Names, other: &Names) -> Result<Numbers, Memory>
     requires few { length other.now ≤ MOST_NAMES }
     requires has { All (Contains other.now) names.now }
@@ -100,7 +100,7 @@ fn places_in(alloc: Global, names: &Names, other: &Names) -> Result<Numbers, Mem
     Ok(to)
 }
 
-/// The place of a name that is in the list.
+/// The index of a name that is in the list.
 fn place_in(names: &Names, name: &Text) -> u32
     requires few { length names.now ≤ MOST_NAMES }
     requires has { Contains names.now name.now }

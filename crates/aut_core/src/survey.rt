@@ -1,4 +1,4 @@
-//! What the guards of each state's links tell together.
+//! Determinism and completeness of edges, decided state by state from the guards of the links.
 
 ghost use Rattle.std.specs.List.{list_any};
 ghost use Rattle.std.specs.Prelude.{◌≡◌, ◌↔◌, ◌<◌, ◌||◌, ℕ, Bool, List, All, IfOk, IsTrue, false, length, map};
@@ -12,21 +12,22 @@ use crate::link::Link;
 use aut_base::{Memory, Names, Places};
 use label_guards::{Draft, Guard, Guards};
 
-/// Whether no letter meets two links, and whether each letter meets one, of one state or of several.
+/// Whether the links of each state that was surveyed are disjoint (no letter satisfies two of their guards) and exhaustive (each
+/// letter satisfies one).
 #[derive(Clone, Copy, Debug)]
 pub(crate) struct GuardSurvey {
     pub(crate) disjoint: bool,
     pub(crate) exhaustive: bool,
 }
 
-/// Where one of some links is met, as long as that is asked, and whether no letter meets two of them.
+/// The disjunction of some links' guards, where it is still needed, and whether the links are disjoint.
 #[derive(Clone, Copy, Debug)]
 struct Met {
     guard: Guard,
     disjoint: bool,
 }
 
-/// What is true at every state, where the links of each begin at its row.
+/// The survey of all states. `rows` has the index of each state's first link.
 pub(crate) fn survey_states(
     draft: &mut Draft,
     names: &Names,
@@ -52,7 +53,7 @@ pub(crate) fn survey_states(
     Ok(found)
 }
 
-/// What is still true with the links of one state more. Of one link alone its guard tells it.
+/// The survey once the links of another state are added.
 fn survey_state(
     draft: &mut Draft,
     names: &Names,
@@ -77,7 +78,7 @@ fn survey_state(
     Ok(survey_met(draft.guards(), known, met.guard))
 }
 
-/// What is still true with links of one state, where one is met where this guard is.
+/// The survey once it is added whether the links of a state, whose guards have this disjunction, are exhaustive.
 fn survey_met(guards: &Guards, known: GuardSurvey, met: Guard) -> GuardSurvey
     requires { Has guards.now met }
     ensures disjoint { result.disjoint ≡ known.disjoint }
@@ -89,8 +90,9 @@ fn survey_met(guards: &Guards, known: GuardSurvey, met: Guard) -> GuardSurvey
     }
 }
 
-/// Where one of the links is met, and whether no letter meets two, beside what is known. By halves, so that neighbours are joined
-/// first, and only as long as there is anything to learn. Once two were met together, one after the other, since labels may repeat.
+/// The disjunction of the links' guards, and whether the links are disjoint, given the survey so far. It goes by halves, so that
+/// neighbours are joined first, and stops where neither answer can change the survey. Once two links aren't disjoint, guards are
+/// joined one after the other, since labels may repeat.
 fn meet(draft: &mut Draft, names: &Names, links: &[Link], known: GuardSurvey) -> Result<Met, Memory>
     requires names { AreNames draft.old.now names.now }
     requires has { All (λ l. Has draft.old.now l.guard) links.now }
@@ -122,7 +124,8 @@ fn meet(draft: &mut Draft, names: &Names, links: &[Link], known: GuardSurvey) ->
     meet_both(draft, names, first.guard, second, known.exhaustive)
 }
 
-/// The same where two links were met together before. What is joined soon holds each label that comes again, and stays.
+/// The same where links that aren't disjoint were found before. Guards that occur again are soon included in the disjunction, which
+/// then doesn't change.
 fn meet_in_turn(draft: &mut Draft, links: &[Link]) -> Result<Met, Memory>
     requires has { All (λ l. Has draft.old.now l.guard) links.now }
     ensures kept { draft.new.kept ≡ draft.old.kept }
@@ -140,7 +143,7 @@ fn meet_in_turn(draft: &mut Draft, links: &[Link]) -> Result<Met, Memory>
     })
 }
 
-/// The same of both halves, where the second was told with the first.
+/// The same of both halves, from the disjunction of the first and the answer for the second, which was given what the first found.
 fn meet_both(
     draft: &mut Draft,
     names: &Names,
@@ -166,7 +169,7 @@ fn meet_both(
     Ok(Met { guard, disjoint })
 }
 
-/// Whether no letter meets both guards, if that is still asked.
+/// Whether no letter satisfies both guards, where that is still asked; else false.
 fn still_apart(
     draft: &mut Draft,
     names: &Names,

@@ -9,7 +9,7 @@ use Rattle.std.specs.Prelude.{nat_eq}
 use Rattle.aut_io.specs.Outside.{text_of}
 use Rattle.aut_io.specs.InMemory.{rest_of}
 
--- one step of the search: the name is at this place, or it is sought behind it
+-- one step of the search: the name is at this index, or is looked for after it
 pub find_step : (name other : List ℕ) (names texts : List (List ℕ)) (place : ℕ) → place < length names → length texts ≡ length names → other ≡ get_or names place other → (b : Bool)
     → pointwise nat_eq name other ≡ b → find (slice_cmp nat_cmp) name (zip (drop place names) (drop place texts)) ≡ cond b (Some (get_or texts place []))
     (find (slice_cmp nat_cmp) name (zip (drop (place + 1) names) (drop (place + 1) texts)))
@@ -18,7 +18,7 @@ find_step name other names texts place within same there b is =
     let second : drop place texts ≡ get_or texts place [] ∷ drop (place + 1) texts = rw add-one (drop-cons texts place [] (omega arith)) in
     rw (first, second, ← texts_ties, is) refl
 
--- what a place says of the text under a name
+-- the index that was found is that of the text of the name
 pub place_text : (name : List ℕ) (names texts : List (List ℕ)) (place : Option ℕ)
     → MatchOption place (find (slice_cmp nat_cmp) name (zip names texts) ≡ None) (λ k. (k < length texts) × (find (slice_cmp nat_cmp) name (zip names texts) ≡ Some (get_or texts k [])))
     → (is_some place ≡ contains_key (from_entries {R = slice_cmp nat_cmp} (zip names texts)) name) × (rest_of texts place 0 ≡ text_of (from_entries (zip names texts)) name)

@@ -1,4 +1,4 @@
--- The codes by which proofs tell the states of sources in memory apart.
+-- Codes of the states of sources in memory, by which proofs compare them.
 use Rattle.std.specs.Prelude.{ℕ, List, refl}
 use Rattle.std.specs.Cmp.Lexicographic.{slice_cmp}
 use Rattle.std.specs.Coded.{Coded, code_by, coded×, coded_ℕ, coded_list}

@@ -1,9 +1,9 @@
--- What callers see of the sources and sinks in memory.
+-- The states of the sources and sinks in memory, as contracts see them.
 use Rattle.std.specs.Prelude.{ℕ, ◌-◌, ◌/◌, ◌==◌, Bool, Option, None, Some, List, [], take, drop, length}
 use Rattle.std.specs.List.{list_any, slice_index_or}
 use Rattle.aut_io.specs.Outside.{Texts}
 
--- the texts of a source, the rest of the open one, and how many times one was opened, or tried
+-- the texts of a source, the unread rest of the open one, and how many times `open` was called
 pub record TextState : Type 0 where
   pub texts : Texts
   pub left : List ℕ
@@ -28,19 +28,19 @@ pub record SinkState : Type 0 where
   pub calls : ℕ
   pub faults : ℕ
 
--- what is left of a list of texts, the one at a place being open, once so many of its bytes were taken
+-- the unread rest of the open text, given by its index, once `taken` bytes of it were taken; empty where none is open
 abbrev pub rest_of : List (List ℕ) → Option ℕ → ℕ → List ℕ
 rest_of texts None taken = []
 rest_of texts (Some place) taken = drop taken (slice_index_or texts place [])
 
--- whether the call with this number is to fail
+-- whether the call with this number fails
 abbrev pub is_failing : List ℕ → ℕ → Bool
 is_failing failing call = list_any (λ n. n == call) failing
 
--- what a failing write lets through: the first half, rounded down
+-- what a write that is listed to fail still writes: the first half, rounded down
 abbrev pub half : List ℕ → List ℕ
 half piece = take (length piece / 2) piece
 
--- how many bytes a sink still takes
+-- the unused capacity of a sink, in bytes
 abbrev pub room : SinkState → ℕ
 room sink = sink.capacity - length sink.written

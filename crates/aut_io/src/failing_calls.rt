@@ -1,4 +1,4 @@
-//! Calls that fail where they are told to.
+//! Failures of calls, chosen in advance.
 
 ghost use Rattle.std.specs.Prelude.{◌≡◌};
 ghost use Rattle.aut_io.specs.InMemory.{is_failing};
@@ -6,7 +6,7 @@ ghost use Rattle.aut_io.specs.Outside.{incremented};
 
 use aut_base::Numbers;
 
-/// The numbers of the calls that are to fail, and how many calls were made so far.
+/// The numbers of the calls that fail, and how many calls were made so far.
 #[derive(Debug, Drop)]
 pub(crate) struct FailingCalls {
     listed: Numbers,
@@ -21,7 +21,7 @@ impl FailingCalls {
         FailingCalls { listed, made: 0 }
     }
 
-    /// Counts a call, and answers whether it is to fail.
+    /// Counts a call, and answers whether it fails.
     pub(crate) fn count(&mut self) -> bool
         ensures fails { result ≡ is_failing self.old.listed self.old.made }
         ensures counted { self.new ≡ record self.old { made = incremented self.old.made } }

@@ -1,9 +1,9 @@
-//! The outside: where texts come from and where they go. A caller learns of a fault only by a count that
-//! rose, so no program over these traits can blame the outside for what is its own. Openings are counted too, so none can open a
-//! text once more than it says.
+//! Input and output: sources of texts and sinks of bytes. Whenever a call fails, a count of failures rises, so that a contract can
+//! say that a program reports a failure only where one occurred. Calls of `open` are counted too, so that a contract can say how many
+//! there were.
 //!
-//! A caller sees the traits `Inputs` and `Sink`, and sources and sinks in memory. What these tell stands in `specs/Seen`,
-//! and what those in memory do in `specs/InMemory`.
+//! A caller sees the traits `Inputs` and `Sink`, and sources and sinks in memory. What calls of the traits do is defined in
+//! `specs/Seen`, and the states of those in memory in `specs/InMemory`.
 #![tactic(auto)]
 
 mod failing_calls;

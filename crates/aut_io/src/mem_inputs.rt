@@ -1,4 +1,4 @@
-//! A source in memory that fails where it is told to.
+//! A source in memory whose calls fail where that was asked for.
 
 ghost use Rattle.std.specs.Prelude.{◌≡◌, ◌≤◌, ◌||◌, [], not, is_err, length, OnErr, IsErrOf};
 ghost use Rattle.std.specs.FinMap.{contains_key, from_entries};
@@ -12,8 +12,8 @@ use crate::text_store::TextStore;
 use aut_base::{Failed, Names, Numbers, OpenFail, Text, Words};
 use std::marker::Model;
 
-/// Texts in memory under names. A call of `open` or `next` fails where its number, counted from 0 over both,
-/// is listed, and `open` also where the name isn't there. It has no bytes at hand, so that each is taken by a call of `next`,
+/// Named texts in memory. A call of `open` or `next` fails where its number, counted from 0 over both,
+/// is listed, and `open` also where no text has the name. It has no bytes at hand, so each byte is taken by a call of `next`,
 /// which is counted and may fail.
 #[derive(Debug, Drop)]
 pub struct MemInputs {
@@ -43,7 +43,7 @@ impl Model for MemInputs {
 }
 
 impl MemInputs {
-    /// These texts under these names, nothing open and no call made yet.
+    /// The source of these texts under these names. No text is open, and no call was made yet.
     pub fn new(names: Names, texts: Words, failing: Numbers) -> Self
         requires { length texts ≡ length names }
         ensures { result ≡ record { texts = from_entries (zip names texts); left = []; openings = 0; failing = failing; calls = 0; open_faults = 0; read_faults = 0 } }
@@ -67,7 +67,7 @@ impl Inputs for MemInputs {
     ghost may_open = { λ _. Unit {0} };
 
     fn open(&mut self, name: &Text) -> Result<(), OpenFail>
-        // It fails exactly where the call is listed or the name isn't there, and never for want of memory.
+        // It fails exactly where the call is listed or no text has the name, and never for want of memory.
         ensures fails { is_err result ≡ (is_failing self.old.failing self.old.calls || not (contains_key self.old.texts name.now)) }
         ensures kind { OnErr result (IsErrOf result OpenFail.Failed) }
         ensures opens { Opens (seen_in_memory self.old) name.now result (seen_in_memory self.new) }

@@ -1,4 +1,4 @@
-//! A sink in memory that fails where it is told to, and where it is full.
+//! A sink in memory whose writes fail where that was asked for, and where it is full.
 
 ghost use Rattle.std.specs.Prelude.{◌≡◌, ◌+◌, ◌≤◌, ◌||◌, ◌++◌, [], not, nat_lt, is_err, length, take, if◌then◌else◌, IfOk, OnErr};
 ghost use Rattle.aut_io.specs.InMemory.{half, is_failing, room};
@@ -15,7 +15,7 @@ use std::marker::Model;
 /// doesn't fit, and then what fits is written.
 #[derive(Debug, Drop)]
 pub struct MemSink {
-    /// Room for `capacity` bytes is taken when the sink is made.
+    /// `capacity` bytes are allocated when the sink is made.
     written: Vec<u8>,
     capacity: u32,
     calls: FailingCalls,
@@ -69,7 +69,7 @@ impl MemSink {
         kept == piece.len()
     }
 
-    /// Counts a fault, and gives it.
+    /// Counts a failed write, and returns the error.
     fn fault(&mut self) -> Failed
         ensures counted { self.new ≡ record self.old { faults = incremented self.old.faults } }
         ensures later { self.old.faults ≤ self.new.faults }

@@ -1,15 +1,15 @@
-//! Where texts go.
+//! The trait of output sinks.
 
 ghost use Rattle.aut_io.specs.Seen.{SinkSeen, WritesPiece};
 
 use aut_base::Failed;
 
-/// What takes bytes, piece by piece.
+/// A sink, to which bytes are written piece by piece.
 pub trait Sink {
-    /// All that the object tells: what was written, and how many writes failed.
+    /// What contracts see of the object: what was written, and how many writes failed.
     ghost seen: { Self → SinkSeen };
 
-    /// Writes a piece. A failed write may have taken a prefix of it.
+    /// Writes a piece. Where it fails, a prefix of the piece may have been written.
     fn write(&mut self, piece: &[u8]) -> Result<(), Failed>
         ensures { WritesPiece (seen self.old) piece.now result (seen self.new) };
 }

@@ -9,7 +9,7 @@ use crate::text_store::TextStore;
 use aut_base::{Failed, Names, OpenFail, Text, Words};
 use std::marker::Model;
 
-/// Texts in memory under names. No call fails: a name that isn't there stands for the empty text. All that is left is at hand.
+/// Named texts in memory. No call fails: a name that no text has opens the empty text. The whole unread rest is at hand.
 #[derive(Debug, Drop)]
 pub struct SureInputs {
     store: TextStore,
@@ -27,7 +27,7 @@ impl Model for SureInputs {
 }
 
 impl SureInputs {
-    /// These texts under these names, nothing open.
+    /// The source of these texts under these names. No text is open.
     pub fn new(names: Names, texts: Words) -> Self
         requires { length texts ≡ length names }
         ensures { result ≡ record { texts = from_entries (zip names texts); left = []; openings = 0 } }

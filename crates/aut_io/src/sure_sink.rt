@@ -6,7 +6,7 @@ ghost use Rattle.aut_io.specs.Seen.{WritesPiece};
 use crate::sink::Sink;
 use aut_base::Failed;
 
-/// Takes all bytes and keeps none.
+/// A sink that discards what is written.
 #[derive(Clone, Copy, Debug)]
 pub struct SureSink;
 

@@ -1,4 +1,4 @@
-//! Texts under names, of which one at a time may be open.
+//! Named texts in memory, of which one at a time may be open.
 
 ghost use Rattle.std.specs.Prelude.{◌≡◌, ◌<◌, ◌≤◌, None, Some, [], length, MatchOption, drop, slice_get};
 ghost use Rattle.std.specs.Cmp.Lexicographic.{slice_cmp};
@@ -10,13 +10,13 @@ ghost use Rattle.aut_io.specs.Outside.{incremented, text_of};
 use aut_base::{Names, Text, Words};
 use std::marker::Model;
 
-/// What the sources in memory stand on. Contracts see the texts, what is left of the open one, and how many times one was opened
-/// or tried.
+/// The store that both sources in memory share. Contracts see the texts, the unread rest of the open one, and how many times `open`
+/// was called.
 #[derive(Debug, Drop)]
 pub(crate) struct TextStore {
     names: Names,
     texts: Words,
-    /// The place of the open text in the list.
+    /// The index of the open text in the list.
     opened: Option<usize>,
     /// How many bytes of the open text were taken.
     taken: usize,
@@ -40,7 +40,7 @@ impl Model for TextStore {
 }
 
 impl TextStore {
-    /// These texts under these names, none of them open.
+    /// The store of these texts under these names, none of them open.
     pub(crate) fn new(names: Names, texts: Words) -> Self
         requires { length texts ≡ length names }
         ensures { result ≡ record { texts = from_entries (zip names texts); left = []; openings = 0 } }
@@ -54,7 +54,7 @@ impl TextStore {
         }
     }
 
-    /// Opens the text under a name, and answers whether it is there. Where it isn't, nothing is open.
+    /// Opens the text of this name, and answers whether there is one. Where there isn't, no text is open.
     pub(crate) fn open(&mut self, name: &Text) -> bool
         ensures there { result ≡ contains_key self.old.texts name.now }
         ensures opened { self.new ≡ record { texts = self.old.texts; left = text_of self.old.texts name.now; openings = incremented self.old.openings } }
@@ -65,7 +65,7 @@ impl TextStore {
         self.opened.is_some()
     }
 
-    /// Leaves nothing open.
+    /// Closes the open text.
     pub(crate) fn close(&mut self)
         ensures { self.new ≡ record self.old { left = [] } }
     {
@@ -91,7 +91,7 @@ impl TextStore {
         }
     }
 
-    /// All that is left of the open text.
+    /// The unread rest of the open text.
     pub(crate) fn ahead(&self) -> &[u8]
         ensures { result.now ≡ self.now.left }
     {
@@ -101,7 +101,7 @@ impl TextStore {
         }
     }
 
-    /// Takes so many bytes of what is left.
+    /// Takes this many bytes of the rest.
     pub(crate) fn skip(&mut self, count: usize)
         requires { count ≤ length self.old.left }
         ensures { self.new ≡ record self.old { left = drop count self.old.left } }
@@ -112,7 +112,7 @@ impl TextStore {
     }
 }
 
-/// The place of the text under a name.
+/// The index of the text of this name.
 fn place_of(names: &[Text], texts: &[Text], name: &Text) -> Option<usize>
     requires { length texts.now ≡ length names.now }
     ensures { MatchOption result (find (slice_cmp nat_cmp) name.now (zip names.now texts.now) ≡ None)

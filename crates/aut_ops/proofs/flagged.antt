@@ -1,4 +1,4 @@
--- The flagged states of an automaton alone: its edges between them, numbered anew, trimmed and pruned.
+-- Automata restricted to flagged states: their edges, their renumbering, trimming and pruning.
 pub mod Alone
 pub mod Between
 pub mod FlagLaws

@@ -1,4 +1,4 @@
--- Automata that follow each other's edges, what conditions see of their cycles, and two automata side by side.
+-- Simulation between automata, conditions on marks of cycles, and the sum of two automata.
 pub mod CycleMarks
 pub mod Languages
 pub mod Simulations

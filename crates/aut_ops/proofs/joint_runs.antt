@@ -1,4 +1,4 @@
--- Products as automata: their edges, that they are well formed, their runs, and what they accept.
+-- Products as automata: their edges, well-formedness, runs and languages.
 pub mod JointEdges
 pub mod MadeProducts
 pub mod PairRuns

@@ -1,4 +1,4 @@
--- Automata made complete by a sink: rows that are filled, runs into the sink, and sizes.
+-- Completion by a sink: the edges of each state, runs into the sink, and sizes.
 pub mod CompleteRuns
 pub mod CompletedSizes
 pub mod Completions

@@ -1,8 +1,8 @@
--- Lists in breadth-first order.
+-- Reachability by steps, and the list of what is reached in breadth-first order.
 use Rattle.std.specs.Prelude.{◌≡◌, Bool, List, [], ◌∷◌, ◌++◌, All, Contains, flat_map, fold}
 use Rattle.exploration.specs.Turns.{with_new}
 
--- steps that lead from one item to another by way of these
+-- steps lead from one item to another, by these items in turn
 abbrev pub LeadsBy : {X : Type 0} → (X → List X) → X → List X → X → Type 0
 LeadsBy next x [] y = x ≡ y
 LeadsBy next x (z ∷ zs) y = Contains (next x) z × LeadsBy next z zs y
@@ -14,12 +14,12 @@ pub record IsReachedFrom {X : Type 0} (starts : List X) (next : X → List X) (y
   pub way : List X
   pub leads : LeadsBy next start way y
 
--- the items in order, each where it first stands
+-- the items in the order of their first occurrence, each once
 abbrev pub once : {X : Type 0} → (X → X → Bool) → List X → List X
 once same xs = fold (with_new same) [] xs
 
--- The list of what is reached in breadth-first order: the starts, and then what follows each item of the list in turn,
--- each where it first stands, and nothing that isn't reached. Law: there is at most one such list.
+-- The list of what is reached in breadth-first order: the starts, and then the successors of each item of the list in turn,
+-- each once, at its first occurrence, and nothing that isn't reached. Law: there is at most one such list.
 pub record IsBreadthFirst {X : Type 0} (same : X → X → Bool) (starts : List X) (next : X → List X) (list : List X) : Type 0 where
   pub in_turn : list ≡ once same (starts ++ flat_map next list)
   pub reached : All (IsReachedFrom starts next) list

@@ -1,4 +1,4 @@
--- An automaton made complete by a sink.
+-- Completion of an automaton by a sink.
 use Rattle.std.specs.Prelude.{ℕ, ◌+◌, ◌==◌, Bool, false, not, ◌&&◌, if◌then◌else◌, List, [], ◌∷◌, ◌++◌, flat_map, length}
 use Rattle.std.specs.List.{list_all, range_with_len}
 use Rattle.acc_forms.specs.Joined.{conj}
@@ -8,12 +8,12 @@ use Rattle.aut_base.specs.Label.{True}
 use Rattle.aut_core.specs.Surveys.{edges_from}
 use Rattle.aut_ops.specs.Labels.{is_never, no_label}
 
--- an unmarked edge to the sink at the letters that meet none of a state's edges, if there are any
+-- an unmarked edge to the sink for the letters that meet none of a state's edges, if there are any
 abbrev pub gap_edges : ℕ → ℕ → ℕ → List LabelledEdge → List LabelledEdge
 gap_edges names state sink es =
     if is_never names (no_label names es) then [] else record { from = state; label = no_label names es; to = sink; marks = [] } ∷ []
 
--- the edges of a state, and the one to the sink behind them
+-- the edges of a state, and after them the one to the sink
 abbrev pub filled_edges : Automaton → ℕ → List LabelledEdge
 filled_edges a state = edges_from state a.edges ++ gap_edges (length a.names) state a.states (edges_from state a.edges)
 
@@ -21,12 +21,12 @@ filled_edges a state = edges_from state a.edges ++ gap_edges (length a.names) st
 abbrev pub is_met_unmarked : FormulaTree → Bool
 is_met_unmarked f = met ([] ∷ []) f
 
--- the set that the sink's loop is in, and no other edge
+-- the marks of the sink's loop: the fresh set, which no other edge is in, where there is one
 abbrev pub sink_marks : Automaton → List ℕ
 sink_marks a = if is_met_unmarked a.formula then a.sets ∷ [] else []
 
--- The automaton with a sink as its last state, to which the missing letters lead. The sink's loop is marked, and to stay
--- there forbidden, only where it would be accepting without. Where there is no start, the sink is one.
+-- The automaton with a sink as its last state, to which the missing letters lead. Only where a run that stays in the sink would be
+-- accepting, the sink's loop is in a fresh set, and the condition requires `Fin` of it. Where there is no start, the sink is one.
 abbrev pub with_sink : Automaton → Automaton
 with_sink a = record {
   names = a.names;
@@ -37,10 +37,10 @@ with_sink a = record {
   formula = if is_met_unmarked a.formula then conj a.formula (Fin a.sets false) else a.formula;
 }
 
--- there is a start, and at no state a letter that meets none of its edges
+-- the automaton is complete, as decided: there is a start, and at no state a letter that meets none of its edges
 abbrev pub lacks_nothing : Automaton → Bool
 lacks_nothing a = not (length a.starts == 0) && list_all (λ state. is_never (length a.names) (no_label (length a.names) (edges_from state a.edges))) (range_with_len 0 a.states)
 
--- the automaton made complete; a complete one stays as it is
+-- the completion; a complete automaton stays as it is
 abbrev pub completed : Automaton → Automaton
 completed a = if lacks_nothing a then a else with_sink a

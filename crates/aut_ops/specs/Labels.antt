@@ -1,4 +1,4 @@
--- Labels put together, in canonical form.
+-- Conjunctions and complements of labels, in canonical form.
 use Rattle.std.specs.Prelude.{ℕ, Bool, not, ◌&&◌, List}
 use Rattle.std.specs.List.{list_all, list_any}
 use Rattle.aut_base.specs.Automaton.{LabelledEdge}
@@ -6,7 +6,7 @@ use Rattle.aut_base.specs.CanonicalLabel.{label_of_truth}
 use Rattle.aut_base.specs.Label.{LabelTree}
 use Rattle.aut_base.specs.Valuation.{truth_on, valuations}
 
--- no valuation of n propositions meets the label
+-- the label over n propositions is unsatisfiable
 abbrev pub is_never : ℕ → LabelTree → Bool
 is_never n t = list_all (λ v. not (truth_on t v)) (valuations n)
 

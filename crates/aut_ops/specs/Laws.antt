@@ -1,4 +1,4 @@
--- What holds of the pairs of a product, and of automata with some of their states alone.
+-- Laws of products, trimming and pruning: existence and uniqueness.
 use Rattle.std.specs.Prelude.{◌≡◌, ◌≢◌, ◌↔◌, ◌⊎◌, ℕ, ◌≤◌, List, AllPairs, Contains, length}
 use Rattle.aut_base.specs.Acceptance.{IsPath}
 use Rattle.aut_base.specs.Automaton.{Automaton, IsWellFormed, LabelledEdge}
@@ -9,7 +9,7 @@ use Rattle.aut_ops.specs.Products.{ArePairs, HasMorePairs, IsProduct, next_pairs
 use Rattle.aut_ops.specs.Pruning.{IsPruned}
 use Rattle.aut_ops.specs.Trimming.{IsTrimmed}
 
--- Two automata have no more than one list of pairs. Its pairs differ, and are just those that are reached.
+-- The list of pairs of two automata is unique. Its pairs differ, and are exactly those that are reached.
 pub record PairsLaw (a b : Automaton) (pairs : List (ℕ × ℕ)) : Type 0 where
   pub one : (others : List (ℕ × ℕ)) → ArePairs a b others → others ≡ pairs
   pub differ : AllPairs (λ p q. p ≢ q) pairs
@@ -18,11 +18,11 @@ pub record PairsLaw (a b : Automaton) (pairs : List (ℕ × ℕ)) : Type 0 where
 abbrev pub PairsAreDetermined : Type 0
 PairsAreDetermined = (a b : Automaton) (pairs : List (ℕ × ℕ)) → ArePairs a b pairs → PairsLaw a b pairs
 
--- So they have no more than one product.
+-- So their product is unique.
 abbrev pub ProductsAreDetermined : Type 0
 ProductsAreDetermined = (join : FormulaTree → FormulaTree → FormulaTree) (a b made other : Automaton) → IsProduct join a b made → IsProduct join a b other → made ≡ other
 
--- A product of at most so many states isn't one of more pairs.
+-- Where a product has at most `most` states, no more than `most` pairs are reached.
 abbrev pub FewPairsExcludeMore : Type 0
 FewPairsExcludeMore = (join : FormulaTree → FormulaTree → FormulaTree) (a b made : Automaton) (most : ℕ) → IsProduct join a b made → made.states ≤ most → HasMorePairs most a b → ⊥
 
@@ -42,27 +42,27 @@ pub record AreLedTo (a b : Automaton) (pair : ℕ × ℕ) : Type 0 where
 abbrev pub ReachedByLetters : Type 0
 ReachedByLetters = (a b : Automaton) → b.names ≡ a.names → IsWellFormed a → IsWellFormed b → (pair : ℕ × ℕ) → IsReachedFrom (start_pairs a b) (next_pairs a b) pair ↔ AreLedTo a b pair
 
--- An automaton has one trimmed one.
+-- The trimmed automaton of an automaton is unique.
 abbrev pub TrimmedIsDetermined : Type 0
 TrimmedIsDetermined = (a made other : Automaton) → IsTrimmed a made → IsTrimmed a other → made ≡ other
 
--- An automaton has one pruned one.
+-- The pruned automaton of an automaton is unique.
 abbrev pub PrunedIsDetermined : Type 0
 PrunedIsDetermined = (a made other : Automaton) → IsPruned a made → IsPruned a other → made ≡ other
 
--- Two automata have a list of at most so many pairs, or more pairs.
+-- Two automata have a list of at most `most` pairs, or reach more pairs than that.
 abbrev pub PairsExist : Type 0
 PairsExist = (most : ℕ) (a b : Automaton) → ((pairs : List (ℕ × ℕ)) × ArePairs a b pairs × (length pairs ≤ most)) ⊎ HasMorePairs most a b
 
--- So they have a product of at most so many states, or more pairs.
+-- So they have a product of at most `most` states, or reach more pairs than that.
 abbrev pub ProductsExist : Type 0
 ProductsExist = (join : FormulaTree → FormulaTree → FormulaTree) (most : ℕ) (a b : Automaton)
     → ((made : Automaton) × IsProduct join a b made × (made.states ≤ most)) ⊎ HasMorePairs most a b
 
--- No automaton lacks a trimmed one,
+-- Each automaton has a trimmed one (it isn't so that there is none),
 abbrev pub TrimmedExists : Type 0
 TrimmedExists = (a : Automaton) → ((made : Automaton) → IsTrimmed a made → ⊥) → ⊥
 
--- and none a pruned one.
+-- and a pruned one.
 abbrev pub PrunedExists : Type 0
 PrunedExists = (a : Automaton) → ((made : Automaton) → IsPruned a made → ⊥) → ⊥

@@ -1,10 +1,10 @@
--- A product that isn't put together yet.
+-- The parts of a product together with its pairs, as `square` answers them.
 use Rattle.std.specs.Prelude.{length}
 use Rattle.aut_base.specs.Formula.{formula_tree}
 use Rattle.aut_core.specs.SymbolicAutomata.{SymbolicAutomaton}
 use Rattle.aut_ops.specs.declared.products.Paired.{Paired}
 
--- what its parts make
+-- the automaton of these parts
 abbrev pub symbolic_of_pairs : Paired → SymbolicAutomaton
 symbolic_of_pairs p = record {
   names = p.names;

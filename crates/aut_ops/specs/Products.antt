@@ -1,4 +1,4 @@
--- Products of automata: both go on at once.
+-- Products of automata, for the intersection and the union of languages.
 use Rattle.std.specs.Prelude.{◌≡◌, ◌≢◌, ℕ, ◌+◌, ◌<◌, ◌==◌, Bool, ◌&&◌, if◌then◌else◌, List, [], ◌∷◌, ◌++◌, All, AllPairs, flat_map, length, map}
 use Rattle.std.specs.List.{position_or_len}
 use Rattle.acc_forms.specs.Joined.{conj, disj}
@@ -12,20 +12,21 @@ use Rattle.aut_ops.specs.BreadthFirst.{IsBreadthFirst, IsReachedFrom}
 use Rattle.aut_ops.specs.Completion.{completed}
 use Rattle.aut_ops.specs.Labels.{both_labels, is_never}
 
--- an edge of each of two automata, gone at one letter
+-- an edge of the product of two automata, made of an edge of each: it leads from a pair of states to a pair
 pub record JointEdge : Type 0 where
   pub from : ℕ × ℕ
   pub label : LabelTree
   pub to : ℕ × ℕ
   pub marks : List ℕ
 
--- The two edges as one, unless no letter meets both. The marks of the second are raised by the number of the first's sets.
+-- The product edge of two edges, unless their labels are disjoint. The marks of the second are raised by the number of the first's
+-- sets.
 abbrev pub joint_edge : ℕ → ℕ → LabelledEdge → LabelledEdge → List JointEdge
 joint_edge names sets d e =
     if is_never names (both_labels names d.label e.label) then []
     else record { from = (d.from, e.from); label = both_labels names d.label e.label; to = (d.to, e.to); marks = d.marks ++ map (λ mark. mark + sets) e.marks } ∷ []
 
--- the edges of the first with those of the second, in the order of the first's
+-- the product edges of each of the first with each of the second, in the order of the first's
 abbrev pub joint_rows : ℕ → ℕ → List LabelledEdge → List LabelledEdge → List JointEdge
 joint_rows names sets ds es = flat_map (λ d. flat_map (joint_edge names sets d) es) ds
 
@@ -52,7 +53,7 @@ same_pair p q = (p.0 == q.0) && (p.1 == q.1)
 abbrev pub ArePairs : Automaton → Automaton → List (ℕ × ℕ) → Type 0
 ArePairs a b = IsBreadthFirst same_pair (start_pairs a b) (next_pairs a b)
 
--- the edge between the numbers of the pairs, which are their places
+-- the edge between the numbers of the pairs, which are their indices
 abbrev pub numbered : List (ℕ × ℕ) → JointEdge → LabelledEdge
 numbered pairs j = record { from = position_or_len (same_pair j.from) pairs; label = j.label; to = position_or_len (same_pair j.to) pairs; marks = j.marks }
 
@@ -84,10 +85,10 @@ pub record HasMorePairs (most : ℕ) (a b : Automaton) : Type 0 where
 abbrev pub over_both : Automaton → Automaton → Automaton → Automaton
 over_both a b x = over_names (joined_names a.names b.names) x
 
--- The automaton in which both go on at once, and both conditions have to be met.
+-- The product for the intersection: both conditions have to be met.
 abbrev pub IsProductOf : Automaton → Automaton → Automaton → Type 0
 IsProductOf a b = IsProduct conj (over_both a b a) (over_both a b b)
 
--- The same under one of the two conditions, of the automata made complete.
+-- The product for the union: of the completions, and one of the two conditions has to be met.
 abbrev pub IsUnionProductOf : Automaton → Automaton → Automaton → Type 0
 IsUnionProductOf a b = IsProduct disj (over_both a b (completed a)) (over_both a b (completed b))

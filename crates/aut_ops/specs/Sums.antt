@@ -1,4 +1,4 @@
--- Two automata side by side.
+-- The sum of two automata: both side by side, for the union of languages.
 use Rattle.std.specs.Prelude.{ℕ, ◌+◌, false, [], ◌∷◌, ◌++◌, map}
 use Rattle.acc_forms.specs.Joined.{conj, disj}
 use Rattle.acc_forms.specs.Shift.{shift}
@@ -6,13 +6,12 @@ use Rattle.aut_base.specs.Automaton.{Automaton, LabelledEdge}
 use Rattle.aut_base.specs.Formula.{Fin, Inf}
 use Rattle.aut_core.specs.OtherNames.{joined_names, over_names}
 
--- the edge between states and in sets with higher numbers, and in one more set
+-- the edge with the numbers of its states and sets raised, also in the set `fresh`
 abbrev pub moved_edge : ℕ → ℕ → ℕ → LabelledEdge → LabelledEdge
 moved_edge states sets fresh e = record { from = e.from + states; label = e.label; to = e.to + states; marks = map (λ mark. mark + sets) e.marks ++ fresh ∷ [] }
 
--- The first automaton, and behind it the second, each of whose edges is in a fresh set: a run of the first meets the
--- first's condition and never that set, one of the second meets the second's and always that set. Both are over the same
--- names.
+-- The first automaton followed by the second, both over the same names. Each edge of the second is in a fresh set, so that the
+-- condition can tell the runs apart: `Fin` of that set and the first's condition, or `Inf` of it and the second's.
 abbrev pub side_by_side : Automaton → Automaton → Automaton
 side_by_side a b = record {
   names = a.names;
@@ -23,6 +22,6 @@ side_by_side a b = record {
   formula = disj (conj a.formula (Fin (a.sets + b.sets) false)) (conj (shift a.sets b.formula) (Inf (a.sets + b.sets) false));
 }
 
--- the sum of two automata, over their names joined
+-- the sum of two automata, over their joint names
 abbrev pub summed : Automaton → Automaton → Automaton
 summed a b = side_by_side (over_names (joined_names a.names b.names) a) (over_names (joined_names a.names b.names) b)

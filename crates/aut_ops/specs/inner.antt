@@ -1,4 +1,4 @@
--- Definitions that only inner functions speak in.
+-- Definitions that only the contracts of inner functions use.
 pub mod Faults
 pub mod Joins
 pub mod Linked

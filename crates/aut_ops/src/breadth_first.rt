@@ -1,4 +1,4 @@
-//! All pairs of states that two automata reach together.
+//! The breadth-first exploration of a product's pairs of states.
 
 ghost use Rattle.std.specs.Prelude.{◌≡◌, ◌+◌, ◌<◌, ◌≤◌, ◌^◌, ◌++◌, ℕ, List, [], IfOk, IsErrOf, OnOk, flat_map, length, map};
 ghost use Rattle.aut_core.specs.SymbolicAutomata.{automaton_of};
@@ -15,7 +15,7 @@ use aut_base::Numbers;
 use aut_core::Automaton;
 use std::alloc::Global;
 
-/// Lists the pairs of starts, and gives their places.
+/// Lists the pairs of starts, and answers their indices.
 pub(crate) fn list_starts(
     alloc: Global,
     pairing: &mut Pairing,
@@ -37,7 +37,7 @@ pub(crate) fn list_starts(
     Ok(starts)
 }
 
-/// Lists the pairs of this state with each of the others, and adds their places.
+/// Lists the pairs of this state with each of the others, and adds their indices.
 fn list_row(
     pairing: &mut Pairing,
     starts: &mut Numbers,
@@ -58,7 +58,7 @@ fn list_row(
     Ok(())
 }
 
-/// Goes on from each pair in turn, and so lists all pairs that are reached and the links between them.
+/// Expands each listed pair in turn, and so lists all pairs that are reached, with the links between them.
 pub(crate) fn explore(
     pairing: &mut Pairing,
     a: &Automaton,

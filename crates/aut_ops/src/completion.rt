@@ -1,4 +1,4 @@
-//! An automaton made complete.
+//! Completion of automata.
 
 ghost use Rattle.std.specs.Prelude.{◌≡◌, ◌+◌, ◌<◌, ◌^◌, ◌==◌, ◌∷◌, ◌++◌, [], All, IfOk, OnOk, flat_map, if◌then◌else◌, length, map, unwrap_or};
 ghost use Rattle.std.specs.List.{range_with_len};
@@ -18,9 +18,9 @@ use aut_core::{Automaton, Link, Links, copy_names, copy_numbers};
 use label_guards::{Guard, Guards};
 use std::alloc::Global;
 
-/// The automaton made complete, which accepts the same words. One that is complete stays as it is. Any other gets a sink
-/// as its last state, to which each state has an edge, behind its others, for the letters that meet none of those. Where a
-/// cycle of edges in no set would be accepting, the sink's loop is in a fresh set that an accepting cycle must not be in.
+/// The completion of the automaton, which accepts the same words. A complete automaton stays as it is. Any other gets a sink
+/// as its last state, to which each state has an edge, after its others, for the letters that satisfy none of their labels. Where a
+/// cycle of edges in no acceptance set would be accepting, the sink's loop is in a fresh set, and the condition requires `Fin` of it.
 /// Where there is no start, the sink is one.
 pub fn complete(alloc: Global, a: &Automaton) -> Result<Automaton, Memory>
     requires states { (completed (automaton_of a.now)).states < 2 ^ 32 }
@@ -37,7 +37,7 @@ pub fn complete(alloc: Global, a: &Automaton) -> Result<Automaton, Memory>
     complete_with_sink(alloc, a)
 }
 
-/// The automaton made complete, or nothing where it is complete, so that it isn't copied.
+/// The completion, or None where the automaton is complete, so that it isn't copied.
 pub(crate) fn made_complete(alloc: Global, a: &Automaton) -> Result<Option<Automaton>, Memory>
     requires states { (completed (automaton_of a.now)).states < 2 ^ 32 }
     requires sets { (completed (automaton_of a.now)).sets < 2 ^ 32 }
@@ -78,7 +78,7 @@ fn complete_with_sink(alloc: Global, a: &Automaton) -> Result<Automaton, Memory>
     Automaton::from_parts(alloc, names, guards, sink + 1, starts, links, sets, formula)
 }
 
-/// What keeps runs in the sink from being accepting.
+/// The acceptance that keeps runs in the sink from being accepting.
 #[derive(Drop)]
 struct Trap {
     marks: Marks,
@@ -86,7 +86,7 @@ struct Trap {
     formula: Formula,
 }
 
-/// The marks of the sink's loop, and the sets and the condition there are then.
+/// The marks of the sink's loop, and the number of sets and the condition of the completion.
 fn trap_of(alloc: Global, a: &Automaton) -> Result<Trap, Memory>
     requires { (with_sink (automaton_of a.now)).sets < 2 ^ 32 }
     ensures marks { IfOk result (λ trap. trap.marks ≡ sink_marks (automaton_of a.now)) }
@@ -111,7 +111,7 @@ fn trap_of(alloc: Global, a: &Automaton) -> Result<Trap, Memory>
     })
 }
 
-/// The starts, or this state where there is none.
+/// The starts, or this state alone where there is none.
 fn starts_or(alloc: Global, starts: &Numbers, state: u32) -> Result<Numbers, Memory>
     ensures { IfOk result (λ new. new ≡ (if length starts.now == 0 then state ∷ [] else starts.now)) }
 {
@@ -123,7 +123,7 @@ fn starts_or(alloc: Global, starts: &Numbers, state: u32) -> Result<Numbers, Mem
     Ok(single)
 }
 
-/// The links of each state, and its link to the sink behind them.
+/// The links of each state, followed by its link to the sink.
 fn filled_links(alloc: Global, guards: &mut Guards, a: &Automaton) -> Result<Links, Memory>
     requires { guards.old ≡ a.now.store }
     ensures names { guards.new.names ≡ guards.old.names }
@@ -144,7 +144,7 @@ fn filled_links(alloc: Global, guards: &mut Guards, a: &Automaton) -> Result<Lin
     Ok(links)
 }
 
-/// Adds the links of one state, and behind them one to the sink for the letters that meet none of them, if there are any.
+/// Adds the links of one state, and after them a link to the sink for the letters that satisfy none of their guards, if there are any.
 fn fill_state(
     alloc: Global,
     guards: &mut Guards,
@@ -172,7 +172,7 @@ fn fill_state(
     })
 }
 
-/// The guard of the letters that meet none of the links.
+/// The guard of the letters that satisfy none of the links' guards.
 fn gap_of(guards: &mut Guards, row: &[Link]) -> Result<Guard, Memory>
     requires { All (λ l. Has guards.old l.guard) row.now }
     ensures keeps { Keeps guards.old guards.new }

@@ -1,11 +1,11 @@
-//! The marks of two edges together.
+//! The marks of a product's edge.
 
 ghost use Rattle.std.specs.Prelude.{◌≡◌, ◌+◌, ◌<◌, ◌^◌, ◌++◌, All, IfOk, map};
 
 use aut_base::{Marks, Memory};
 use aut_core::copy_marks;
 
-/// The marks, and behind them the others, raised by this number, which is above the first.
+/// The marks, and after them the others raised by this number, which is greater than each of the first.
 pub fn joint_marks(marks: &Marks, others: &Marks, by: u32) -> Result<Marks, Memory>
     requires marks { All (λ mark. mark < by) marks.now }
     requires others { All (λ mark. mark + by < 2 ^ 32) others.now }

@@ -1,4 +1,4 @@
-//! Why a product could not be made, and why pairs of states could not be explored.
+//! The errors of products, and of exploring their pairs.
 
 ghost use Rattle.std.specs.Prelude.{◌≡◌};
 ghost use Rattle.aut_ops.specs.declared.fault.ExploreFault.{ExploreFault};

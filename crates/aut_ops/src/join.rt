@@ -1,4 +1,4 @@
-//! The two ways in which the conditions of a product are joined.
+//! How a product joins the two conditions: by And for the intersection, by Or for the union.
 
 ghost use Rattle.std.specs.Prelude.{◌≡◌, ◌-◌, ◌^◌, IfOk};
 ghost use Rattle.acc_forms.specs.Shift.{shift};
@@ -8,7 +8,7 @@ use acc_forms::{conj, disj, shift};
 use aut_base::{Formula, Memory};
 use std::alloc::Global;
 
-/// How conditions are joined.
+/// The connective by which a product joins the conditions.
 #[derive(Clone, Copy)]
 pub(crate) enum Join {
     /// Both have to be met.
@@ -20,7 +20,7 @@ pub(crate) enum Join {
 impl Join {
     ghost use Rattle.aut_ops.specs.inner.Joins.{join_of};
 
-    /// The two conditions joined, the second about sets with numbers raised by this.
+    /// The two conditions joined, the numbers of the second's sets raised by this.
     pub(crate) fn condition(
         self,
         alloc: Global,

@@ -1,19 +1,19 @@
-//! What holds of the pairs of a product, and of automata with some of their states alone.
+//! Laws of products and of trimmed and pruned automata: existence and uniqueness.
 
 ghost use Rattle.aut_ops.specs.Laws.{FewPairsExcludeMore, PairsAreDetermined, PairsExist, ProductsAreDetermined, ProductsExist, PrunedExists, PrunedIsDetermined, ReachedByLetters};
 ghost use Rattle.aut_ops.specs.Laws.{TrimmedExists, TrimmedIsDetermined};
 
-/// Two automata have no more than one list of pairs, which are just those that are reached.
+/// The list of pairs of two automata is unique, and has exactly the pairs that are reached.
 pub fn pairs_are_determined()
     ensures { PairsAreDetermined }
 {}
 
-/// Two automata have no more than one product under a join of their conditions.
+/// The product of two automata under a join of their conditions is unique.
 pub fn products_are_determined()
     ensures { ProductsAreDetermined }
 {}
 
-/// A product with at most so many states isn't one of more pairs.
+/// Where a product has at most n states, no more than n pairs are reached.
 pub fn few_pairs_exclude_more()
     ensures { FewPairsExcludeMore }
 {}
@@ -23,32 +23,32 @@ pub fn reached_by_letters()
     ensures { ReachedByLetters }
 {}
 
-/// An automaton has no more than one trimmed one.
+/// The trimmed automaton of an automaton is unique.
 pub fn trimmed_is_determined()
     ensures { TrimmedIsDetermined }
 {}
 
-/// An automaton has no more than one pruned one.
+/// The pruned automaton of an automaton is unique.
 pub fn pruned_is_determined()
     ensures { PrunedIsDetermined }
 {}
 
-/// Two automata have a list of their pairs, or more pairs than there may be.
+/// Two automata have a list of their pairs within a limit, or reach more pairs than that.
 pub fn pairs_exist()
     ensures { PairsExist }
 {}
 
-/// Two automata have a product under each join of their conditions, or more pairs than there may be.
+/// Two automata have a product under each join of their conditions within a limit, or reach more pairs than that.
 pub fn products_exist()
     ensures { ProductsExist }
 {}
 
-/// No automaton lacks a trimmed one.
+/// Each automaton has a trimmed one (classically: it isn't so that there is none).
 pub fn trimmed_exists()
     ensures { TrimmedExists }
 {}
 
-/// No automaton lacks a pruned one.
+/// Each automaton has a pruned one (classically: it isn't so that there is none).
 pub fn pruned_exists()
     ensures { PrunedExists }
 {}

@@ -1,4 +1,4 @@
-//! Automata made of automata: complete ones, sums and products, and automata with some of their states alone.
+//! Operations on automata: completion, sum, product, trimming and pruning.
 #![tactic(auto)]
 
 mod breadth_first;

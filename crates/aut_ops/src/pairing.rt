@@ -1,4 +1,4 @@
-//! The pairs of states that two automata reach together, and the links between them.
+//! A product under construction: its pairs of states, and the links between them.
 
 ghost use Rattle.std.specs.Prelude.{◌≡◌, ◌<◌, ◌≤◌, [], All, IfOk, IsErrOf, OnOk, Some, flat_map, length, map, slice_get};
 ghost use Rattle.aut_ops.specs.Products.{same_pair};
@@ -16,10 +16,10 @@ use label_guards::Guards;
 use std::alloc::Global;
 use std::marker::Model;
 
-/// For how many pairs and links room is made at the start at most, as few may be reached.
+/// The most pairs and links for which memory is allocated at the start: few may be reached.
 const MOST_ROOM: usize = 1_000;
 
-/// A product as far as it is made: the pairs in the order in which they were met, and the links between their places.
+/// A product as far as it is made: the pairs in the order in which they were found, and the links between their indices.
 #[derive(Drop)]
 pub(crate) struct Pairing {
     guards: Guards,
@@ -36,7 +36,7 @@ impl Model for Pairing {
 }
 
 impl Pairing {
-    /// No pair yet, and this store. There is room for so many pairs and links, but for `MOST_ROOM` of each at most.
+    /// A product without pairs, over this store, with memory for this many pairs and links, but at most for `MOST_ROOM` of each.
     pub(crate) fn new(
         alloc: Global,
         guards: Guards,
@@ -63,7 +63,7 @@ impl Pairing {
         self.pairs.len()
     }
 
-    /// The pair at this place.
+    /// The pair at this index.
     pub(crate) fn pair_at(&self, place: usize) -> (u32, u32)
         requires { place < length self.now.pairs }
         ensures { slice_get self.now.pairs place ≡ Some result }
@@ -80,7 +80,7 @@ impl Pairing {
         (self.guards, self.links, self.pairs)
     }
 
-    /// The number of the pair, which is its place. It is added unless it is there.
+    /// The number of the pair, which is its index. The pair is added unless it is there.
     pub(crate) fn number(&mut self, pair: (u32, u32)) -> Result<u32, ExploreFault>
         ensures store { self.new.store ≡ self.old.store }
         ensures links { self.new.links ≡ self.old.links }
@@ -96,7 +96,7 @@ impl Pairing {
         Ok(place as u32)
     }
 
-    /// Adds the link that goes both of these at once, from the pair at this place, unless no letter meets both.
+    /// Adds the product link of these two, from the pair at this index, unless their labels are disjoint.
     fn meet(&mut self, at: u32, link: &Link, other: &Link, sets: u32) -> Result<(), ExploreFault>
         requires meet { CanMeet self.old at sets link.now other.now }
         requires few { length self.old.pairs ≤ MOST_PAIRS }
@@ -119,7 +119,7 @@ impl Pairing {
         Ok(())
     }
 
-    /// Adds the links that go this one and one of the others at once.
+    /// Adds the product links of this one with each of the others.
     fn follow(
         &mut self,
         at: u32,
@@ -139,7 +139,7 @@ impl Pairing {
         Ok(())
     }
 
-    /// Adds the links that go one of the first and one of the others at once.
+    /// Adds the product links of each of the first with each of the others.
     pub(crate) fn spread(
         &mut self,
         at: u32,
@@ -160,7 +160,7 @@ impl Pairing {
     }
 }
 
-/// The place of the pair, which is added unless it is there.
+/// The index of the pair, which is added unless it is there.
 fn put(pairs: &mut IndexSet<(u32, u32)>, pair: (u32, u32)) -> Result<usize, Memory>
     ensures pairs { OnOk result (pairs.new.keys ≡ with_new same_pair pairs.old.keys pair) }
     ensures place { IfOk result (λ place. slice_get pairs.new.keys place ≡ Some pair) }

@@ -1,4 +1,4 @@
-//! The links whose label isn't false, and those of them between flagged states.
+//! Links with satisfiable labels, and those of them between flagged states.
 
 ghost use Rattle.std.specs.Prelude.{◌≡◌, ◌<◌, All, IfOk, filter, length};
 ghost use Rattle.aut_core.specs.SymbolicAutomata.{automaton_of};
@@ -11,7 +11,7 @@ use aut_core::{Automaton, Link, Links, copy_link};
 use graph_walk::Graph;
 use std::alloc::Global;
 
-/// Whether the label of the link isn't false.
+/// Whether the label of the link is satisfiable.
 #[inline]
 pub(crate) fn is_satisfiable(a: &Automaton, link: &Link) -> bool
     requires { Has a.now.store link.now.guard }
@@ -21,7 +21,7 @@ pub(crate) fn is_satisfiable(a: &Automaton, link: &Link) -> bool
     !a.guards().is_false(link.guard)
 }
 
-/// The graph of the links whose label isn't false.
+/// The graph of the links with satisfiable labels.
 pub(crate) fn satisfiable_graph(alloc: Global, a: &Automaton) -> Result<Graph, Memory>
     ensures nodes { IfOk result (λ graph. graph.nodes ≡ a.now.states) }
     ensures arcs { IfOk result (λ graph. graph.arcs ≡ passable_arcs (automaton_of a.now)) }
@@ -40,7 +40,7 @@ pub(crate) fn satisfiable_graph(alloc: Global, a: &Automaton) -> Result<Graph, M
     })
 }
 
-/// Copies of the links whose label isn't false and whose ends are both flagged.
+/// Copies of the links with satisfiable labels between flagged states.
 pub(crate) fn links_between(alloc: Global, a: &Automaton, flags: &[bool]) -> Result<Links, Memory>
     requires { length flags.now ≡ a.now.states }
     ensures { IfOk result (λ links. links ≡ filter (link_stays a.now flags.now) a.now.links) }
@@ -56,7 +56,7 @@ pub(crate) fn links_between(alloc: Global, a: &Automaton, flags: &[bool]) -> Res
     Ok(links)
 }
 
-/// Whether the label of the link isn't false and both of its ends are flagged.
+/// Whether the label of the link is satisfiable and both of its states are flagged.
 #[inline]
 pub(crate) fn stays(a: &Automaton, link: &Link, flags: &[bool]) -> bool
     requires guard { Has a.now.store link.now.guard }

@@ -26,8 +26,8 @@ use indexmap::IndexSet;
 use label_guards::Guards;
 use std::alloc::Global;
 
-/// The product: an automaton that accepts what both accept. Its states are the pairs of states that some letters lead to in
-/// both from their starts, in breadth-first order.
+/// The product: an automaton that accepts the intersection of the two languages. Its states are the pairs of states that are reached
+/// by the same letters from starts of both, in breadth-first order.
 pub fn product(alloc: Global, a: &Automaton, b: &Automaton) -> Result<Automaton, PairFault>
     requires sets { length (joined_names a.now.names b.now.names) ≤ MOST_NAMES → a.now.sets + b.now.sets < 2 ^ 32 }
     ensures shape { IfOk result (λ made. IsProductOf (automaton_of a.now) (automaton_of b.now) (automaton_of made)) }
@@ -43,8 +43,8 @@ pub fn product(alloc: Global, a: &Automaton, b: &Automaton) -> Result<Automaton,
     product_by(alloc, a, b, Join::All)
 }
 
-/// The union as a product: an automaton that accepts what one of the two accepts. Both are made complete first, and it has to
-/// meet one of their conditions. The limits are those of a product of the complete automata.
+/// The union as a product: an automaton that accepts the union of the two languages. Both are completed first, and its condition is
+/// the disjunction of theirs. The limits are those of a product of the completions.
 pub fn product_or(alloc: Global, a: &Automaton, b: &Automaton) -> Result<Automaton, PairFault>
     requires states { (completed (automaton_of a.now)).states < 2 ^ 32 }
     requires other_states { (completed (automaton_of b.now)).states < 2 ^ 32 }
@@ -98,8 +98,8 @@ fn product_by(
     Ok(product_over(alloc, &both.first, both.second(b), join)?)
 }
 
-/// The product of an automaton with itself, not yet put together, and its pairs. Begun in one of its states it accepts the words
-/// that the automaton accepts begun in the one state of the pair and in the other.
+/// The parts of the product of an automaton with itself, and its pairs. From a state of the product alone, it accepts the words that
+/// the automaton accepts both from the one state of the pair and from the other.
 pub fn square(alloc: Global, a: &Automaton) -> Result<Paired, PairFault>
     requires sets { a.now.sets + a.now.sets < 2 ^ 32 }
     ensures parts { IfOk result (λ made. AreSymbolicParts (symbolic_of_pairs made)) }

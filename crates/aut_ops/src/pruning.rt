@@ -1,4 +1,4 @@
-//! An automaton with one acceptance set without the states that help no accepting run.
+//! Pruning of Büchi automata: states that are on no accepting run lose their edges.
 
 ghost use Rattle.std.specs.Prelude.{◌≡◌, ◌<◌, ◌&&◌, IfOk, false, filter, length, map};
 ghost use Rattle.std.specs.List.{slice_index_or};
@@ -16,7 +16,7 @@ use aut_core::{Automaton, Link};
 use graph_walk::{Graph, components, reach};
 use std::alloc::Global;
 
-/// The automaton with its edges between useful states alone, whose labels aren't false, and its useful starts. A state is
+/// The automaton with nothing but its useful starts and its edges with satisfiable labels between useful states. A state is
 /// useful where it is reached, and a path leads from it to a cycle with an edge in the set. The states keep their numbers.
 /// It accepts the same words.
 pub fn prune(alloc: Global, b: &Automaton) -> Result<Automaton, Memory>
@@ -30,7 +30,7 @@ pub fn prune(alloc: Global, b: &Automaton) -> Result<Automaton, Memory>
     flagged_in_place(alloc, b, useful.as_slice())
 }
 
-/// The automaton with its edges between flagged states alone.
+/// The automaton with nothing but its flagged starts and its edges with satisfiable labels between flagged states.
 fn flagged_in_place(alloc: Global, a: &Automaton, flags: &[bool]) -> Result<Automaton, Memory>
     requires { length flags.now ≡ a.now.states }
     ensures { IfOk result (λ made. automaton_of made ≡ between flags.now (automaton_of a.now)) }
@@ -54,7 +54,7 @@ fn useful_states(alloc: Global, b: &Automaton) -> Result<Flags, Memory>
     both(alloc, reached.as_slice(), leading.as_slice())
 }
 
-/// The states that a link in the set leaves which stays in one component, so that it lies on a cycle.
+/// The states that some link in the set leaves which is inside of a component, and so on a cycle.
 fn closing_sources(alloc: Global, b: &Automaton, numbers: &Numbers) -> Result<Numbers, Memory>
     requires { length numbers.now ≡ b.now.states }
     ensures { IfOk result (λ sources. sources ≡ map (λ l. l.from) (filter (link_closes b.now numbers.now) b.now.links)) }
@@ -70,7 +70,7 @@ fn closing_sources(alloc: Global, b: &Automaton, numbers: &Numbers) -> Result<Nu
     Ok(sources)
 }
 
-/// Whether the link is in the set, its label isn't false, and its ends have one number.
+/// Whether the link is in the set, its label is satisfiable, and both of its states are in one component.
 fn closes(b: &Automaton, link: &Link, numbers: &Numbers) -> bool
     requires guard { Has b.now.store link.now.guard }
     requires from { link.now.from < length numbers.now }
@@ -82,7 +82,7 @@ fn closes(b: &Automaton, link: &Link, numbers: &Numbers) -> bool
     is_satisfiable(b, link) && link.marks.has(0) && from == to
 }
 
-/// The graph with each arc turned around.
+/// The graph with each arc reversed.
 fn turned(alloc: Global, graph: &Graph) -> Result<Graph, Memory>
     ensures nodes { IfOk result (λ made. made.nodes ≡ graph.now.nodes) }
     ensures arcs { IfOk result (λ made. made.arcs ≡ map reversed_arc graph.now.arcs) }
@@ -98,7 +98,7 @@ fn turned(alloc: Global, graph: &Graph) -> Result<Graph, Memory>
     })
 }
 
-/// For each place whether both lists have a flag there.
+/// For each index whether both lists have a flag there.
 fn both(alloc: Global, first: &[bool], second: &[bool]) -> Result<Flags, Memory>
     requires { length second.now ≡ length first.now }
     ensures { IfOk result (λ flags. flags ≡ both_flagged first.now second.now) }
@@ -110,7 +110,7 @@ fn both(alloc: Global, first: &[bool], second: &[bool]) -> Result<Flags, Memory>
     Ok(flags)
 }
 
-/// Whether both lists have a flag at the place.
+/// Whether both lists have a flag at the index.
 fn are_both(first: &[bool], second: &[bool], place: usize) -> bool
     requires first { place < length first.now }
     requires second { place < length second.now }

@@ -1,4 +1,4 @@
-//! How much of an automaton is reached.
+//! The size of the reached part of an automaton.
 
 ghost use Rattle.std.specs.Prelude.{◌≡◌, ◌<◌, ◌^◌, IfOk, filter, length};
 ghost use Rattle.aut_core.specs.SymbolicAutomata.{automaton_of};
@@ -11,7 +11,7 @@ use aut_core::Automaton;
 use graph_walk::reach;
 use std::alloc::Global;
 
-/// How many states of an automaton are reached, and how many of its edges leave them, those with false labels not counted.
+/// The number of reached states of an automaton, and of the edges with satisfiable labels that leave them.
 #[derive(Clone, Copy, Debug)]
 pub struct ReachedSize {
     pub states: u32,
@@ -19,7 +19,7 @@ pub struct ReachedSize {
 }
 
 // Why so: 'Figures are counted and not made' in docs/DECISIONS.md.
-/// How many states and edges a trimmed automaton has. It isn't made.
+/// The number of states and edges of the trimmed automaton, which isn't made.
 pub fn reached_size(alloc: Global, a: &Automaton) -> Result<ReachedSize, Memory>
     ensures { IfOk result (IsReachedSize (automaton_of a.now)) }
 {
@@ -33,7 +33,7 @@ pub fn reached_size(alloc: Global, a: &Automaton) -> Result<ReachedSize, Memory>
     })
 }
 
-/// How many of the flags are set.
+/// The number of flags that are set.
 fn flagged_count(flags: &[bool]) -> u32
     requires { length flags.now < 2 ^ 32 }
     ensures { result ≡ flagged_before flags.now (length flags.now) }
@@ -48,7 +48,7 @@ fn flagged_count(flags: &[bool]) -> u32
     count
 }
 
-/// How many links stay between flagged states, those with false labels not counted.
+/// The number of links with satisfiable labels between flagged states.
 fn staying_count(a: &Automaton, flags: &[bool]) -> usize
     requires { length flags.now ≡ a.now.states }
     ensures { result ≡ length (filter (link_stays a.now flags.now) a.now.links) }

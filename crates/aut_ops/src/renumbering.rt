@@ -9,16 +9,16 @@ use aut_base::{Memory, Numbers};
 use aut_core::{Link, Links, copy_marks};
 use std::alloc::Global;
 
-/// How the flagged states are numbered.
+/// The new numbers of the flagged states.
 #[derive(Drop)]
 pub(crate) struct Numbering {
     /// For each state the number of flagged ones before it.
     pub(crate) ranks: Numbers,
-    /// The number of all that are flagged.
+    /// The number of flagged states.
     pub(crate) count: u32,
 }
 
-/// The flagged of so many states numbered from 0 in their order.
+/// Numbers the flagged states from 0 in their order.
 pub(crate) fn number_flagged(
     alloc: Global,
     states: u32,

@@ -10,16 +10,16 @@ use aut_base::{Memory, Names};
 use aut_core::Automaton;
 use std::alloc::Global;
 
-/// Two automata over the same names. The first's store has the guards of the second.
+/// Two automata over the same names. The store of the first includes that of the second.
 #[derive(Drop)]
 pub(crate) struct Shared {
     pub(crate) first: Automaton,
-    /// The second, unless it was over these names before: then it is used where it stands.
+    /// The second, unless the given one was over these names already: then that is used.
     made: Option<Automaton>,
 }
 
 impl Shared {
-    /// The second, where this is the one that was given.
+    /// The second automaton, which may be the given one.
     pub(crate) fn second<'a>(&'a self, given: &'a Automaton) -> &'a Automaton
         ensures { result.now ≡ unwrap_or self.now.made given.now }
     {
@@ -27,7 +27,7 @@ impl Shared {
     }
 }
 
-/// What was made, or what was given where nothing was.
+/// The automaton that was made, or else the given one.
 pub(crate) fn made_or<'a>(made: &'a Option<Automaton>, given: &'a Automaton) -> &'a Automaton
     ensures { result.now ≡ unwrap_or made.now given.now }
 {
@@ -38,7 +38,7 @@ pub(crate) fn made_or<'a>(made: &'a Option<Automaton>, given: &'a Automaton) -> 
 }
 
 // Why so: 'The first of two automata is brought to the second' in docs/DECISIONS.md.
-/// Both automata over these names, which have all of theirs.
+/// Both automata over these names, which include theirs.
 pub(crate) fn share(
     alloc: Global,
     a: &Automaton,
@@ -66,7 +66,7 @@ pub(crate) fn share(
     })
 }
 
-/// The automaton over these names, with its guards in a copy of the store of one that is over them.
+/// The automaton over these names, with its guards translated into a copy of the store of another automaton, which is over them.
 fn beside(
     alloc: Global,
     a: &Automaton,

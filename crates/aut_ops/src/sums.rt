@@ -21,8 +21,8 @@ use aut_base::{Formula, Marks, Memory, Names, Numbers};
 use aut_core::{Automaton, Link, Links, NameFault, copy_names, copy_numbers, join_names};
 use std::alloc::Global;
 
-/// The sum: an automaton that accepts what one of the two accepts. The second's states follow the first's. Each edge of the
-/// second is in a fresh set, by which a run tells whose condition it has to meet.
+/// The sum: an automaton that accepts the union of the two languages. The second's states follow the first's. Each edge of the
+/// second is in a fresh set, by which the condition tells runs of the one from runs of the other.
 pub fn sum(alloc: Global, a: &Automaton, b: &Automaton) -> Result<Automaton, NameFault>
     requires states { a.now.states + b.now.states < 2 ^ 32 }
     requires sets { a.now.sets + b.now.sets + 1 < 2 ^ 32 }
@@ -35,7 +35,7 @@ pub fn sum(alloc: Global, a: &Automaton, b: &Automaton) -> Result<Automaton, Nam
     Ok(sum_over(alloc, a, b, &names)?)
 }
 
-/// The sum over these names, which are those of both joined.
+/// The sum over the joint names of both.
 fn sum_over(alloc: Global, a: &Automaton, b: &Automaton, names: &Names) -> Result<Automaton, Memory>
     requires both { HaveBoth a.now.names b.now.names names.now }
     requires few { length names.now ≤ MOST_NAMES }
@@ -48,7 +48,7 @@ fn sum_over(alloc: Global, a: &Automaton, b: &Automaton, names: &Names) -> Resul
     side_by_side(alloc, &both.first, both.second(b))
 }
 
-/// The first automaton, and behind it the second, whose guards the first's store has.
+/// The first automaton followed by the second, whose guards the first's store has.
 fn side_by_side(alloc: Global, a: &Automaton, b: &Automaton) -> Result<Automaton, Memory>
     requires names { b.now.names ≡ a.now.names }
     requires store { Keeps b.now.store a.now.store }
@@ -81,7 +81,7 @@ fn side_by_side(alloc: Global, a: &Automaton, b: &Automaton) -> Result<Automaton
     )
 }
 
-/// Adds the links between states and in sets with higher numbers, and each in the fresh set.
+/// Adds the links with the numbers of their states and sets raised, each also in the fresh set.
 fn push_moved(
     alloc: Global,
     links: &mut Links,
@@ -109,7 +109,7 @@ fn push_moved(
     Ok(())
 }
 
-/// The starts, and behind them others, raised by this number.
+/// The starts, and after them others, raised by this number.
 fn joined_starts(starts: &Numbers, others: &Numbers, by: u32) -> Result<Numbers, Memory>
     requires { All (λ start. start + by < 2 ^ 32) others.now }
     ensures { IfOk result (λ all. all ≡ starts.now ++ map (λ start. start + by) others.now) }
@@ -121,7 +121,7 @@ fn joined_starts(starts: &Numbers, others: &Numbers, by: u32) -> Result<Numbers,
     Ok(all)
 }
 
-/// The first condition where no edge is in the fresh set, and the second, about sets raised by this number, where some is.
+/// The first condition and `Fin` of the fresh set, or the second, with its sets raised by this number, and `Inf` of it.
 fn either_condition(
     alloc: Global,
     f: &Formula,

@@ -1,4 +1,4 @@
-//! An automaton without the states that aren't reached.
+//! Trimming: removal of the states that aren't reached.
 
 ghost use Rattle.std.specs.Prelude.{◌≡◌, IfOk, length};
 ghost use Rattle.aut_core.specs.SymbolicAutomata.{automaton_of};
@@ -13,8 +13,8 @@ use aut_core::Automaton;
 use graph_walk::reach;
 use std::alloc::Global;
 
-/// The automaton with the states alone that are reached, by edges whose labels aren't false, and without the edges whose
-/// labels are. The states stay in order, and are numbered from 0. It accepts the same words.
+/// The automaton without the states that aren't reached by edges with satisfiable labels, and without the edges whose
+/// labels aren't satisfiable. The states stay in order, and are numbered from 0. It accepts the same words.
 pub fn trim(alloc: Global, a: &Automaton) -> Result<Automaton, Memory>
     ensures shape { IfOk result (λ made. IsTrimmed (automaton_of a.now) (automaton_of made)) }
     ensures accepts { IfOk result (λ made. AcceptTheSame (automaton_of made) (automaton_of a.now)) }

@@ -82,7 +82,7 @@ module _ {X : Type 0} (r : Rules X) (tells : (a b : X) → r.same a b ≡ true �
       by_cases (Finished s) is before e = absurd (meets_ends f s (sym e))
       by_cases (LimitMet g) is before e = before (is ∙ e)
 
-  -- a limit is met for cause
+  -- a limit that is met has its cause
   pub met : (f : Fault) → Comes r (begin start) (LimitMet f) → Excess r start f
   met f c = let at = meets_at c.turns f c.comes in turned_met at.0 at.0.current f at.1 at.2
 

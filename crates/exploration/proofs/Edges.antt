@@ -1,4 +1,4 @@
--- The edges of what is explored, one by one.
+-- The edges of an explored system: one for each step with a successor, in order.
 use Rattle.std.proofs.Common.{◌≡◌, ◌∙◌, ◌⊎◌, ◌<◌, ℕ, zero, suc, All, AllPairs, Bool, Contains, List, [], ◌∷◌, ◌++◌, None, Option, Some, ap, arith, get_or, inl, inr, length, refl, slice_get, subst}
 use Rattle.std.proofs.Common.{sym}
 use Rattle.std.proofs.lemmas.Bool.{cases_lt}
@@ -32,7 +32,7 @@ has_cases (z ∷ xs) ys x (suc n, at) = elim (has_cases xs ys x (n, at)) [
 has_from : {X : Type 0} (xs : List X) (x : X) → Contains xs x → Has xs x
 has_from xs x there = there_at xs x there
 
--- an earlier place, or the same place and an earlier class
+-- an earlier state, or the same state and an earlier class
 abbrev pub Earlier : (place class other more : ℕ) → Type 0
 Earlier place class other more = (place < other) ⊎ ((place ≡ other) × (class < more))
 
@@ -43,7 +43,7 @@ abbrev pub ArrowBefore : Transition → Transition → Type 0
 ArrowBefore a b = Earlier a.from a.class b.from b.class
 
 module _ {X : Type 0} (m : TransitionFunction X) where
-  -- a step that gives something is among the steps
+  -- a step with a successor is among the steps
   below_has : (p : ℕ) (x : X) (k j : ℕ) (y : X) → j < k → m.step x j ≡ Successor y → Has (steps_below m p x k) (record { from = p; class = j; to = y })
   below_has p x zero j y less e = absurd (omega (arith, less))
   below_has p x (suc k) j y less e = elim (cases_lt j k) [
@@ -67,7 +67,7 @@ module _ {X : Type 0} (m : TransitionFunction X) where
         )
   ]
 
-  -- each of the steps is one that gives something
+  -- each of the steps has a successor
   to_from : (p k : ℕ) (v : StepOutcome X) (t : Step X) → Has (step_to p k v) t → (t.from ≡ p) × (t.class ≡ k) × (v ≡ Successor t.to)
   to_from p k (Successor y) t (zero, at) = let e = same_Some (record { from = p; class = k; to = y }) t at in
       (ap (λ (s : Step X). s.from) (sym e), ap (λ (s : Step X). s.class) (sym e), ap (λ (s : Step X). Successor s.to) e)
@@ -96,7 +96,7 @@ module _ {X : Type 0} (m : TransitionFunction X) where
     | inr new ↦ of_from states n (slice_get states n) t refl new
   ]
 
-  -- steps stand in the order of their places and classes
+  -- steps are in the order of their states and classes
   one_rises : (p k : ℕ) (v : StepOutcome X) → AllPairs StepBefore (step_to p k v)
   one_rises p k (Successor y) i j d less within = absurd (omega (arith, less, within))
   one_rises p k NoSuccessor i j d less within = absurd (omega (arith, within))
@@ -138,7 +138,7 @@ module _ {X : Type 0} (m : TransitionFunction X) where
       ))))
 
   module _ (same : X → X → Bool) (start : X) (states : List X) (transitions : List Transition) (is : IsExplored same m start states transitions) where
-    -- each class of a listed state whose step gives something has an edge, which leads to the place of that
+    -- each class of a listed state whose step has a successor has an edge, which leads to the index of the successor
     pub edge_for : (i k : ℕ) (x y : X) → slice_get states i ≡ Some x → k < m.count x → m.step x k ≡ Successor y
         → (a : Transition) × Has transitions a × (a.from ≡ i) × (a.class ≡ k) × (slice_get states a.to ≡ Some y)
     edge_for i k x y at less e =
@@ -154,7 +154,7 @@ module _ {X : Type 0} (m : TransitionFunction X) where
         let b = before_from states (length states) t (h.0, z.1) in
         (b.0, t.to, ap (slice_get states) z.2.from ∙ b.1, subst (λ (n : ℕ). n < m.count b.0) (sym z.2.class) b.2, ap (m.step b.0) z.2.class ∙ b.3, z.2.to)
 
-    -- edges stand in the order of their places and classes
+    -- edges are in the order of their states and classes
     pub transitions_rise : AllPairs ArrowBefore transitions
     transitions_rise i j d less within =
         let steps = steps_before m states (length states) in

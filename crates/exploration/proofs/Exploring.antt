@@ -1,4 +1,4 @@
--- The states, expanded one after another.
+-- The loop over the states, which expands one after another.
 use Rattle.std.proofs.Common.{◌≡◌, ◌∙◌, ◌+◌, ◌-◌, ◌<◌, ◌≤◌, ℕ, Bool, cond, List, Option, Some, ap, arith, inl, inr, leb, length, map, refl, slice_get, subst, sym}
 use Rattle.std.proofs.lemmas.Bool.{le-leb, lt-leb}
 use Rattle.std.proofs.lemmas.Option.{same_Some, slice_get_past}
@@ -81,7 +81,7 @@ module _ {X C N : Type 0} (told : X → ℕ → N → Type 0) (same : X → X �
               comes = subst (λ (s : ℕ). Comes r (begin start) (Running (stage_of xs' es' s (done + 1) (Some (x, n))))) (ap (λ (k : ℕ). total + k) (sym all)) led;
             }
 
--- the classes that a system gave of the state are those of what stands there
+-- the handles that a system answered for the state are those of the classes of the state at the index
 pub classes_there : {X C : Type 0} (m' m1 : TransitionFunction X) (is1 : X → ℕ → C → Type 0) (xs : List X) (done : ℕ) (x : X) (cs ds : List C) → m1 ≡ m' → slice_get xs done ≡ Some x → ds ≡ cs
     → AreClassHandles (is1 x) (m'.count x) cs → (y : X) → slice_get xs done ≡ Some y → AreClassHandles (is1 y) (m1.count y) ds
 classes_there {X = X} {C = C} m' m1 is1 xs done x cs ds keeps here copy are y there =

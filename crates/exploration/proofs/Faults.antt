@@ -1,4 +1,4 @@
--- Faults that are passed on.
+-- What holds of the fault of an inner call holds of the fault that is passed on.
 use Rattle.std.proofs.Common.{◌≡◌, ◌⊎◌, IfErr, Result, Ok, Err, inl, inr, subst, sym}
 use Rattle.std.specs.Result.{IsErrAnd}
 use Rattle.aut_base.proofs.Outcomes.{hands_on}

@@ -1,4 +1,4 @@
--- What an exploration that ended has found, and that it has one outcome.
+-- An exploration that ends has found what is reached, and its outcome is determined.
 use Rattle.std.proofs.Common.{◌≡◌, ◌∙◌, ◌+◌, ◌≤◌, ℕ, zero, suc, Bool, true, false, cond, List, [], ◌∷◌, None, Option, Some, ap, arith, inl, inr, leb, length, ltb, refl, slice_get, subst, sym}
 use Rattle.std.proofs.lemmas.Bool.{cases_lt, ltb-false}
 use Rattle.std.proofs.lemmas.Option.{none-some, same_Some, slice_get-get_or, slice_get_within}
@@ -47,7 +47,7 @@ module _ {X : Type 0} (r : Rules X) where
   abbrev pub Was : ExplorationState X → ExplorationState X → Type 0
   Was s w = (a : ℕ) × (after_turns r s a ≡ Running w) × (slice_get w.states w.next ≡ None) × ((h : X × ℕ) → w.current ≡ Some h → r.moves.count h.0 ≤ h.1)
 
-  -- the stage at which it ends is one to which turns lead
+  -- the exploration comes by its turns to the stage at which it ends
   pub ends_from : (s : ExplorationState X) (n : ℕ) (s' : ExplorationState X) → after_turns r s n ≡ Finished s' → Was s s'
   ends_from s zero s' e = absurd (ends_goes_not s s' e)
   ends_from s (suc n) s' e = by_cases (after_turns r s n) refl (ends_from s n) e
@@ -57,12 +57,12 @@ module _ {X : Type 0} (r : Rules X) where
       by_cases (Finished s0) is before e = before s' (is ∙ e)
       by_cases (LimitMet f) is before e = absurd (meets_ends f s' e)
 
-  -- what has ended stays so
+  -- an outcome that further turns don't change is the outcome of any number of further turns
   pub stays : (s : ExplorationState X) (t : Turn X) (a : ℕ) → go_on r t ≡ t → after_turns r s a ≡ t → (b : ℕ) → after_turns r s (b + a) ≡ t
   stays s t a halts e zero = let n : 0 + a ≡ a = omega arith in ap (after_turns r s) n ∙ e
   stays s t a halts e (suc b) = let n : suc b + a ≡ suc (b + a) = omega arith in ap (after_turns r s) n ∙ (ap (go_on r) (stays s t a halts e b) ∙ halts)
 
-  -- there is one outcome
+  -- the outcome is determined
   pub one_outcome : (s : ExplorationState X) (t u : Turn X) → go_on r t ≡ t → go_on r u ≡ u → Comes r s t → Comes r s u → t ≡ u
   one_outcome s t u ht hu c d =
       let n : d.turns + c.turns ≡ c.turns + d.turns = omega arith in
@@ -128,7 +128,7 @@ module _ {X : Type 0} (r : Rules X) (tells : (a b : X) → r.same a b ≡ true �
       let last = ends_from r (begin start) c.turns s c.comes in
       explored_hand s s.current (all_midway r tells itself start last.0 s last.1) last.2 last.3
 
-  -- together they have no more classes than there may be
+  -- all states together have no more classes than the limit
   within_hand : (s : ExplorationState X) (o : Option (X × ℕ)) → Held r tells itself start s o → slice_get s.states s.next ≡ None → class_counts r.moves s.states (length s.states) ≤ r.max_classes
   within_hand s None held none =
       let no : slice_get (start ∷ []) 0 ≡ None = subst (λ (w : ExplorationState X). slice_get w.states w.next ≡ None) held none in

@@ -1,4 +1,4 @@
--- The edges of what is explored leave places that do not fall.
+-- The edges of an explored system are in the order of the states that they leave.
 use Rattle.std.proofs.Common.{◌≡◌, ◌<◌, ◌≤◌, ℕ, AllPairs, List, ap, arith, get_or, inl, inr, length, map}
 use Rattle.std.proofs.lemmas.Bool.{cases_lt}
 use Rattle.std.proofs.lemmas.List.{get_or-map, length-map}
@@ -6,7 +6,7 @@ use Rattle.std.specs.List.Sorted.{IsNonDecreasing}
 use Rattle.exploration.proofs.Edges.{ArrowBefore}
 use Rattle.exploration.specs.Turns.{Transition}
 
--- edges in the order of their places leave states that do not fall
+-- the state that an edge leaves, read from the list of all such states
 from_at : (rows : List Transition) (i : ℕ) (e : Transition) (d : ℕ) → i < length rows → get_or (map (λ (a : Transition). a.from) rows) i d ≡ (get_or rows i e).from
 from_at rows i e d within = get_or-map (λ (a : Transition). a.from) rows i e d within
 

@@ -1,4 +1,4 @@
--- Lists by their places.
+-- Lists to which states are added, by index.
 use Rattle.std.proofs.Common.{◌≡◌, ◌∙◌, ◌⊎◌, ◌+◌, ◌<◌, ◌≤◌, ℕ, Bool, true, false, cond, List, [], ◌∷◌, ◌++◌, All, Some, ap, append_assoc, arith, get_or, inl, inr, length, length-append, refl}
 use Rattle.std.proofs.Common.{slice_get, subst, sym}
 use Rattle.std.proofs.lemmas.List.{append-nil}
@@ -8,7 +8,7 @@ use Rattle.std.specs.List.{list_any}
 use Rattle.aut_base.proofs.lists.Lists.{slice_get-append_left, slice_get-at}
 use Rattle.exploration.specs.Turns.{with_new}
 
--- a state that is listed adds nothing, and one that isn't itself
+-- a state that is listed is not added again, and any other is added at the end
 pub new_cases : {X : Type 0} (same : X → X → Bool) (xs : List X) (y : X) → ((list_any (same y) xs ≡ true) × (with_new same xs y ≡ xs)) ⊎
     ((list_any (same y) xs ≡ false) × (with_new same xs y ≡ xs ++ y ∷ []))
 new_cases same xs y = by_cases (list_any (same y) xs) refl
@@ -29,7 +29,7 @@ new_all P same xs y all here = elim (new_cases same xs y) [
   | inr new ↦ subst (All P) (sym new.1) (All-push P xs y all here)
 ]
 
--- a list that goes on another
+-- the second list continues the first
 abbrev pub Longer : {X : Type 0} → List X → List X → Type 0
 Longer {X} xs ys = (rest : List X) × (ys ≡ xs ++ rest)
 
@@ -47,7 +47,7 @@ longer_length xs ys a =
     let e : length ys ≡ length xs + length a.0 = ap length a.1 ∙ length-append xs a.0 in
     omega (arith, e)
 
--- what stands in the longer list stood in the shorter one
+-- an item of the longer list at an index within the shorter one is that one's
 pub longer_back : {X : Type 0} (xs ys : List X) (i : ℕ) (x : X) → Longer xs ys → i < length xs → slice_get ys i ≡ Some x → slice_get xs i ≡ Some x
 longer_back xs ys i x a within at =
     let e = slice_get-get_or xs i x within in

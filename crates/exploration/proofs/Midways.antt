@@ -1,4 +1,4 @@
--- What holds at each stage.
+-- The invariant of an exploration, turn by turn.
 use Rattle.std.proofs.Common.{◌≡◌, ◌≢◌, ◌∙◌, ◌+◌, ◌-◌, ◌<◌, ◌≤◌, ℕ, zero, suc, Bool, true, false, cond, List, [], ◌∷◌, ◌++◌, None, Option, Some, ap, append_assoc, arith, fold, inl, inr, leb}
 use Rattle.std.proofs.Common.{length, ltb, map, refl, slice_get, subst, sym}
 use Rattle.std.proofs.lemmas.Bool.{cases_lt, leb-true, ltb-false, ltb-true}
@@ -84,7 +84,7 @@ module _ {X : Type 0} (r : Rules X) (tells : (a b : X) → r.same a b ≡ true �
   abbrev pub turned_out : List (Step X) → List X
   turned_out ts = fold (with_new r.same) (start ∷ []) (map (λ t. t.to) ts)
 
-  -- with a current state, whose classes before k are done
+  -- the invariant with a current state, the steps for whose classes before k were taken
   pub record IsHeld (s : ExplorationState X) (x : X) (k : ℕ) : Type 0 where
     pub place : ℕ
     pub next : s.next ≡ suc place
@@ -195,7 +195,7 @@ module _ {X : Type 0} (r : Rules X) (tells : (a b : X) → r.same a b ≡ true �
             (record { from = back; class = refl; to = new_place r.same tells itself s.states y }, tt));
       }
 
-  -- all classes of the current state are done
+  -- once the steps for all classes of the current state were taken
   pub whole : (s : ExplorationState X) (x : X) (k : ℕ) → (h : IsHeld s x k) → m.count x ≤ k → made s.states h.place x k ≡ steps_before m s.states (suc h.place)
   whole s x k h all =
       let n : k ≡ m.count x = omega (arith, h.few, all) in

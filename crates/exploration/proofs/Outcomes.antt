@@ -1,4 +1,4 @@
--- That each exploration ends or meets a limit: each turn leaves fewer that may still come.
+-- Each exploration ends or meets a limit, since a bound on the turns that are left falls with each turn.
 use Rattle.std.proofs.Common.{◌≡◌, ◌∙◌, ◌+◌, ◌-◌, ◌<◌, ◌≤◌, ◌||◌, ℕ, zero, suc, Bool, true, false, cond, [], ◌∷◌, ◌++◌, None, Option, Some, ap, arith, inl, inr, leb, length}
 use Rattle.std.proofs.Common.{length-append, ltb, refl, slice_get, sym}
 use Rattle.std.proofs.lemmas.Bool.{leb-true, ltb-true}
@@ -16,12 +16,12 @@ abbrev IsLimit : Fault → Type 0
 IsLimit f = f ≡ fault.Memory → ⊥
 
 module _ {X : Type 0} (r : Rules X) where
-  -- classes of the current state that are still to come
+  -- the number of classes of the current state that are left
   abbrev in_hand : Option (X × ℕ) → ℕ
   in_hand None = 0
   in_hand (Some h) = r.moves.count h.0 - h.1
 
-  -- how many turns may still come before the last
+  -- a bound on the turns that are left
   abbrev still : ExplorationState X → ℕ
   still s = (r.max_classes - s.sum) + in_hand s.current + (r.max_states + 1 - s.next)
 
@@ -29,7 +29,7 @@ module _ {X : Type 0} (r : Rules X) where
     few : length s.states ≤ r.max_states + 1
     sum : s.sum ≤ r.max_classes
 
-  -- what a turn from there leads to has fewer turns still to come, or it is over for a limit
+  -- after a turn the bound is smaller, or a limit was met
   abbrev Onward : ExplorationState X → Turn X → Type 0
   Onward s (Running w) = IsWithin w × (still w < still s)
   Onward s (Finished w) = Unit {0}
@@ -58,7 +58,7 @@ module _ {X : Type 0} (r : Rules X) where
         )
   ]
 
-  -- a class less of the current state
+  -- the bound falls with a class of the current state
   fewer : (s w : ExplorationState X) (x : X) (k : ℕ) → s.current ≡ Some (x, k) → k < r.moves.count x → w.current ≡ Some (x, k + 1) → w.sum ≡ s.sum → w.next ≡ s.next → still w < still s
   fewer s w x k h less h' sum next =
       let a : in_hand s.current ≡ r.moves.count x - k = ap in_hand h in
@@ -67,7 +67,7 @@ module _ {X : Type 0} (r : Rules X) where
       let d : r.max_states + 1 - w.next ≡ r.max_states + 1 - s.next = ap (λ (n : ℕ). r.max_states + 1 - n) next in
       omega (arith, a, b, c, d, less)
 
-  -- where a step leads that gives a state
+  -- the stage after a step with a successor
   abbrev with_gift : ExplorationState X → X → ℕ → X → ExplorationState X
   with_gift s x k y = record {
     states = with_new r.same s.states y;

@@ -1,4 +1,4 @@
--- The place at which a state is found.
+-- The index of a state in the list.
 use Rattle.std.proofs.Common.{◌≡◌, ◌∙◌, ◌⊎◌, ◌+◌, ◌||◌, ℕ, suc, Bool, true, false, cond, not, List, [], ◌∷◌, ◌++◌, Some, ap, arith, get_or, inl, inr, length, refl, slice_get, sym}
 use Rattle.std.proofs.lemmas.Bool.{true≢false}
 use Rattle.std.proofs.lemmas.List.Folds.{list_any_at}
@@ -34,20 +34,20 @@ absent_at p (x ∷ xs) e = by_cases (p x) refl (absent_at p xs)
         ap (λ (c : Bool). cond (not c) (1 + position_or_len p xs) 0) is ∙ n
 
 module _ {X : Type 0} (same : X → X → Bool) (tells : (a b : X) → same a b ≡ true → a ≡ b) (itself : (a : X) → same a a ≡ true) where
-  -- a state that is listed unless it is there stands at its place
+  -- after a state is added unless it is there, it is at the index that was looked up for it
   pub new_place : (xs : List X) (y : X) → slice_get (with_new same xs y) (position_or_len (same y) xs) ≡ Some y
   new_place xs y = elim (new_cases same xs y) [
     | inl old ↦ (let f = found_at (same y) xs old.0 in ap (λ (l : List X). slice_get l (position_or_len (same y) xs)) old.1 ∙ (f.1 ∙ ap Some (sym (tells y f.0 f.2))))
     | inr new ↦ ap (λ (l : List X). slice_get l (position_or_len (same y) xs)) new.1 ∙ (ap (slice_get (xs ++ y ∷ [])) (absent_at (same y) xs new.0) ∙ slice_get-push_last xs y (length xs) refl)
   ]
 
-  -- what isn't found stands nowhere
+  -- a state that isn't found is at no index
   pub not_there : (xs : List X) (y : X) (i : ℕ) → list_any (same y) xs ≡ false → slice_get xs i ≡ Some y → ⊥
   not_there xs y i none at =
       let e : same y (get_or xs i y) ≡ true = ap (same y) (get_or_from_slice_get xs i y y at) ∙ itself y in
       true≢false (sym (list_any_at (same y) xs i y (slice_get_within xs i y at) e) ∙ none)
 
-  -- what stands in the list with a state that is listed unless it is there
+  -- the items of a list after a state is added unless it is there
   pub new_at : (xs : List X) (y : X) (i : ℕ) (x : X) → slice_get (with_new same xs y) i ≡ Some x → (slice_get xs i ≡ Some x) ⊎ ((i ≡ length xs) × (y ≡ x) × (list_any (same y) xs ≡ false))
   new_at xs y i x at = elim (new_cases same xs y) [
     | inl old ↦ inl (sym (ap (λ (l : List X). slice_get l i) old.1) ∙ at)

@@ -1,4 +1,4 @@
--- Lists of states, and of what is seen of them.
+-- Lists of states, and the lists of what contracts see of them.
 use Rattle.std.proofs.Common.{◌≡◌, ◌∙◌, ◌↔◌, ◌||◌, ◌+◌, ◌<◌, ◌≤◌, ℕ, Bool, true, false, cond, not, List, [], ◌∷◌, ◌++◌, Some, ap, arith, get_or, length, ltb, map, refl, slice_get, sym}
 use Rattle.std.proofs.lemmas.List.{length-map, map-append}
 use Rattle.std.proofs.lemmas.Option.{slice_get-map}
@@ -13,7 +13,7 @@ pub position-map : {T X : Type 0} (p : X → Bool) (f : T → X) (xs : List T) �
 position-map p f [] = refl
 position-map p f (x ∷ xs) = ap (λ (n : ℕ). cond (not (p (f x))) (1 + n) 0) (position-map p f xs)
 
--- an item that was read from a copy of the list, as it is seen
+-- what is seen of an item that was read from a copy of the list
 pub read_seen : {T X : Type 0} (seen : T → X) (xs ys : List T) (i : ℕ) (x : T) → xs ≡ ys → i < length ys → x ≡ get_or xs i x → slice_get (map seen ys) i ≡ Some (seen x)
 read_seen seen xs ys i x same within e = slice_get-map seen ys i ∙ ap (option_map seen) (read_here xs ys i x same within e)
 
@@ -23,7 +23,7 @@ within_seen seen xs i within = omega (arith, within, length-map xs seen)
 pub past_seen : {T X : Type 0} (seen : T → X) (xs : List T) (n : ℕ) → length xs ≤ n → length (map seen xs) ≤ n
 past_seen seen xs n past = omega (arith, past, length-map xs seen)
 
--- the same of a list that goes on another
+-- the same of a list that continues another
 pub read_longer : {T X : Type 0} (seen : T → X) (copy xs ys : List T) (i : ℕ) (x : T) → Longer (map seen xs) (map seen ys) → i < length xs → copy ≡ ys → x ≡ get_or copy i x
     → slice_get (map seen ys) i ≡ Some (seen x)
 read_longer seen copy xs ys i x longer within same e =

@@ -1,4 +1,4 @@
--- The steps for the classes of one state.
+-- The loop over the classes of one state, which takes their steps.
 use Rattle.std.proofs.Common.{◌≡◌, ◌∙◌, ◌+◌, ◌-◌, ◌<◌, ◌≤◌, ℕ, Bool, true, false, List, [], ◌∷◌, ◌++◌, All, Some, ap, arith, inr, length, map, refl, slice_get, subst, sym}
 use Rattle.std.proofs.lemmas.List.{map-append}
 use Rattle.std.proofs.lemmas.List.Elements.{All-push}
@@ -26,9 +26,9 @@ module _ {X C : Type 0} where
     is_class = λ x k c h. b.is_class x k c (a.is_class x k c h);
   }
 
--- what the steps tell never changes
+-- which outputs steps may have never changes
 module _ {X C N : Type 0} (told : X → ℕ → N → Type 0) where
-  -- what was sound stays so while the system goes on and the list grows
+  -- edges that are sound stay so after a call of the system, and when the list grows
   classed_kept : (m m' : TransitionFunction X) (f f' : X → Type 0) (is is' : X → ℕ → C → Type 0) → KeepsSystem m m' f f' is is' → (states states' : List X) (edges : List (Edge C N))
       → Longer states states'
       → All (IsClassed is told states) edges → All (IsClassed is' told states') edges

@@ -1,4 +1,4 @@
--- What turns lead to.
+-- The outcomes of turns, case by case.
 use Rattle.std.proofs.Common.{◌≡◌, ◌∙◌, ◌+◌, ◌-◌, ◌<◌, ◌≤◌, ℕ, zero, suc, Bool, true, false, cond, [], ◌∷◌, ◌++◌, Some, ap, arith, refl, slice_get}
 use Rattle.std.proofs.lemmas.Bool.{le-ltb, lt-ltb}
 use Rattle.std.specs.List.{position_or_len}
@@ -9,7 +9,7 @@ use Rattle.exploration.specs.declared.fault.Fault.TheVariants as fault
 pub comes_none : {X : Type 0} (r : Rules X) (s : ExplorationState X) → Comes r s (Running s)
 comes_none r s = record { turns = 0; comes = refl }
 
--- one turn more
+-- another turn
 pub comes_turn : {X : Type 0} (r : Rules X) (s m : ExplorationState X) (t : Turn X) → Comes r s (Running m) → turn r m ≡ t → Comes r s t
 comes_turn r s m t c e = record { turns = suc c.turns; comes = ap (go_on r) c.comes ∙ e }
 

@@ -1,4 +1,4 @@
--- Faults that are passed on.
+-- The fault of an exploration by that of a step.
 use Rattle.exploration.specs.declared.fault.Fault.{Fault}
 use Rattle.exploration.specs.declared.fault.StepFault.{StepFault}
 use Rattle.exploration.specs.declared.fault.Fault.TheVariants as fault

@@ -1,24 +1,24 @@
--- The exploration of what a system reaches, turn by turn.
+-- Breadth-first exploration of a transition system with limits, turn by turn, and its laws.
 use Rattle.std.specs.Prelude.{◌≡◌, ◌+◌, ◌-◌, ◌∷◌, ◌++◌, ◌||◌, ℕ, zero, suc, Bool, if◌then◌else◌, List, [], Option, None, Some, leb, length, ltb, slice_get}
 use Rattle.std.specs.List.{list_any, position_or_len}
 use Rattle.exploration.specs.TransitionFunctions.{StepOutcome, Successor, NoSuccessor, StepFailed, TransitionFunction}
 use Rattle.exploration.specs.declared.fault.Fault.{Fault}
 use Rattle.exploration.specs.declared.fault.Fault.TheVariants as fault
 
--- what is explored, and how far
+-- the transition function that is explored, equality of its states, and the limits
 pub record Rules (X : Type 0) : Type 0 where
   pub same : X → X → Bool
   pub moves : TransitionFunction X
   pub max_states : ℕ
   pub max_classes : ℕ
 
--- an edge between the places of two states, and the number of its class
+-- an edge: the indices of its two states, and the number of its class
 pub record Transition : Type 0 where
   pub from : ℕ
   pub class : ℕ
   pub to : ℕ
 
--- how far an exploration has come
+-- the state of an exploration
 pub record ExplorationState (X : Type 0) : Type 0 where
   pub states : List X  -- those listed
   pub sum : ℕ  -- of the numbers of classes of those that were expanded
@@ -26,21 +26,21 @@ pub record ExplorationState (X : Type 0) : Type 0 where
   pub current : Option (X × ℕ)  -- the current state, and the number of the first of its classes still to come
   pub transitions : List Transition  -- the edges made
 
--- what a turn leads to: it goes on, or ends, or meets a limit
+-- the outcome of a turn: the exploration goes on, or ends, or meets a limit
 pub data Turn (X : Type 0) : Type 0 where
   Running : ExplorationState X → Turn X
   Finished : ExplorationState X → Turn X
   LimitMet : Fault → Turn X
 
--- the list, and the state behind it unless it is there
+-- the list, with the state added at its end unless it is there
 abbrev pub with_new : {X : Type 0} → (X → X → Bool) → List X → X → List X
 with_new same states y = if list_any (same y) states then states else states ++ y ∷ []
 
--- the state is listed, or there is room for it
+-- the state is listed, or fewer than `most` are
 abbrev pub has_room : {X : Type 0} → (X → X → Bool) → ℕ → List X → X → Bool
 has_room same most states y = list_any (same y) states || ltb (length states) most
 
--- the step for a class of the current state, by what it gives
+-- the turn that takes the step for a class of the current state, by the step's outcome
 abbrev pub stepped : {X : Type 0} → Rules X → ExplorationState X → X → ℕ → StepOutcome X → Turn X
 stepped r s x k (Successor y) = if has_room r.same r.max_states s.states y
     then Running (record {
@@ -54,7 +54,7 @@ stepped r s x k (Successor y) = if has_room r.same r.max_states s.states y
 stepped r s x k NoSuccessor = Running (record { states = s.states; sum = s.sum; next = s.next; current = Some (x, k + 1); transitions = s.transitions })
 stepped r s x k StepFailed = LimitMet fault.StepFailed
 
--- the next state is expanded
+-- the turn that expands the next state, or ends the exploration where there is none
 abbrev pub turn_taken : {X : Type 0} → Rules X → ExplorationState X → Option X → Turn X
 turn_taken r s None = Finished s
 turn_taken r s (Some x) = if leb (s.sum + r.moves.count x) r.max_classes
@@ -70,17 +70,17 @@ turned r s (Some current) = if ltb current.1 (r.moves.count current.0)
 abbrev pub turn : {X : Type 0} → Rules X → ExplorationState X → Turn X
 turn r s = turned r s s.current
 
--- the start is listed, and none is current
+-- the state at the beginning: the start is listed, and none is current
 abbrev pub begin : {X : Type 0} → X → ExplorationState X
 begin start = record { states = start ∷ []; sum = 0; next = 0; current = None; transitions = [] }
 
--- a turn more, unless it has ended
+-- another turn, unless the exploration has ended
 abbrev pub go_on : {X : Type 0} → Rules X → Turn X → Turn X
 go_on r (Running s) = turn r s
 go_on r (Finished s) = Finished s
 go_on r (LimitMet f) = LimitMet f
 
--- where so many turns lead from a stage
+-- the outcome after this many turns
 abbrev pub after_turns : {X : Type 0} → Rules X → ExplorationState X → ℕ → Turn X
 after_turns r s zero = Running s
 after_turns r s (suc n) = go_on r (after_turns r s n)
@@ -90,7 +90,7 @@ pub record Comes {X : Type 0} (r : Rules X) (s : ExplorationState X) (t : Turn X
   pub turns : ℕ
   pub comes : after_turns r s turns ≡ t
 
--- it goes on no longer
+-- the exploration has ended, or met a limit
 abbrev pub HasStopped : {X : Type 0} → Turn X → Type 0
 HasStopped (Running s) = ⊥
 HasStopped (Finished s) = Unit {0}
@@ -103,21 +103,21 @@ pub record EndsWith {X : Type 0} (r : Rules X) (start : X) (states : List X) (tr
   pub current : Option (X × ℕ)
   pub ends : Comes r (begin start) (Finished (record { states = states; sum = sum; next = next; current = current; transitions = transitions }))
 
--- An exploration has one outcome: it ends, with one stage, or meets one limit, and not both.
+-- The outcome of an exploration is determined: it ends, in one state, or meets a limit, one, and not both.
 abbrev pub HasOneOutcome : (X : Type 0) → Type 0
 HasOneOutcome X = (r : Rules X) (s : ExplorationState X) (t u : Turn X) → HasStopped t → HasStopped u → Comes r s t → Comes r s u → t ≡ u
 
--- So it ends with one list of states and one of edges.
+-- So the lists of states and edges with which it ends are determined.
 abbrev pub HasOneEnding : (X : Type 0) → Type 0
 HasOneEnding X = (r : Rules X) (start : X) (states others : List X) (transitions more : List Transition) →
     EndsWith r start states transitions → EndsWith r start others more → (states ≡ others) × (transitions ≡ more)
 
--- and where it ends, it meets no limit
+-- an exploration that ends meets no limit
 abbrev pub EndsOrMeets : (X : Type 0) → Type 0
 EndsOrMeets X = (r : Rules X) (start : X) (states : List X) (transitions : List Transition) (f : Fault) →
     EndsWith r start states transitions → Comes r (begin start) (LimitMet f) → ⊥
 
--- it ends, or it meets a limit
+-- the exploration ends, or it meets a limit
 pub data HasOutcome {X : Type 0} (r : Rules X) (start : X) : Type 0 where
   has_end : (states : List X) (transitions : List Transition) → EndsWith r start states transitions → HasOutcome r start
   has_limit : (f : Fault) → (f ≡ fault.Memory → ⊥) → Comes r (begin start) (LimitMet f) → HasOutcome r start

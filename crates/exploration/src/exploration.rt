@@ -1,4 +1,4 @@
-//! The exploration of a system.
+//! Breadth-first exploration of a transition system.
 
 ghost use Rattle.std.specs.Prelude.{◌≡◌, ◌⊎◌, ◌+◌, ◌++◌, ◌<◌, ◌≤◌, ◌^◌, ℕ, List, Some, true, false, IfErr, IfOk, OnOk, length, map, slice_get};
 ghost use Rattle.std.specs.List.{position_or_len};
@@ -15,7 +15,8 @@ use indexmap::IndexSet;
 use std::alloc::Global;
 use std::hash::Hash;
 
-/// A step from the state at a place to that at another, for the class of this number, and what the step tells.
+/// An edge of what is explored: the step from the state at an index, for the class of this number, to the state at another index,
+/// with the step's output.
 #[derive(Clone, Copy, Debug)]
 pub struct Edge<C, N> {
     pub from: u32,
@@ -25,17 +26,17 @@ pub struct Edge<C, N> {
     pub to: u32,
 }
 
-/// What is reached, in the order in which it was met, and the edges.
+/// The states that are reached, in the order in which they were found, and the edges.
 #[derive(Drop)]
 pub struct Explored<T: Eq + Hash, C, N> {
     pub states: IndexSet<T>,
     pub edges: Vec<Edge<C, N>>,
 }
 
-/// Explores in breadth-first order what the system reaches from the start. Each state is expanded in turn: its
-/// classes are counted, and refused as `Classes` where all counted so far are more than there may be; then for each
-/// class in order the step is taken, which is refused as `StepFailed` where it fails, and as `States` where it leads to a new
-/// state and as many are listed as may be. Which of these comes is decided by the first that is met.
+/// Explores in breadth-first order what the system reaches from the start. The states are expanded one after another. The classes of
+/// a state are counted, and refused as `Classes` where those of all states so far are more than the limit. Then the step for each
+/// class is taken, in order: it is refused as `StepFailed` where it fails, and as `States` where it leads to a new state and as many
+/// states as the limit are listed already. The first of these that occurs ends the exploration.
 pub fn explore<S: TransitionSystem>(
     alloc: Global,
     system: &mut S,
@@ -79,7 +80,7 @@ pub fn explore<S: TransitionSystem>(
     Ok(found)
 }
 
-/// Takes the steps for these classes of the state at this place.
+/// Takes the steps for these classes of the state at this index.
 fn spread<S: TransitionSystem>(
     alloc: Global,
     system: &mut S,
@@ -120,7 +121,7 @@ fn spread<S: TransitionSystem>(
     Ok(())
 }
 
-/// The place of the state, which is added unless it is there.
+/// The index of the state in the list, to which it is added unless it is there.
 fn list<T: Eq + Hash + Drop>(states: &mut IndexSet<T>, state: T, most: u32) -> Result<u32, Fault>
     requires { length states.old.keys ≤ most }
     ensures states { OnOk result (states.new.keys ≡ with_new T.eq states.old.keys state) }

@@ -1,4 +1,4 @@
-//! Why an exploration ended early.
+//! The errors of steps and of explorations.
 
 ghost use Rattle.std.specs.Prelude.{◌≡◌};
 ghost use Rattle.exploration.specs.declared.fault.Fault.{Fault};
@@ -11,7 +11,7 @@ use std::alloc::AllocFailed;
 /// Why a step could not be taken.
 #[derive(Clone, Copy, Debug, PartialEq, Eq)]
 pub enum StepFault {
-    /// What the step gives would pass a limit of its own.
+    /// The step's successor would pass a limit of the system itself.
     Failed,
     /// Want of memory.
     Memory,
@@ -20,11 +20,11 @@ pub enum StepFault {
 /// Why an exploration ended early.
 #[derive(Clone, Copy, Debug, PartialEq, Eq)]
 pub enum Fault {
-    /// The states that were expanded have more classes together than there may be.
+    /// The states that were expanded have more classes together than the limit.
     Classes,
     /// A step of a state that is reached fails.
     StepFailed,
-    /// More states are reached than there may be.
+    /// More states are reached than the limit.
     States,
     /// Want of memory.
     Memory,

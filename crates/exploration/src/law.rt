@@ -4,12 +4,12 @@ ghost use Rattle.exploration.specs.Turns.{EndsOrMeets, HasOneEnding, HasOneOutco
 
 use crate::system::TransitionSystem;
 
-/// An exploration has one outcome: it ends or meets a limit, and which is determined.
+/// The outcome of an exploration is determined: what it ends with, or the limit that it meets.
 pub fn outcome_is_one<S: TransitionSystem>()
     ensures { HasOneOutcome S.Seen }
 {}
 
-/// An exploration that ends does so with one list of states and one of edges.
+/// The lists of states and edges with which an exploration ends are determined.
 pub fn ending_is_one<S: TransitionSystem>()
     ensures { HasOneEnding S.Seen }
 {}

@@ -1,7 +1,7 @@
-//! What a deterministic transition system reaches, in breadth-first order, within limits.
+//! Breadth-first exploration of deterministic transition systems, within limits.
 //!
-//! A caller writes a `TransitionSystem` and calls `explore`. What a system does is defined in `specs/Moves`, the exploration turn by
-//! turn, and so which limit it meets first, in `specs/Turns`, and what it finds in `specs/Reached`.
+//! A caller writes a `TransitionSystem` and calls `explore`. Transition functions are defined in `specs/TransitionFunctions`, the
+//! exploration turn by turn, and so which limit it meets first, in `specs/Turns`, and what it finds in `specs/Reached`.
 #![tactic(auto)]
 
 mod exploration;

@@ -1,6 +1,6 @@
 //! The limits of an exploration.
 
-/// How many states may be reached, and how many classes they may have together, each counted as often as a state has one.
+/// The most states that may be reached, and the most classes that they may have together: the sum of their numbers of classes.
 #[derive(Clone, Copy, Debug)]
 pub struct Limits {
     pub states: u32,

@@ -1,4 +1,4 @@
--- The way back from a node that was reached.
+-- Tracing a shortest walk back from a node that was reached.
 use Rattle.std.proofs.Common.{◌≡◌, ◌∙◌, ◌≢◌, ℕ, ◌-◌, ◌<◌, ⊎_elim, Bool, true, false, List, [], ◌∷◌, ◌++◌, length, map, reverse, get_or, refl, sym, subst, arith}
 use Rattle.std.specs.List.{Contains}
 use Rattle.std.proofs.lemmas.Bool.{false≢true}
@@ -15,7 +15,7 @@ use Rattle.graph_walk.proofs.Marked.{flag_within}
 use Rattle.graph_walk.proofs.SearchLemmas.{walk_near}
 use Rattle.graph_walk.proofs.WalkLemmas.{contains_place}
 
--- an arc led to each node but the start
+-- each node that was seen, but the start, was found by an arc
 pub led_back : (nodes : ℕ) (arcs : List (ℕ × ℕ)) (p q at : ℕ) (s : Search) (places : List ℕ) (back : LeadsBack nodes arcs p q s places at) → at ≢ p
     → IsLedBy arcs back.searched.searching.known.depth s.seen.items at (get_or s.led.items at 0)
 led_back nodes arcs p q at s places back other =
@@ -25,7 +25,7 @@ led_back nodes arcs p q at s places back other =
     (λ (h : IsLedBy arcs back.searched.searching.known.depth s.seen.items at (get_or s.led.items at 0)). h)
     (back.searched.searching.known.is_led at back.marked)
 
--- one arc back, from a node that is not the start
+-- the walk is traced back by an arc, from a node that is not the start
 pub back_goes_on : (nodes : ℕ) (arcs : List (ℕ × ℕ)) (p q at place : ℕ) (s : Search) (places : List ℕ) → LeadsBack nodes arcs p q s places at → at ≢ p → place ≡ get_or s.led.items at place
     → (place < length arcs) × LeadsBack nodes arcs p q s (places ++ place ∷ []) (tail arcs place)
 back_goes_on nodes arcs p q at place s places back other read =
@@ -59,7 +59,7 @@ not_reached nodes arcs p q s searched reaches =
     let begun = searched.searching.known.begun 0 (omega arith) in
     (walk_near arcs (p ∷ []) searched.done (length arcs) s searched.searching searched.all_done p q reaches.walk begun.marked reaches.leads).0
 
--- a flag that was read, and is not set
+-- a node whose flag was read as false was not seen
 pub not_marked : (seen : List Bool) (x : ℕ) (b : Bool) → b ≡ get_or seen x b → b ≡ false → flag seen x ≡ true → ⊥
 not_marked seen x b read unset marked =
     false≢true (sym unset ∙ (get_or_read seen x b (flag_within seen x marked) read false ∙ marked))

@@ -1,1 +1,1 @@
--- Chains of arcs, one arc more at a time.
+-- Adding an arc to the lists of arcs by tail.

@@ -1,4 +1,4 @@
--- A depth for each node, of which one gets another.
+-- Changing the depth of one node.
 use Rattle.std.proofs.Common.{◌≡◌, ◌≢◌, ℕ, Bool, true, false, cond, eqb, List, refl, sym, ap, ◌∙◌}
 use Rattle.std.proofs.lemmas.Bool.{eq-eqb, eqb-true, false≢true}
 use Rattle.graph_walk.specs.inner.Places.{flag}

@@ -1,4 +1,4 @@
--- The nodes whose arcs are being looked at, one step of the pass at a time.
+-- The invariant of the frames is kept by each step of the depth-first search.
 use Rattle.std.proofs.Common.{◌≡◌, ◌∙◌, ℕ, ◌+◌, ◌-◌, ◌<◌, ◌≤◌, min, inl, inr, ⊎_elim, List, [], ◌∷◌, ◌++◌, length, sym, ap, subst, arith}
 use Rattle.std.proofs.lemmas.Bool.{cases_lt, cases_eq}
 use Rattle.graph_walk.specs.Walk.{Reaches}
@@ -9,7 +9,7 @@ use Rattle.graph_walk.specs.inner.Places.{At}
 use Rattle.graph_walk.proofs.Marked.{at_end, at_cases, at_same}
 use Rattle.graph_walk.proofs.WalkLemmas.{reach_none, reach_then}
 
--- what is settled at a place is settled at one before it
+-- a node that is closed, or open from an index on, is so for a smaller index
 pub settled_below : (order : List ℕ) (closed : ℕ → Type 0) (low lower w : ℕ) → lower ≤ low → IsClosedOrAbove order closed low w → IsClosedOrAbove order closed lower w
 settled_below order closed low lower w le settled =
     ⊎_elim (λ (h : closed w). inl h)
@@ -33,7 +33,7 @@ module _ (arcs : List (ℕ × ℕ)) (order order' : List ℕ) (closed closed' : 
     leaves = h.leaves;
   }
 
-  -- the open nodes below stay as they are, and what was settled is settled
+  -- the frames below keep their invariant where their open nodes are the same and closed nodes stay closed
   pub hold_moves : (end : ℕ) (fs : List Frame) → ((i x : ℕ) → i < end → At order i x → At order' i x) → ((i x : ℕ) → i < end → At order' i x → At order i x) → Hold arcs order closed end fs
       → Hold arcs order' closed' end fs
   hold_moves end [] there back h = h
@@ -42,7 +42,7 @@ module _ (arcs : List (ℕ × ℕ)) (order order' : List ℕ) (closed closed' : 
     hold_moves f.place fs (λ i x lt at. there i x (omega (arith, h.0.within)) at) (λ i x lt at. back i x (omega (arith, h.0.within)) at) h.1,
   )
 
--- one arc more of a node was looked at
+-- another arc of a node was followed
 pub holds_looks : (arcs : List (ℕ × ℕ)) (order : List ℕ) (closed : ℕ → Type 0) (end : ℕ) (f : Frame) (place low next : ℕ) (h : IsOpenNode arcs order closed end f) → f.next ≡ place + 1
     → low ≤ f.low → IsClosedOrAbove order closed low (head arcs place) → ReachesPlace arcs order h.node low → IsLastArc arcs (tail arcs place) place next
     → IsOpenNode arcs order closed end (record { place = f.place; low = low; next = next })
@@ -70,7 +70,7 @@ holds_looks arcs order closed end f place low next h is lower settled back last 
       leaves = λ some. last.leaves some ∙ leaves;
     }
 
--- of two places that a node reaches, the lower one
+-- of two open nodes that a node reaches, the one at the lower index
 pub reaches_lower : (arcs : List (ℕ × ℕ)) (order : List ℕ) (node low other : ℕ) → ReachesPlace arcs order node low → ReachesPlace arcs order node other → ReachesPlace arcs order node (min low other)
 reaches_lower arcs order node low other first second =
     ⊎_elim (λ (lt : low < other). let is : low ≡ min low other = omega arith in subst (ReachesPlace arcs order node) is first)
@@ -100,7 +100,7 @@ holds_enters arcs order closed w next to_it last = record {
   leaves = last.leaves;
 }
 
--- a node whose arcs are done is left for the one below it, since it reaches a node before its own place
+-- a node whose arcs were followed is left for the frame below it, since it reaches an open node before its own index
 pub holds_merge : (arcs : List (ℕ × ℕ)) (order : List ℕ) (closed : ℕ → Type 0) (end : ℕ) (f g : Frame) → IsOpenNode arcs order closed end f → IsOpenNode arcs order closed f.place g → f.next ≡ 0
     → f.low < f.place → IsOpenNode arcs order closed end (record g { low = min g.low f.low })
 holds_merge arcs order closed end f g top under ended low =

@@ -1,4 +1,4 @@
--- The marks of a pass in depth: a node is entered, or a component is closed.
+-- The states of nodes in the depth-first search, as a node is entered or a component is closed.
 use Rattle.std.proofs.Common.{◌≡◌, ◌∙◌, ◌≢◌, ℕ, ◌+◌, ◌<◌, ◌≤◌, ◌⊎◌, inl, inr, ⊎_elim, List, [], ◌∷◌, ◌++◌, length, set, take, refl, sym, ap, subst}
 use Rattle.std.proofs.Common.{arith, get_or-set_same, get_or-set_other, length-set, get_or-take, length-take}
 use Rattle.std.proofs.lemmas.Bool.{cases_lt, cases_eq}
@@ -15,7 +15,7 @@ use Rattle.graph_walk.specs.inner.Places.{At}
 use Rattle.graph_walk.proofs.Marked.{at_kept, at_end, at_cases, at_same}
 use Rattle.graph_walk.proofs.WalkLemmas.{placed, reach_then}
 
--- the place of an open node, and 0 of any other
+-- the index of an open node, and 0 of any other
 abbrev place_of : Mark → ℕ
 place_of Fresh = 0
 place_of (Open place) = place
@@ -27,14 +27,14 @@ mark_set marks w m within = get_or-set_same marks w m Fresh within
 pub mark_elsewhere : (marks : List Mark) (w x : ℕ) (m : Mark) → x ≢ w → node_mark (set marks w m) x ≡ node_mark marks x
 mark_elsewhere marks w x m other = get_or-set_other marks w x m Fresh other
 
--- a mark that is not fresh stands in the list
+-- a node that is not fresh is one of the graph
 pub mark_within : (marks : List Mark) (x : ℕ) → (node_mark marks x ≡ Fresh → ⊥) → x < length marks
 mark_within marks x other =
     ⊎_elim (λ (lt : x < length marks). lt)
     (λ (le : length marks ≤ x). absurd (other (get_or_past marks x Fresh le)))
     (cases_lt x (length marks))
 
--- there is a fresh node, and one less when it is entered
+-- there is one fresh node less when a fresh node is entered
 pub fresh_less : (marks : List Mark) (w : ℕ) (m : Mark) → w < length marks → node_mark marks w ≡ Fresh → one_if_fresh m ≡ 0 → fresh_count (set marks w m) + 1 ≡ fresh_count marks
 fresh_less marks w m within is none =
     omega (arith, sum_by-set one_if_fresh marks w m Fresh within, ap one_if_fresh is, none)
@@ -42,7 +42,7 @@ fresh_less marks w m within is none =
 pub fresh_no_more : (marks : List Mark) (w : ℕ) (m : Mark) → w < length marks → one_if_fresh m ≡ 0 → fresh_count (set marks w m) ≤ fresh_count marks
 fresh_no_more marks w m within none = omega (arith, sum_by-set one_if_fresh marks w m Fresh within, none)
 
--- the numbered nodes stay components, as long as the same ones have the same numbers
+-- the closed components stay as they are where the same nodes have the same numbers
 numbered_same : (arcs : List (ℕ × ℕ)) (old new : ℕ → ℕ → Type 0) (count : ℕ) → ((x n : ℕ) → old x n → new x n) → ((x n : ℕ) → new x n → old x n) → AreNumbered arcs old count
     → AreNumbered arcs new count
 numbered_same arcs old new count there back h = record {
@@ -87,7 +87,7 @@ module _ (arcs : List (ℕ × ℕ)) (marks : List Mark) (order : List ℕ) (coun
     few = omega (arith, keeps.few, length-set marks w (Open (length order)));
   }
 
--- what closed nodes reach is closed
+-- nodes that a closed node reaches are closed
 closed_reach : (arcs : List (ℕ × ℕ)) (numbered : ℕ → ℕ → Type 0) (count : ℕ) → AreNumbered arcs numbered count → (p q n : ℕ) (walk : List (ℕ × ℕ)) → numbered p n → IsWalk arcs p walk q
     → (m : ℕ) × numbered q m
 closed_reach arcs numbered count are p q n [] is leads = (n, subst (λ (x : ℕ). numbered x n) leads is)
@@ -97,7 +97,7 @@ closed_reach arcs numbered count are p q n (a ∷ walk) is leads =
     let same : head arcs arc.0 ≡ a.1 = ap (λ (z : ℕ × ℕ). z.1) arc.2 in
     closed_reach arcs numbered count are a.1 q next.0 walk (subst (λ (x : ℕ). numbered x next.0) same next.1) leads.2
 
--- the open nodes from the place of f on become a component
+-- the open nodes from the index of f on become a component
 module _ (arcs : List (ℕ × ℕ)) (marks marks' : List Mark) (order : List ℕ) (count : ℕ) (f : Frame) (keeps : AreConsistent arcs marks order count)
     (h : IsOpenNode arcs order (IsClosed marks) (length order) f) (ended : f.next ≡ 0) (own : f.low ≡ f.place) (closes : ClosesFrom order f.place (length order) count marks marks') where
   abbrev IsChosen : ℕ → Type 0
@@ -138,7 +138,7 @@ module _ (arcs : List (ℕ × ℕ)) (marks marks' : List Mark) (order : List ℕ
   pub taken_at : (i x : ℕ) → i < f.place → At (take f.place order) i x → At order i x
   taken_at i x lt at = (omega (arith, length-take f.place order, at.0), sym (get_or-take f.place order i 0 lt) ∙ at.1)
 
-  -- what was settled is closed now, or open below
+  -- a closed node stays closed, and an open one is closed now or still open, at an index before that of f
   pub closed_still : (x : ℕ) → IsClosed marks x → IsClosed marks' x
   closed_still x is = (is.0, numbered_still x is.0 is.1)
 

@@ -1,4 +1,4 @@
--- Lists that grow by one at their end, and flags of which one more is set.
+-- Appending an item to a list, and setting a flag.
 use Rattle.std.proofs.Common.{◌≡◌, ◌∙◌, ◌≢◌, ℕ, ◌<◌, ◌≤◌, ◌⊎◌, inl, inr, ⊎_elim, Bool, true, false, List, [], ◌∷◌, ◌++◌, length, get_or, set, refl, sym, ap, arith, get_or-set_same, get_or-set_other}
 use Rattle.std.proofs.lemmas.Bool.{cases_lt, cases_eq, false≢true}
 use Rattle.std.proofs.lemmas.List.{get_or_append_left, get_or_push, get_or_past, get_or_read, length_push}
@@ -21,7 +21,7 @@ at_cases xs y i x at =
     inr (last, sym at.1 ∙ (ap (λ k. get_or (xs ++ y ∷ []) k 0) last ∙ get_or_push xs y 0 (length xs) refl)))
     (cases_lt i (length xs))
 
--- what a read gives
+-- the item that was read at an index
 pub at_read : (xs : List ℕ) (i x : ℕ) → i < length xs → x ≡ get_or xs i x → At xs i x
 at_read xs i x within read = (within, sym (get_or_read xs i x within read 0))
 

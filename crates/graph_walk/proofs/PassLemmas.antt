@@ -1,4 +1,4 @@
--- The steps of a pass in depth.
+-- The steps of the depth-first search keep its invariant, and it ends.
 use Rattle.std.proofs.Common.{◌≡◌, ◌∙◌, ◌≢◌, ℕ, ◌+◌, ◌-◌, ◌*◌, ◌<◌, ◌≤◌, min, inl, inr, ⊎_elim, List, [], ◌∷◌, ◌++◌, length, get_or, set, take}
 use Rattle.std.proofs.Common.{reverse, refl, sym, ap, subst, arith, length-set, length-take, Option, Some, None, MatchOption, vec_len, option_to_list}
 use Rattle.std.specs.List.{All, sum_by}
@@ -20,11 +20,11 @@ use Rattle.graph_walk.proofs.MarkLemmas.{mark_set, mark_elsewhere, mark_within, 
 use Rattle.graph_walk.proofs.Marked.{at_kept, at_end, at_before, at_read}
 use Rattle.graph_walk.proofs.WalkLemmas.{reach_then, reach_place}
 
--- what a read gives
+-- the state of a node that was read
 pub mark_read : (marks : List Mark) (x : ℕ) (m : Mark) → x < length marks → m ≡ get_or marks x m → node_mark marks x ≡ m
 mark_read marks x m within read = sym (get_or_read marks x m within read Fresh)
 
--- the frame below a list of frames, seen from the top
+-- the frames from the last on, once one is pushed
 reverse_push : (fs : List Frame) (f : Frame) → reverse (fs ++ f ∷ []) ≡ f ∷ reverse fs
 reverse_push fs f = reverse-append fs (f ∷ [])
 
@@ -41,7 +41,7 @@ hold_same arcs marks marks' order order' n n' f fs fs' em eo en ef h =
     let d = subst (λ (k : ℕ). Hold arcs order' (IsClosed marks') k (f ∷ fs)) (sym en) b in
     subst (λ (gs : List Frame). Hold arcs order' (IsClosed marks') n' (f ∷ gs)) (sym ef) d
 
--- of an arc that is looked at
+-- an arc of the last frame is followed
 module _ (nodes : ℕ) (arcs : List (ℕ × ℕ)) (p : Pass) (top : Frame) (place : ℕ) (m : IsVisiting nodes arcs p top) (is : top.next ≡ place + 1) where
   pub from_top : tail arcs place ≡ m.hold.0.node
   from_top =
@@ -158,7 +158,7 @@ enters_first nodes arcs last before w p p' f chains idle within fresh e =
 below_other : (a b : ℕ) → a ≤ b → (a ≡ b → ⊥) → a < b
 below_other a b le other = ⊎_elim (λ (lt : a < b). lt) (λ (ge : b ≤ a). absurd (other (omega arith))) (cases_lt a b)
 
--- a node whose arcs are done is left for the one below it
+-- a node whose arcs were followed is left for the frame below it
 pub merges : (nodes : ℕ) (arcs : List (ℕ × ℕ)) (p p' : Pass) (top g : Frame) (low : ℕ) → IsVisiting nodes arcs p top → top.next ≡ 0 → (top.low ≡ top.place → ⊥) → p'.marks.items ≡ p.marks.items
     → p'.order.items ≡ p.order.items → p'.count ≡ p.count → p.below.items ≡ p'.below.items ++ g ∷ [] → low ≡ min g.low top.low
     → TakesStep nodes arcs p top p' (record { place = g.place; low = low; next = g.next })
@@ -180,7 +180,7 @@ merges nodes arcs p p' top g low m ended other marks order count below low_is =
       freshened = λ x was. ap (λ (ms : List Mark). node_mark ms x) (sym marks) ∙ was;
     }
 
--- the last node that is looked at has its own place as its lowest
+-- the only frame has its own index as its low link
 pub none_below : (nodes : ℕ) (arcs : List (ℕ × ℕ)) (p : Pass) (top : Frame) → IsVisiting nodes arcs p top → p.below.items ≡ [] → top.place ≡ 0
 none_below nodes arcs p top m none =
     subst (λ (fs : List Frame). Hold arcs p.order.items (IsClosed p.marks.items) top.place (reverse fs)) none m.hold.1
@@ -196,7 +196,7 @@ module _ (nodes : ℕ) (arcs : List (ℕ × ℕ)) (p q : Pass) (top : Frame) (m 
   closed_fresh : NoneFreshened p q
   closed_fresh x was = sym (c.marks.others x (λ i above below at. let e = c.marks.chosen i x above below at in cc)) ∙ was
 
-  -- the one from which it was entered goes on
+  -- the search goes on with the frame from which it was entered
   pub closes_some : (p' : Pass) (g : Frame) → p'.marks.items ≡ q.marks.items → p'.order.items ≡ q.order.items → p'.count ≡ q.count → q.below.items ≡ p'.below.items ++ g ∷ []
       → TakesStep nodes arcs p top p' g
   closes_some p' g marks order count below =
@@ -228,7 +228,7 @@ module _ (nodes : ℕ) (arcs : List (ℕ × ℕ)) (p q : Pass) (top : Frame) (m 
         freshened = λ x was. closed_fresh x (ap (λ (ms : List Mark). node_mark ms x) (sym marks) ∙ was);
       }
 
-  -- there is none
+  -- there is no such frame
   pub closes_none : (p' : Pass) → p'.marks.items ≡ q.marks.items → p'.order.items ≡ q.order.items → p'.count ≡ q.count → q.below.items ≡ [] → p'.below.items ≡ []
       → IsIdle nodes arcs p' × NoneFreshened p p'
   closes_none p' marks order count none none' =
@@ -242,7 +242,7 @@ module _ (nodes : ℕ) (arcs : List (ℕ × ℕ)) (p q : Pass) (top : Frame) (m 
         λ x was. closed_fresh x (ap (λ (ms : List Mark). node_mark ms x) (sym marks) ∙ was),
       )
 
--- one of them more
+-- one of the open nodes is closed
 pub closes_more : (order : List ℕ) (from to number node : ℕ) (old new : List Mark) → ClosesFrom order from to number old new → At order to node → node < length new → from ≤ to
     → ClosesFrom order from (to + 1) number old (set new node (Closed number))
 closes_more order from to number node old new c here within le = record {
@@ -260,7 +260,7 @@ closes_more order from to number node old new c here within le = record {
   fewer = omega (arith, c.fewer, fresh_no_more new node (Closed number) within refl);
 }
 
--- an open node has a mark
+-- an open node is one of the graph
 pub open_within : (arcs : List (ℕ × ℕ)) (marks : List Mark) (order : List ℕ) (count i x : ℕ) → AreConsistent arcs marks order count → At order i x → x < length marks
 open_within arcs marks order count i x keeps at = mark_within marks x (λ fresh. let e = keeps.opened x i at in cc)
 
@@ -268,7 +268,7 @@ pub all_open_within : (arcs : List (ℕ × ℕ)) (marks : List Mark) (order : Li
 all_open_within arcs marks order count keeps k d within =
     open_within arcs marks order count k (get_or order k d) keeps (within, get_or_default order k 0 d within)
 
--- the next arc of the same tail
+-- the next arc with the same tail
 pub chain_read : (nodes : ℕ) (arcs : List (ℕ × ℕ)) (last before : List ℕ) (place next : ℕ) → AreChained nodes arcs (length arcs) last before → place < length arcs
     → next ≡ get_or before place next → IsLastArc arcs (tail arcs place) place next
 chain_read nodes arcs last before place next chains within read =
@@ -276,7 +276,7 @@ chain_read nodes arcs last before place next chains within read =
     let at : get_or before place 0 ≡ next = sym (get_or_read before place next inside read 0) in
     subst (λ k. IsLastArc arcs (tail arcs place) place k) at (chains.befores place within)
 
--- an open node that is read is closed
+-- the open node that was read is closed
 pub closes_step : (order now : List ℕ) (from to number node : ℕ) (old new : List Mark) → All (λ x. x < length old) order → now ≡ order → to < length order → node ≡ get_or now to node
     → from ≤ to → ClosesFrom order from to number old new → (node < length new) × ClosesFrom order from (to + 1) number old (set new node (Closed number))
 closes_step order now from to number node old new marked same within read le closes =

@@ -1,4 +1,4 @@
--- The steps of a search in breadth.
+-- The steps of the breadth-first search keep its invariants, and at its end it has seen what is reached.
 use Rattle.std.proofs.Common.{◌≡◌, ◌∙◌, ◌≢◌, ℕ, zero, suc, ◌+◌, ◌-◌, ◌<◌, ◌≤◌, inl, inr, ⊎_elim, Bool, true, false, List, [], ◌∷◌, ◌++◌, length}
 use Rattle.std.proofs.Common.{get_or, set, refl, sym, ap, subst, arith, get_or-set_same, get_or-set_other, length-set}
 use Rattle.std.proofs.lemmas.List.{get_or_default, get_or_read, length_push}
@@ -16,7 +16,7 @@ use Rattle.graph_walk.proofs.Depths.{with_depth, with_depth_there, depth_kept}
 use Rattle.graph_walk.proofs.Marked.{at_kept, at_end, at_before, at_cases, at_same, at_read, flag_set, flag_kept, flag_cases}
 use Rattle.graph_walk.proofs.WalkLemmas.{reach_none, reach_then, reach_place, placed}
 
--- before any arc was looked at
+-- the invariant before any arc was followed
 pub search_begins : (arcs : List (ℕ × ℕ)) (starts : List ℕ) (s : Search) → HasStarts starts (length starts) s → Searching arcs starts 0 (length arcs) s
 search_begins arcs starts s has = record {
   known = record {
@@ -31,7 +31,7 @@ search_begins arcs starts s has = record {
   closed = λ i x place past here within leaves. absurd (⊎_elim (λ (h : i < 0). omega arith) (λ (h : (i ≡ 0) × (length arcs ≤ place)). omega (arith, h.1)) past);
 }
 
--- one arc more of the node at `done` was looked at
+-- another arc of the node at `done` was followed
 closed_more : (arcs : List (ℕ × ℕ)) (depth : ℕ → ℕ) (seen : List Bool) (order : List ℕ) (done place : ℕ) → IsClosed arcs depth seen order done (place + 1)
     → ((x : ℕ) → At order done x → tail arcs place ≡ x → IsNear depth seen (head arcs place) (suc (depth x))) → IsClosed arcs depth seen order done place
 closed_more arcs depth seen order done place closed now i x k past here within leaves =
@@ -54,7 +54,7 @@ add_same arcs starts done place s old marked = record {
       record { marked = marked; close = old.known.near there.0 x (head arcs place) here there.1 });
 }
 
--- the search in which a node was added, over the parts of the one before
+-- the invariant once a node was added, from that before
 module _ (arcs : List (ℕ × ℕ)) (starts : List ℕ) (done place w x : ℕ) (s : Search) (old : Searching arcs starts done (place + 1) s) (here : At s.order.items done x)
     (leaves : tail arcs place ≡ x) (enters : head arcs place ≡ w) (within : place < length arcs) (fits : w < length s.seen.items) (led_fits : w < length s.led.items)
     (fresh : flag s.seen.items w ≡ false) where
@@ -188,7 +188,7 @@ search_passes arcs starts done end c x s old here last = record {
       past;
 }
 
--- all arcs of the node at `done` were looked at
+-- all arcs of the node at `done` were followed
 pub search_goes_on : (arcs : List (ℕ × ℕ)) (starts : List ℕ) (done : ℕ) (s : Search) → Searching arcs starts done 0 s → done < length s.order.items → Searching arcs starts (done + 1) (length arcs) s
 search_goes_on arcs starts done s old within = record {
   known = record {
@@ -212,7 +212,7 @@ search_goes_on arcs starts done s old within = record {
       past;
 }
 
--- what a node that was seen reaches was seen too, and is no deeper than the walk is long
+-- at the end, a node that is reached from one that was seen was seen too, deeper by at most the length of the walk
 pub walk_near : (arcs : List (ℕ × ℕ)) (starts : List ℕ) (done end : ℕ) (s : Search) (old : Searching arcs starts done end s) → length s.order.items ≤ done → (p q : ℕ) (walk : List (ℕ × ℕ))
     → flag s.seen.items p ≡ true → IsWalk arcs p walk q → (flag s.seen.items q ≡ true) × (old.known.depth q ≤ old.known.depth p + length walk)
 walk_near arcs starts done end s old all p q [] marked leads = (rw (sym leads) marked, omega (arith, ap old.known.depth leads))
@@ -255,7 +255,7 @@ size_added w place s s' sized within added =
           (at_cases s.order.items w i x (rw added.listed at at));
     }
 
--- one start more is added
+-- another start is added
 pub start_added : (k w : ℕ) (starts : List ℕ) (s s' : Search) → w < length s.seen.items → k < length starts → get_or starts k 0 ≡ w → HasStarts starts k s → AddsIfUnseen s w 0 s'
     → HasStarts starts (k + 1) s'
 start_added k w starts s s' fits inside is has adds =

@@ -1,4 +1,4 @@
--- Walks, one after the other.
+-- Concatenation of walks, and the arcs of walks.
 use Rattle.std.proofs.Common.{◌≡◌, ◌∙◌, ℕ, ◌<◌, List, [], ◌∷◌, ◌++◌, length, refl, sym, subst}
 use Rattle.std.specs.List.{Contains}
 use Rattle.std.proofs.lemmas.List.{get_or_default}
@@ -17,7 +17,7 @@ pub reach_then : (arcs : List (ℕ × ℕ)) (p q r : ℕ) → Reaches arcs p q �
 reach_then arcs p q r first second =
     record { walk = first.walk ++ second.walk; leads = walk_then arcs p q r first.walk second.walk first.leads second.leads }
 
--- the arc at a place is one of the graph
+-- the arc at an index is one of the graph
 pub contains_place : (arcs : List (ℕ × ℕ)) (place : ℕ) → place < length arcs → Contains arcs (arc_at arcs place)
 contains_place arcs place within = Contains-get_or arcs place (0, 0) within
 
@@ -25,6 +25,6 @@ pub reach_place : (arcs : List (ℕ × ℕ)) (place p q : ℕ) → place < lengt
 reach_place arcs place p q within leaves enters =
     record { walk = arc_at arcs place ∷ []; leads = (contains_place arcs place within, leaves, enters) }
 
--- an arc of the graph has a place
+-- an arc of the graph has an index
 pub placed : (arcs : List (ℕ × ℕ)) (a : ℕ × ℕ) → Contains arcs a → (place : ℕ) × (place < length arcs) × (arc_at arcs place ≡ a)
 placed arcs a within = (within.0, within.1, get_or_default arcs within.0 (0, 0) a within.1 ∙ within.2)

@@ -1,4 +1,4 @@
--- What `components` answers.
+-- Strongly connected components, as `components` numbers them.
 use Rattle.std.specs.Prelude.{◌≡◌, ℕ, ◌<◌, ◌↔◌, List, length, slice_index}
 use Rattle.graph_walk.specs.Walk.{Reaches}
 

@@ -1,4 +1,4 @@
--- What `reach` answers.
+-- Reachability from a list of nodes, as `reach` answers it.
 use Rattle.std.specs.Prelude.{◌≡◌, ℕ, ◌<◌, ◌↔◌, Bool, false, IsTrue, List, length}
 use Rattle.std.specs.List.{Contains, slice_index_or}
 use Rattle.graph_walk.specs.Walk.{Reaches}

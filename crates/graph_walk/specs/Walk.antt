@@ -1,4 +1,4 @@
--- Walks along the arcs of a graph. An arc is its tail and its head.
+-- Walks along the arcs of a graph, and reachability. An arc is its tail and its head.
 use Rattle.std.specs.Prelude.{◌≡◌, ℕ, ◌<◌, List, [], ◌∷◌, All}
 use Rattle.std.specs.List.{Contains, slice_index_or}
 
@@ -16,6 +16,6 @@ pub record Reaches (arcs : List (ℕ × ℕ)) (p q : ℕ) : Type 0 where
 abbrev pub HasNodes : ℕ → List (ℕ × ℕ) → Type 0
 HasNodes nodes arcs = All (λ a. (a.0 < nodes) × (a.1 < nodes)) arcs
 
--- the arc at a place
+-- the arc at an index
 abbrev pub arc_at : List (ℕ × ℕ) → ℕ → ℕ × ℕ
 arc_at arcs place = slice_index_or arcs place (0, 0)

@@ -1,4 +1,4 @@
-//! An index of the arcs by their tails.
+//! The arcs of a graph by their tails (adjacency lists).
 
 ghost use Rattle.std.specs.Prelude.{IfOk, length};
 ghost use Rattle.graph_walk.specs.Walk.{HasNodes};
@@ -7,18 +7,18 @@ ghost use Rattle.graph_walk.specs.inner.Chains.{AreChains};
 use crate::Graph;
 use std::alloc::{AllocError, Global};
 
-/// The arcs that leave a node, chained from the last to the first. An arc is named by its place plus one, so that 0 says
-/// that there is none.
+/// For each node a linked list of the arcs that leave it, from the last to the first. An arc is given by its index plus one, and 0
+/// says that there is none.
 #[derive(Drop)]
 pub(crate) struct Chains {
     /// For each node its last arc.
     pub(crate) last: Vec<usize>,
-    /// For each arc the one before it of the same tail.
+    /// For each arc the previous one with the same tail.
     pub(crate) before: Vec<usize>,
 }
 
 impl Chains {
-    /// The chains of all nodes.
+    /// The lists of all nodes.
     pub(crate) fn new(alloc: Global, graph: &Graph) -> Result<Chains, AllocError>
         requires { HasNodes graph.now.nodes graph.now.arcs }
         ensures { IfOk result (λ chains. AreChains graph.now.nodes graph.now.arcs chains) }

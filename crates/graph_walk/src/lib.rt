@@ -1,8 +1,8 @@
-//! Walks in directed graphs whose nodes are numbers: which nodes are reached, a shortest walk between two, and the
-//! strongly connected components. Each call is exact, and takes time linear in the nodes and arcs.
+//! Algorithms on directed graphs whose nodes are numbers: reachability, shortest walks, and strongly connected
+//! components. Each call is exact, and takes time linear in the nodes and arcs.
 //!
-//! A caller sees `Graph`, `reach`, `path` and `components`. What a walk is stands in `specs/Walk.antt`, and what the calls
-//! answer in `Reach.antt`, `Path.antt` and `Components.antt` beside it; `specs/inner` speaks of the inner functions.
+//! A caller sees `Graph`, `reach`, `path` and `components`. Walks are defined in `specs/Walk.antt`, and the answers of the calls
+//! in `Reach.antt`, `Path.antt` and `Components.antt` beside it; `specs/inner` is for the inner functions.
 #![tactic(auto)]
 
 mod chains;

@@ -1,4 +1,4 @@
-//! The strongly connected components.
+//! The numbers of the strongly connected components.
 
 ghost use Rattle.std.specs.Prelude.{IfOk};
 ghost use Rattle.graph_walk.specs.Components.{AreComponents};

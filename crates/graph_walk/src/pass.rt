@@ -1,4 +1,4 @@
-//! One pass in depth, which finds the strongly connected components (Tarjan 1972).
+//! The depth-first search that finds the strongly connected components (Tarjan 1972), with a stack of its own.
 
 ghost use Rattle.std.specs.Prelude.{◌≡◌, ℕ, ◌+◌, ◌^◌, ◌<◌, All, IfOk, OnOk, length};
 ghost use Rattle.graph_walk.specs.Walk.{HasNodes};
@@ -8,21 +8,21 @@ use crate::Graph;
 use crate::chains::Chains;
 use std::alloc::{AllocError, Global};
 
-/// What is known of a node.
+/// The state of a node in the search.
 #[derive(Clone, Copy)]
 pub(crate) enum Mark {
     /// It was not entered.
     Fresh,
-    /// It was entered, and stands at this place of the open nodes.
+    /// It was entered, its component is not complete yet, and it is at this index of the open nodes (Tarjan's stack).
     Open(u32),
-    /// Its component is whole, and has this number.
+    /// Its component is complete, and has this number.
     Closed(u32),
 }
 
 impl Mark {
     ghost use Rattle.graph_walk.specs.inner.Marks.{component_number};
 
-    /// The number of the component, and 0 of a node whose component is not whole.
+    /// The number of the node's component, and 0 where that is not complete.
     pub(crate) fn number(self) -> u32
         ensures { result ≡ component_number self }
     {
@@ -33,27 +33,27 @@ impl Mark {
     }
 }
 
-/// An open node whose arcs are being looked at, the last one first.
+/// A frame of the search: an open node whose arcs are being followed, the last one first.
 #[derive(Clone, Copy)]
 pub(crate) struct Frame {
-    /// Its place in the open nodes.
+    /// The node's index in the open nodes.
     pub(crate) place: u32,
-    /// A place of the open nodes that it reaches.
+    /// The index of an open node that it reaches (Tarjan's low link).
     pub(crate) low: u32,
-    /// The next of its arcs, named as in `Chains`.
+    /// The next of its arcs, given as in `Chains`.
     pub(crate) next: usize,
 }
 
-/// The state of the pass.
+/// The state of the search.
 #[derive(Drop)]
 pub(crate) struct Pass {
-    /// For each node what is known of it.
+    /// The state of each node.
     pub(crate) marks: Vec<Mark>,
     /// The open nodes, in the order in which they were entered.
     pub(crate) order: Vec<u32>,
-    /// The open nodes whose arcs are being looked at, but for the last, which each function is given.
+    /// The frames of the search but the last one, which each function takes as an argument.
     pub(crate) below: Vec<Frame>,
-    /// The number of whole components.
+    /// The number of complete components.
     pub(crate) count: u32,
 }
 
@@ -62,7 +62,7 @@ impl Pass {
     ghost use Rattle.graph_walk.specs.inner.Pass.{ClosesComponent, Enters, LeavesNode, IsIdle, IsVisiting, NoneFreshened, TakesStep};
     ghost use Rattle.graph_walk.specs.declared.pass.Mark.TheVariants.{Fresh};
 
-    /// The pass over all nodes.
+    /// The search of the whole graph.
     pub(crate) fn new(alloc: Global, graph: &Graph) -> Result<Pass, AllocError>
         requires { HasNodes graph.now.nodes graph.now.arcs }
         ensures idle { IfOk result (λ pass. IsIdle graph.now.nodes graph.now.arcs pass) }
@@ -81,7 +81,7 @@ impl Pass {
         Ok(pass)
     }
 
-    /// Enters a node and all that it reaches, unless it was entered before.
+    /// Searches from this node, unless it was entered before.
     fn visit(&mut self, graph: &Graph, chains: &Chains, root: u32) -> Result<(), AllocError>
         requires nodes { HasNodes graph.now.nodes graph.now.arcs }
         requires chains { AreChains graph.now.nodes graph.now.arcs chains.now }
@@ -107,7 +107,7 @@ impl Pass {
         }
     }
 
-    /// Makes a fresh node the last open one.
+    /// Enters a fresh node: it becomes the last open one.
     fn enter(&mut self, chains: &Chains, node: u32) -> Result<Frame, AllocError>
         requires marked { node < length self.old.marks.items }
         requires chained { node < length chains.now.last.items }
@@ -124,7 +124,7 @@ impl Pass {
         })
     }
 
-    /// Looks at the next arc of the last open node whose arcs are not done, and answers the last such node after that.
+    /// Follows the next arc of the last frame, and answers the frame that is the last one afterwards.
     fn see(&mut self, graph: &Graph, chains: &Chains, top: Frame) -> Result<Frame, AllocError>
         requires nodes { HasNodes graph.now.nodes graph.now.arcs }
         requires chains { AreChains graph.now.nodes graph.now.arcs chains.now }
@@ -151,8 +151,8 @@ impl Pass {
         }
     }
 
-    /// Leaves a node whose arcs are done, and answers the one from which it was entered, if there is one. The
-    /// graph is there for the contract.
+    /// Leaves a node all of whose arcs were followed, and answers the frame from which it was entered, if there is one. The
+    /// graph is an argument for the contract's sake.
     fn finish(&mut self, graph: &Graph, top: Frame) -> Option<Frame>
         requires midway { IsVisiting graph.now.nodes graph.now.arcs self.old top }
         requires done { top.next ≡ 0 }
@@ -168,7 +168,7 @@ impl Pass {
         }
     }
 
-    /// Makes one component of the open nodes from a place on.
+    /// Makes the open nodes from an index on a component.
     fn close(&mut self, place: u32)
         requires marked { All (λ x. x < length self.old.marks.items) self.old.order.items }
         requires within { place < length self.old.order.items }

@@ -1,4 +1,4 @@
-//! Which nodes are reached.
+//! Reachability.
 
 ghost use Rattle.std.specs.Prelude.{ℕ, ◌<◌, All, IfOk};
 ghost use Rattle.graph_walk.specs.Reach.{AreReachFlags};
@@ -9,7 +9,7 @@ use crate::search::Search;
 use aut_base::{Flags, Memory, Numbers};
 use std::alloc::Global;
 
-/// For each node whether some node of a list reaches it, each node itself by no arcs.
+/// For each node whether some node of a list reaches it. Each node reaches itself.
 pub fn reach(alloc: Global, graph: &Graph, from: &Numbers) -> Result<Flags, Memory>
     requires nodes { HasNodes graph.now.nodes graph.now.arcs }
     requires from { All (λ p. p < graph.now.nodes) from.now }

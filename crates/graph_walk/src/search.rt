@@ -1,4 +1,4 @@
-//! A search in breadth.
+//! Breadth-first search.
 
 ghost use Rattle.std.specs.Prelude.{◌≡◌, ℕ, ◌<◌, All, IfOk, OnOk, length};
 ghost use Rattle.graph_walk.specs.Walk.{HasNodes};
@@ -8,21 +8,21 @@ use crate::Graph;
 use crate::chains::Chains;
 use std::alloc::{AllocError, Global};
 
-/// The nodes that were seen, in the order in which they were.
+/// The state of the search.
 #[derive(Drop)]
 pub(crate) struct Search {
     /// For each node whether it was seen.
     pub(crate) seen: Vec<bool>,
     /// The nodes that were seen, the nearest first.
     pub(crate) order: Vec<u32>,
-    /// For each node that was seen and is no start, the place of the arc that led to it.
+    /// For each node that was seen and is no start, the index of the arc by which it was found.
     pub(crate) led: Vec<usize>,
 }
 
 impl Search {
     ghost use Rattle.graph_walk.specs.inner.Search.{AddsIfUnseen, HasStarts, IsSearched, IsSized, Searching};
 
-    /// The search of all that the nodes of a list reach.
+    /// The completed search from the nodes of a list.
     pub(crate) fn new(alloc: Global, graph: &Graph, starts: &[u32]) -> Result<Search, AllocError>
         requires nodes { HasNodes graph.now.nodes graph.now.arcs }
         requires starts { All (λ p. p < graph.now.nodes) starts.now }
@@ -38,7 +38,7 @@ impl Search {
         Ok(search)
     }
 
-    /// The search that has seen the nodes of a list, and no other.
+    /// The search at its beginning, which has seen the nodes of a list and no other.
     fn begun(alloc: Global, nodes: u32, starts: &[u32]) -> Result<Search, AllocError>
         requires { All (λ p. p < nodes) starts.now }
         ensures size { IfOk result (λ search. length search.seen.items ≡ nodes) }
@@ -56,7 +56,7 @@ impl Search {
         Ok(search)
     }
 
-    /// Marks a node to which the arc at a place led, unless it was seen before. At a start the place says nothing.
+    /// Adds a node that was found by the arc at an index, unless it was seen before. For a start the index has no meaning.
     fn add(&mut self, node: u32, place: usize) -> Result<(), AllocError>
         requires sized { IsSized self.old }
         requires within { node < length self.old.seen.items }
@@ -73,7 +73,7 @@ impl Search {
         Ok(())
     }
 
-    /// Looks at the arcs of the node that is listed at the place `done`. The starts are there for the contract.
+    /// Follows the arcs of the node at the index `done` of the list. The starts are an argument for the contract's sake.
     fn spread(
         &mut self,
         graph: &Graph,

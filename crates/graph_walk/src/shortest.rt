@@ -1,4 +1,4 @@
-//! A shortest walk.
+//! Shortest walks.
 
 ghost use Rattle.std.specs.Prelude.{ℕ, ◌<◌, IfOk, MatchOption};
 ghost use Rattle.graph_walk.specs.Path.{IsShortest};
@@ -10,7 +10,7 @@ use aut_base::{Memory, Places};
 use std::alloc::Global;
 
 // Why so: 'Walks leave open what nobody asks' in docs/DECISIONS.md.
-/// The places of the arcs of a shortest walk between two nodes, in its order, or None where there is no walk.
+/// The indices of the arcs of a shortest walk from one node to another, in its order, or None where there is no walk.
 pub fn path(alloc: Global, graph: &Graph, from: u32, to: u32) -> Result<Option<Places>, Memory>
     requires nodes { HasNodes graph.now.nodes graph.now.arcs }
     requires from { from < graph.now.nodes }

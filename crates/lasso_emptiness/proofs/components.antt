@@ -1,4 +1,4 @@
--- Edges picked from others and grouped by their components, and what is found among them.
+-- Edges grouped by components and divided by a `Fin`, and the search among them.
 pub mod Dividing
 pub mod Grouping
 pub mod Picking

@@ -1,4 +1,4 @@
--- What conditions say of cycles, part by part, and which edges serve them.
+-- Conditions on cycles: substitution, verdicts by parts, and the edges that are needed.
 pub mod Conditions
 pub mod Judgements
 pub mod Marked

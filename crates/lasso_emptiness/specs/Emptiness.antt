@@ -1,4 +1,4 @@
--- Whether an automaton accepts some lasso word.
+-- Emptiness of an automaton, and reduced words that it accepts.
 use Rattle.std.specs.Prelude.{◌++◌, List, All}
 use Rattle.aut_base.specs.Acceptance.{Accepts}
 use Rattle.aut_base.specs.Automaton.{Automaton}
@@ -16,7 +16,7 @@ pub record AcceptsSome (a : Automaton) : Type 0 where
 abbrev pub AcceptsNothing : Automaton → Type 0
 AcceptsNothing a = (u v : List NameSet) → Accepts a u v → ⊥
 
--- the word is a reduced lasso over the automaton's names, and is accepted
+-- the lasso word is reduced, is over the automaton's names, and is accepted
 pub record IsAcceptedWord (a : Automaton) (w : Lasso) : Type 0 where
   pub reduced : IsReduced w.stem w.cycle
   pub own_names : All (HoldsOnly a.names) (w.stem ++ w.cycle)

@@ -1,4 +1,4 @@
--- What the inner functions speak of.
+-- Definitions that only the contracts of inner functions use.
 pub mod AcceptingComponents
 pub mod Edges
 pub mod Groups

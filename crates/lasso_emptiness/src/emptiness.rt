@@ -1,4 +1,4 @@
-//! The calls.
+//! The emptiness test, and the search for an accepted word.
 
 ghost use Rattle.std.specs.Prelude.{◌↔◌, IsTrue, IfOk, MatchOption};
 ghost use Rattle.aut_core.specs.SymbolicAutomata.{automaton_of};
@@ -14,7 +14,7 @@ use aut_core::Automaton;
 use std::alloc::Global;
 use word_syntax::reduce;
 
-/// Whether the automaton accepts some lasso word. No word is made.
+/// Whether the automaton accepts some lasso word. It makes no word.
 pub fn accepts_some(alloc: Global, a: &Automaton) -> Result<bool, Memory>
     ensures { IfOk result (λ some. IsTrue some ↔ AcceptsSome (automaton_of a.now)) }
 {
@@ -46,7 +46,8 @@ pub fn accepted_word(alloc: Global, a: &Automaton) -> Result<Option<Lasso>, Memo
     }
 }
 
-/// Edges of a component that is reached and whose edges together meet the condition, or None where nothing is accepted.
+/// The edges of an accepting component: they are reached, strongly connected, and together meet the condition. None where the automaton
+/// accepts nothing.
 fn accepting_component(
     alloc: Global,
     a: &Automaton,

@@ -1,4 +1,4 @@
-//! The edges of each strongly connected component.
+//! Edges grouped by strongly connected components.
 
 ghost use Rattle.std.specs.Prelude.{◌≡◌, ◌<◌, ◌≤◌, ◌++◌, ◌∷◌, [], ℕ, List, All, IfOk, OnOk, length, nat_eq, if◌then◌else◌};
 ghost use Rattle.std.specs.List.{filter, slice_index_or};
@@ -13,7 +13,7 @@ use std::alloc::Global;
 /// Edges in groups.
 pub(crate) type Groups = Vec<LiveEdges>;
 
-/// The edges inside of each component, group by group. A group may be empty.
+/// For each component the edges inside of it. A group may be empty.
 pub(crate) fn component_groups(
     alloc: Global,
     states: u32,
@@ -27,7 +27,7 @@ pub(crate) fn component_groups(
     groups_by_number(alloc, edges, numbers.as_slice())
 }
 
-/// For each number the edges whose both ends have it.
+/// For each number the edges both of whose states have it.
 fn groups_by_number(alloc: Global, edges: &[EdgeRef], numbers: &[u32]) -> Result<Groups, Memory>
     requires { All (λ e. (e.from < length numbers.now) × (e.to < length numbers.now)) edges.now }
     ensures { IfOk result (λ groups. (k : ℕ) → slice_index_or groups.items k [] ≡ filter (is_inside numbers.now k) edges.now) }
@@ -43,7 +43,7 @@ fn groups_by_number(alloc: Global, edges: &[EdgeRef], numbers: &[u32]) -> Result
     Ok(groups)
 }
 
-/// Adds an edge to the group of this number, which is made where it isn't there yet.
+/// Adds an edge to the group of this number, and before that empty groups where there is none.
 fn add_to_group(
     alloc: Global,
     groups: &mut Groups,

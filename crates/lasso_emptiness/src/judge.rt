@@ -1,4 +1,4 @@
-//! A condition, judged on all edges of a component together.
+//! The acceptance condition decided on the edges of a component, as far as all of them together decide it.
 
 ghost use Rattle.std.specs.Prelude.{◌≡◌, ◌<◌, ℕ, true, false, List, All, Contains, length, map};
 ghost use Rattle.std.specs.List.{list_all, list_any};
@@ -15,8 +15,8 @@ use aut_base::{Formula, Formulas};
 use aut_core::Link;
 
 // Why so: 'The search for an accepted word judges a component as a whole' in docs/DECISIONS.md.
-/// Whether the edges together meet the condition, or no cycle of some of them does, or on which side of a set that
-/// depends. A `Fin` that they meet together is met by each cycle of them.
+/// Whether the edges together meet the condition, or no cycle of some of them does, or neither is known because of a `Fin` that some
+/// edge violates. A `Fin` that no edge violates is met by each cycle of them.
 #[cycle(judge)]
 pub(crate) fn judge(links: &[Link], edges: &[EdgeRef], condition: &Formula) -> Verdict
     requires { All (λ e. e.link < length links.now) edges.now }
@@ -46,7 +46,7 @@ pub(crate) fn judge(links: &[Link], edges: &[EdgeRef], condition: &Formula) -> V
     }
 }
 
-/// `Inf` of this side.
+/// The verdict on an `Inf` atom.
 fn judge_inf(links: &[Link], edges: &[EdgeRef], side: SetLiteral) -> Verdict
     requires { All (λ e. e.link < length links.now) edges.now }
     ensures { IsJudged (map (marks_of links.now) edges.now) (FormulaTree.Inf side.set side.neg) result }
@@ -57,7 +57,7 @@ fn judge_inf(links: &[Link], edges: &[EdgeRef], side: SetLiteral) -> Verdict
     }
 }
 
-/// `Fin` of this side.
+/// The verdict on a `Fin` atom.
 fn judge_fin(links: &[Link], edges: &[EdgeRef], side: SetLiteral) -> Verdict
     requires { All (λ e. e.link < length links.now) edges.now }
     ensures { IsJudged (map (marks_of links.now) edges.now) (FormulaTree.Fin side.set side.neg) result }
@@ -68,7 +68,7 @@ fn judge_fin(links: &[Link], edges: &[EdgeRef], side: SetLiteral) -> Verdict
     }
 }
 
-/// All of these parts.
+/// The verdict on a conjunction of these parts.
 #[cycle(judge)]
 #[tactic(auto, using(acc_forms::proofs::Parts::part_sizes))]
 fn judge_all(links: &[Link], edges: &[EdgeRef], parts: &Formulas) -> Verdict
@@ -89,7 +89,7 @@ fn judge_all(links: &[Link], edges: &[EdgeRef], parts: &Formulas) -> Verdict
     }
 }
 
-/// One of these parts.
+/// The verdict on a disjunction of these parts.
 #[cycle(judge)]
 #[tactic(auto, using(acc_forms::proofs::Parts::part_sizes))]
 fn judge_some(links: &[Link], edges: &[EdgeRef], parts: &Formulas) -> Verdict

@@ -1,7 +1,7 @@
-//! Whether an automaton accepts some lasso word, for any acceptance condition (Emerson and Lei 1987), and one that it
+//! Emptiness of automata with any Emerson-Lei condition (Emerson and Lei 1987), and a lasso word that an automaton
 //! accepts.
 //!
-//! A caller sees `accepts_some` and `accepted_word`. What they answer is defined in `specs/Emptiness`; `specs/inner` speaks of the inner
+//! A caller sees `accepts_some` and `accepted_word`. What they answer is defined in `specs/Emptiness`; `specs/inner` is for the inner
 //! functions.
 #![tactic(auto)]
 

@@ -1,4 +1,4 @@
-//! Edges of an automaton as a search sees them, and the graph that they make.
+//! The edges on which the search works, satisfiable and reached, and their graph.
 
 ghost use Rattle.std.specs.Prelude.{◌≡◌, ◌<◌, ℕ, [], true, false, All, IfOk, length, map};
 ghost use Rattle.std.specs.List.{slice_index_or};
@@ -12,7 +12,7 @@ use aut_core::Automaton;
 use graph_walk::{Graph, reach};
 use std::alloc::Global;
 
-/// An edge: its ends, and the place of its link in the automaton.
+/// An edge: its two states, and the index of its link in the automaton.
 #[derive(Clone, Copy, Debug)]
 pub(crate) struct EdgeRef {
     pub(crate) from: u32,
@@ -23,7 +23,7 @@ pub(crate) struct EdgeRef {
 /// Edges, in order.
 pub(crate) type LiveEdges = Seq<EdgeRef>;
 
-/// The edges whose label isn't false.
+/// The edges whose labels are satisfiable.
 pub(crate) fn satisfiable_edges(alloc: Global, a: &Automaton) -> Result<LiveEdges, Memory>
     ensures { IfOk result (ArePassable a.now) }
 {
@@ -80,7 +80,7 @@ pub(crate) fn graph_of(alloc: Global, states: u32, edges: &[EdgeRef]) -> Result<
     graph_turned(alloc, states, edges, false)
 }
 
-/// The graph of these edges, each turned around.
+/// The graph of these edges, each reversed.
 pub(crate) fn backward_graph_of(
     alloc: Global,
     states: u32,
@@ -92,7 +92,7 @@ pub(crate) fn backward_graph_of(
     graph_turned(alloc, states, edges, true)
 }
 
-/// The graph of these edges, as they are or each turned around.
+/// The graph of these edges, as they are or each reversed.
 fn graph_turned(
     alloc: Global,
     states: u32,
@@ -112,7 +112,7 @@ fn graph_turned(
     })
 }
 
-/// The two ends of an edge, as they are or turned around.
+/// An edge as an arc, as it is or reversed.
 fn turned_arc(edge: &EdgeRef, turned: bool) -> (u32, u32)
     ensures { result ≡ arc_in_direction turned edge.now }
 {

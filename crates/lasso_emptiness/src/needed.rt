@@ -1,4 +1,4 @@
-//! Edges of a component that a closed path has to pass for a condition to be met.
+//! A choice of edges of an accepting component, such that closed paths through all of them meet the condition.
 
 ghost use Rattle.std.specs.Prelude.{◌≡◌, ◌<◌, ℕ, true, List, All, Contains, IfOk, OnOk, length, map};
 ghost use Rattle.std.specs.List.{list_all, list_any};
@@ -15,7 +15,7 @@ use aut_base::{Formula, Formulas, Memory};
 use aut_core::Link;
 use std::alloc::Global;
 
-/// Edges of a component, one at least, such that each cycle of the component's edges that passes all of them meets the
+/// At least one edge of a component, chosen such that each cycle of the component's edges that has all chosen ones meets the
 /// condition.
 pub(crate) fn needed_edges(
     alloc: Global,
@@ -37,8 +37,8 @@ pub(crate) fn needed_edges(
     Ok(needed)
 }
 
-/// Adds edges such that each cycle of the component's edges that passes all of them meets the condition. For an `Inf` one is
-/// added only where none that serves it is there.
+/// Adds edges such that each cycle of the component's edges that has all chosen ones meets the condition. For an `Inf` an edge is
+/// added only where no chosen one meets it.
 #[cycle(needed)]
 fn add_needed(
     links: &[Link],
@@ -69,7 +69,7 @@ fn add_needed(
     }
 }
 
-/// Adds an edge on this side, where none is there yet.
+/// Adds an edge that satisfies the set literal, where no chosen one does.
 fn add_on_side(
     links: &[Link],
     edges: &[EdgeRef],
@@ -91,7 +91,7 @@ fn add_on_side(
     }
 }
 
-/// Adds what each part needs.
+/// Adds edges for each of the parts.
 #[cycle(needed)]
 fn add_for_all(
     links: &[Link],
@@ -110,7 +110,7 @@ fn add_for_all(
     Ok(())
 }
 
-/// The first part that all edges meet.
+/// The first part that all edges together meet.
 fn met_part<'a>(links: &[Link], edges: &[EdgeRef], parts: &'a Formulas) -> &'a Formula
     requires within { All (λ e. e.link < length links.now) edges.now }
     requires met { list_any (met (map (marks_of links.now) edges.now)) (formula_list parts.now) ≡ true }

@@ -1,4 +1,4 @@
-//! The search for a component that meets a condition.
+//! The search for an accepting component.
 
 ghost use Rattle.std.specs.Prelude.{◌<◌, ℕ, List, All, Contains, IfOk, length};
 ghost use Rattle.aut_base.specs.Formula.{FormulaTree, formula_tree};
@@ -19,18 +19,19 @@ use aut_base::{Formula, Memory};
 use aut_core::Link;
 use std::alloc::Global;
 
-/// What the edges of several components say of a condition.
+/// The verdict on a condition for several components.
 #[derive(Drop)]
 pub(crate) enum ComponentsVerdict {
-    /// Those of this component together meet it.
+    /// The edges of this component together meet it.
     Met(LiveEdges),
     /// No cycle within one of the components meets it.
     Never,
-    /// Of these components it depends on a `Fin`, of one of them on the `Fin` of this side.
+    /// For these components it is open because of a `Fin` that some edge violates, for one of them of the `Fin` of this set literal. No
+    /// cycle within another one meets it.
     Open(SetLiteral, Groups),
 }
 
-/// Edges of one component that together meet the condition, or None where no closed path along the edges meets it.
+/// The edges of an accepting component among these edges, or None where no closed path along them meets the condition.
 #[cycle(search)]
 pub(crate) fn search(
     alloc: Global,
@@ -46,9 +47,9 @@ pub(crate) fn search(
     search_in(alloc, links, states, groups, condition)
 }
 
-/// Such edges within one of the components, or None where no closed path meets the condition. Where it depends on a `Fin`,
-/// edges off its side are looked for with the `Fin` taken as true, in the components of what is left; and any other ones in
-/// the same components, with the `Fin` taken as false.
+/// Such edges within one of the components, or None where no closed path meets the condition. Where that is open because of a `Fin`,
+/// first the edges that don't violate it are searched, divided into components anew, with the `Fin` taken as true; and then the
+/// components that have an edge that does, with the `Fin` taken as false.
 #[cycle(search)]
 fn search_in(
     alloc: Global,

@@ -1,4 +1,4 @@
-//! The edges in an acceptance set, or those outside of it.
+//! Set literals: the set of an atom, or its complement where it is negated.
 
 ghost use Rattle.std.specs.Prelude.{◌≡◌, ◌<◌, true, false, All, Contains, MatchOption, length};
 ghost use Rattle.lasso_emptiness.specs.inner.Edges.{on_side, marks_of};
@@ -7,8 +7,8 @@ use crate::live::EdgeRef;
 use aut_base::Marks;
 use aut_core::Link;
 
-/// The edges in an acceptance set, or where it is negated those outside of it. `Inf` asks that some edge of a cycle be
-/// among them, `Fin` that none be.
+/// The set literal `k` or `!k` of an atom. An edge satisfies it where it is in the set, or, negated, where it isn't. `Inf` requires
+/// that some edge of a cycle satisfies it, `Fin` that none does.
 #[derive(Clone, Copy, Debug)]
 pub(crate) struct SetLiteral {
     pub(crate) set: u32,
@@ -16,7 +16,7 @@ pub(crate) struct SetLiteral {
 }
 
 impl SetLiteral {
-    /// Whether an edge with these marks is on the side.
+    /// Whether an edge with these marks satisfies the literal.
     pub(crate) fn has(self, marks: &Marks) -> bool
         ensures { result ≡ on_side self.set self.neg marks.now }
     {
@@ -27,7 +27,7 @@ impl SetLiteral {
         }
     }
 
-    /// Whether the edge is on the side.
+    /// Whether the edge satisfies the literal.
     pub(crate) fn has_edge(self, links: &[Link], edge: EdgeRef) -> bool
         requires { edge.link < length links.now }
         ensures { result ≡ on_side self.set self.neg (marks_of links.now edge) }
@@ -35,7 +35,7 @@ impl SetLiteral {
         self.has(&links[edge.link].marks)
     }
 
-    /// One of the edges that is on the side, or None where none is.
+    /// One of the edges that satisfies the literal, or None where none does.
     pub(crate) fn one_of(self, links: &[Link], edges: &[EdgeRef]) -> Option<EdgeRef>
         requires { All (λ e. e.link < length links.now) edges.now }
         ensures { MatchOption result (All (λ e. on_side self.set self.neg (marks_of links.now e) ≡ false) edges.now)

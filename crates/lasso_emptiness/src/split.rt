@@ -1,4 +1,4 @@
-//! Groups of edges, divided by the side of a `Fin`.
+//! Components divided by a `Fin`: the edges that meet it, and the components with an edge that violates it.
 
 ghost use Rattle.std.specs.Prelude.{◌≡◌, ◌<◌, ℕ, List, All, IfOk, OnOk, length};
 ghost use Rattle.lasso_emptiness.specs.declared.live.EdgeRef.{EdgeRef};
@@ -11,16 +11,16 @@ use aut_base::Memory;
 use aut_core::Link;
 use std::alloc::Global;
 
-/// Groups divided by a side.
+/// Groups divided by a set literal.
 #[derive(Drop)]
 pub(crate) struct Split {
-    /// The edges that are not on the side.
+    /// The edges that don't satisfy it.
     pub(crate) off: LiveEdges,
-    /// The groups that have an edge on it.
+    /// The groups that have an edge that does.
     pub(crate) crossed: Groups,
 }
 
-/// Divides the groups by this side.
+/// Divides the groups by this set literal.
 pub(crate) fn divide(
     alloc: Global,
     links: &[Link],
@@ -42,7 +42,7 @@ pub(crate) fn divide(
     Ok(Split { off, crossed })
 }
 
-/// Adds the edges that are not on this side.
+/// Adds the edges that don't satisfy this set literal.
 fn add_off_side(
     links: &[Link],
     edges: &[EdgeRef],

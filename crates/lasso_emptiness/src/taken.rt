@@ -1,4 +1,4 @@
-//! A condition in which one `Fin` is decided.
+//! A condition with a truth value substituted for a `Fin`.
 
 ghost use Rattle.std.specs.Prelude.{◌≡◌, ℕ, map, IfOk};
 ghost use Rattle.aut_base.specs.Formula.{FormulaTree, formula_tree, formula_list};
@@ -9,7 +9,7 @@ use crate::side::SetLiteral;
 use aut_base::{Formula, Formulas, Memory};
 use std::alloc::Global;
 
-/// The condition with each `Fin` of this side substituted as true, or as false.
+/// The condition with true, or false, substituted for each `Fin` of this set literal.
 #[cycle(take)]
 #[tactic(auto, using(aut_base::proofs::trees::FormulaTrees::formula_trees))]
 pub(crate) fn take(
@@ -33,7 +33,7 @@ pub(crate) fn take(
     }
 }
 
-/// `Fin` of this set.
+/// A `Fin` atom after the substitution.
 #[tactic(auto, using(aut_base::proofs::trees::FormulaTrees::formula_trees))]
 fn take_fin(set: u32, neg: bool, side: SetLiteral, value: bool) -> Formula
     ensures { formula_tree result ≡ substituted side.set side.neg value (FormulaTree.Fin set neg) }
@@ -44,7 +44,7 @@ fn take_fin(set: u32, neg: bool, side: SetLiteral, value: bool) -> Formula
     if value { Formula::True } else { Formula::False }
 }
 
-/// The parts, each in the same way.
+/// The parts after the substitution.
 #[cycle(take)]
 #[tactic(auto, using(acc_forms::proofs::Parts::part_sizes))]
 fn take_parts(

@@ -1,4 +1,4 @@
-//! Paths along edges.
+//! Closed paths through given edges.
 
 ghost use Rattle.std.specs.Prelude.{◌≡◌, ◌<◌, ◌++◌, ℕ, List, All, Contains, IfOk, OnOk, length, map};
 ghost use Rattle.graph_walk.specs.Walk.{Reaches};
@@ -12,7 +12,7 @@ use aut_base::Memory;
 use graph_walk::{Graph, path};
 use std::alloc::Global;
 
-/// A closed path along the edges of a component that passes all of some of them, of which there is one at least.
+/// A closed path along the edges of a component that has all of the needed ones, of which there is at least one.
 pub(crate) fn tour(
     alloc: Global,
     states: u32,
@@ -38,7 +38,7 @@ pub(crate) fn tour(
     Ok(cycle)
 }
 
-/// Adds a path from one state to another.
+/// Adds a shortest path from one state to another.
 pub(crate) fn add_way(
     alloc: Global,
     graph: &Graph,
@@ -63,7 +63,7 @@ pub(crate) fn add_way(
     }
 }
 
-/// Adds the edges at these places.
+/// Adds the edges at these indices.
 fn add_places(edges: &[EdgeRef], places: &[usize], way: &mut LiveEdges) -> Result<(), Memory>
     requires { All (λ place. place < length edges.now) places.now }
     ensures { OnOk result (way.new ≡ way.old ++ map (listed_edge edges.now) places.now) }

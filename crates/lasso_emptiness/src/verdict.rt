@@ -1,14 +1,14 @@
-//! What the edges of a component say of a condition.
+//! Verdicts on a condition, by the edges of a component.
 
 use crate::side::SetLiteral;
 
-/// What all edges of a component together say of a condition.
+/// What all edges of a component together decide about a condition.
 #[derive(Clone, Copy, Debug)]
 pub(crate) enum Verdict {
-    /// They meet it.
+    /// Together they meet it.
     Met,
     /// No cycle of some of them meets it.
     Never,
-    /// It depends on whether a cycle passes an edge on this side, of which a `Fin` speaks.
+    /// Together they don't, since some edge violates the `Fin` of this set literal; a cycle without such edges may meet it.
     Open(SetLiteral),
 }

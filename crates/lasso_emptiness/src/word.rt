@@ -1,4 +1,4 @@
-//! The closed path of a component, and the word of a closed path.
+//! An accepting closed path of a component, and a lasso word that a run over it reads.
 
 ghost use Rattle.std.specs.Prelude.{◌≡◌, ◌<◌, ◌↔◌, ℕ, true, false, IsTrue, List, All, Contains, IfOk, MatchOption, length, map};
 ghost use Rattle.aut_core.specs.SymbolicAutomata.{automaton_of};
@@ -23,7 +23,7 @@ use aut_core::{Automaton, Link};
 use graph_walk::reach;
 use std::alloc::Global;
 
-/// A closed path along the edges of a component that together meet the condition.
+/// An accepting closed path of a component whose edges together meet the condition.
 pub(crate) fn accepting_cycle(
     alloc: Global,
     links: &[Link],
@@ -41,7 +41,7 @@ pub(crate) fn accepting_cycle(
     tour(alloc, states, edges, needed.as_slice())
 }
 
-/// A word that leads from a start to a closed path and then around it.
+/// A lasso word whose stem leads from a start to the closed path, and whose cycle goes around it.
 pub(crate) fn word_around(
     alloc: Global,
     a: &Automaton,
@@ -61,7 +61,7 @@ pub(crate) fn word_around(
     })
 }
 
-/// A path from a start that reaches the state to it.
+/// A path from a start to the state, which a start reaches.
 fn stem_to(alloc: Global, a: &Automaton, edges: &[EdgeRef], state: u32) -> Result<LiveEdges, Memory>
     requires ends { All (λ e. (e.from < a.now.states) × (e.to < a.now.states)) edges.now }
     requires state { state < a.now.states }
@@ -106,7 +106,7 @@ fn reaching(alloc: Global, states: u32, edges: &[EdgeRef], state: u32) -> Result
     reach(alloc, &backward_graph_of(alloc, states, edges)?, &from)
 }
 
-/// A letter for each of the edges.
+/// For each of the edges a letter that satisfies its label.
 fn letters_along(alloc: Global, a: &Automaton, edges: &[EdgeRef]) -> Result<Letters, Memory>
     requires { All (IsPassable a.now) edges.now }
     ensures { IfOk result (AreLettersOf a.now edges.now) }
@@ -118,7 +118,7 @@ fn letters_along(alloc: Global, a: &Automaton, edges: &[EdgeRef]) -> Result<Lett
     Ok(letters)
 }
 
-/// A letter that meets the label of an edge.
+/// A letter that satisfies the label of an edge.
 fn letter_on(alloc: Global, a: &Automaton, edge: EdgeRef) -> Result<Letter, Memory>
     requires { IsPassable a.now edge }
     ensures { IfOk result (IsLetterOf a.now edge) }

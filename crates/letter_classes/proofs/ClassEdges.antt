@@ -1,4 +1,4 @@
--- Edges under classes: each letter meets that of its class, and no letter meets two from one place.
+-- Edges labelled by classes: each letter meets the edge of its class, and no letter meets two edges from one state.
 use Rattle.std.proofs.Common.{◌≡◌, ◌∙◌, ◌<◌, ℕ, AllPairs, Bool, true, Contains, List, [], Some, ap, arith, get_or, inl, inr, length, map, slice_get, subst, sym}
 use Rattle.std.proofs.lemmas.List.Elements.{Contains-get_or}
 use Rattle.std.proofs.lemmas.Option.{get_or_from_slice_get, slice_get-get_or}
@@ -28,11 +28,11 @@ module _ (b : Automaton) (set_of : ℕ → List ℕ) (marks_of : ℕ → List Bo
   abbrev classes_at : ℕ → List (List Bool)
   classes_at p = set_classes b (set_of p)
 
-  -- a letter that meets an edge is alike to the edge's class
+  -- a letter that meets an edge is in the edge's class
   pub edge_alike : (a : Transition) (x : NameSet) → is_met b.names x (edge a) ≡ true → are_alike (labels_at a.from) (holds_in (class_at b (set_of a.from) a.class)) (holds_at b.names x) ≡ true
   edge_alike a x e = sym (class_truth b.names (labels_at a.from) (class_at b (set_of a.from) a.class) x) ∙ e
 
-  -- the class of a letter at a place
+  -- the class of a letter at a state
   pub record ClassOf (i : ℕ) (x : NameSet) : Type 0 where
     pub number : ℕ
     pub valuation : List Bool

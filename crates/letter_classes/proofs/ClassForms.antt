@@ -1,4 +1,4 @@
--- The automaton of states and edges that were found class by class: it has the edges of the definition, and its parts are in order.
+-- The automaton made of explored states and edges has the edges of its definition, and its parts fit together.
 use Rattle.std.proofs.Common.{◌≡◌, ◌∙◌, ◌<◌, ℕ, zero, suc, All, Bool, Contains, List, [], ◌∷◌, ap, arith, get_or, length, map, subst, sym}
 use Rattle.std.proofs.lemmas.List.Elements.{All-contains, All-map}
 use Rattle.std.proofs.lemmas.Option.{get_or_from_slice_get, slice_get_within}
@@ -20,7 +20,7 @@ use Rattle.label_guards.specs.declared.guard.Guard.{Guard}
 use Rattle.letter_classes.specs.ClassForms.{class_at, class_edge, form_of, link_of}
 use Rattle.letter_classes.specs.SetClasses.{FitsStore, IsClassGuard, class_label, set_classes, set_labels}
 
--- States and edges that were found over an automaton b: `root` tells the set of a state, and `told` what an output says of its step.
+-- States and edges that were explored over an automaton b: `root` has the set of each state, and `told` says which outputs a step has.
 module _ {X N : Type 0} (root : X → List ℕ) (told : X → ℕ → N → Type 0) (b : SymbolicAutomaton) (core : IsWellFormedSymbolic b) (s : Store) (keeps : Keeps b.store s)
     (same : X → X → Bool) (moves : TransitionFunction X) (start : X) (most : ℕ) (states : List X) (edges : List (Edge Guard N))
     (is : IsExplored same moves start states (map transition_of edges))
@@ -37,7 +37,7 @@ module _ {X N : Type 0} (root : X → List ℕ) (told : X → ℕ → N → Type
   to_within : (a : Transition) → Contains (map transition_of edges) a → a.to < length states
   to_within a among = let f = edge_from moves same start states (map transition_of edges) is a (there_at (map transition_of edges) a among) in slice_get_within states a.to f.1 f.5
 
-  -- edges, where the marks of each are those of its step
+  -- the edges, where the marks of each are those of its step
   module _ (marks : N → List ℕ) (d : X) (marks_of : X → List Bool → List ℕ) (marked : (e : Edge Guard N) → (c : Classed e) → marks e.output ≡ marks_of c.state c.class.valuation) where
     edge_is : (e : Edge Guard N) → Contains edges e
         → edge_of s (link_of marks e) ≡ class_edge (automaton_of b) (λ i. root (get_or states i d)) (λ i. marks_of (get_or states i d)) (transition_of e)
@@ -57,7 +57,7 @@ module _ {X N : Type 0} (root : X → List ℕ) (told : X → ℕ → N → Type
         let made = class_edge (automaton_of b) (λ i. root (get_or states i d)) (λ i. marks_of (get_or states i d)) in
         map-map (edge_of s) (link_of marks) edges ∙ (map_alike (λ e. edge_of s (link_of marks e)) (λ e. made (transition_of e)) edges edge_is ∙ sym (map-map made transition_of edges))
 
-  -- parts, where the marks of each are below the number of sets
+  -- the parts, where the marks of each edge are below the number of sets
   module _ (marks : N → List ℕ) (sets : ℕ) (formula : FormulaTree) (low : (e : Edge Guard N) → Contains edges e → All (λ m. m < sets) (marks e.output)) (below : SetsBelow sets formula) where
     abbrev made : SymbolicAutomaton
     made = form_of b s (length states) (map (link_of marks) edges) sets formula

@@ -1,4 +1,4 @@
--- The guards that a store gives for the classes of a set, and what becomes of them in a store that has grown.
+-- The guards of the classes of a set are right, stay so in a store that has grown, and a step may read any valuation of a class.
 use Rattle.std.proofs.Common.{◌≡◌, ◌∙◌, ◌&&◌, ◌<◌, ◌≤◌, ℕ, Bool, true, false, cond, List, [], ◌∷◌, Option, None, Some, Result, Ok, Err, ap, arith}
 use Rattle.std.proofs.Common.{filter, length, map, nat_lt, refl, not, slice_get, subst, sym}
 use Rattle.std.specs.Prelude.{IfOk, MatchOption}
@@ -27,15 +27,15 @@ use Rattle.letter_classes.proofs.SetGuards.{guards_has, guards_labels}
 use Rattle.letter_classes.specs.Known.{IsKnown}
 use Rattle.letter_classes.specs.SetClasses.{FitsStore, IsClassGuard, TellTheSame, guards_from, set_classes, set_edges, set_labels}
 
--- what is alike, by what says which propositions hold
+-- an equivalence of valuations, which are given as functions
 abbrev Alike : Type 0
 Alike = (ℕ → Bool) → (ℕ → Bool) → Bool
 
--- the least valuations of what is alike
+-- the least valuations of the equivalence's classes
 abbrev leasts_of : ℕ → Alike → List (List Bool)
 leasts_of n alike = filter (λ v. not (list_any (λ w. nat_lt (number_of w) (number_of v) && alike (holds_in w) (holds_in v)) (valuations n))) (valuations n)
 
--- the guard, in words of the number of propositions and of what is alike
+-- the guard is that of the k-th class of the equivalence
 abbrev IsHandle : Store → ℕ → Alike → ℕ → Guard → Type 0
 IsHandle s n alike k g = (v : List Bool) × (slice_get (leasts_of n alike) k ≡ Some v) × Has s g × IsLeast s.names (truth_on (label_in s g)) v ×
     (label_in s g ≡ label_of_truth n (λ w. alike (holds_in v) (holds_in w)))
@@ -47,7 +47,7 @@ module _ (c : SymbolicAutomaton) (core : IsWellFormedSymbolic c) (set : List ℕ
       map_alike (label_in s) (label_in c.store) (guards_from c set) (λ g there. keeps.labels g (All-contains (Has c.store) (guards_from c set) g (guards_has c core set) there))
       ∙ guards_labels c set
 
-  -- and so is what is alike
+  -- and so is the equivalence
   alike_on : (s : Store) → Keeps c.store s → (on also : ℕ → Bool) → are_alike (labels_in s list) on also ≡ are_alike (set_labels (automaton_of c) set) on also
   alike_on s keeps on also =
       let same : LabelTree → Bool = λ (t : LabelTree). beq (truth on t) (truth also t) in
@@ -83,7 +83,7 @@ module _ (c : SymbolicAutomaton) (core : IsWellFormedSymbolic c) (set : List ℕ
   more_classes : (s : Store) → Keeps c.store s → (most : ℕ) → most < length (class_leasts s.names (labels_in s list)) → most < length (set_classes (automaton_of c) set)
   more_classes s keeps most more = subst (λ (vs : List (List Bool)). most < length vs) (leasts_kept s keeps) more
 
-  -- what is answered of the list, as an answer of the set; the store may have grown meanwhile
+  -- the classes of the list of guards are the classes of the set; the store may have grown meanwhile
   module _ (s t : Store) (old : Keeps c.store s) (new : Keeps c.store t) (most : ℕ) where
     pub set_answer : {V E : Type 0} (r : Result (Option V) E) (items : V → List Guard)
         → IfOk r (λ found. MatchOption found (most < length (class_leasts s.names (labels_in s list))) (λ v. IsKnown t list (items v)))
@@ -114,14 +114,14 @@ class_kept c s t keeps set k g is = record {
   label = keeps.labels g is.has ∙ is.label;
 }
 
--- the number that a store finds, which is this one, is that of a valuation that meets the guard
+-- the least number that a store finds for a guard is that of a valuation that satisfies it
 pub met_number : (s t : Store) (g : Guard) (found : Option ℕ) (number : ℕ) → t ≡ s → found ≡ Some number
     → MatchOption found (IsNeverMet t g) (λ n. truth_on (label_in t g) (bits_of t.names n) ≡ true) → truth_on (label_in s g) (bits_of s.names number) ≡ true
 met_number s t g found number same is met =
     subst (λ (x : Store). truth_on (label_in x g) (bits_of x.names number) ≡ true) same
     (subst (λ (o : Option ℕ). MatchOption o (IsNeverMet t g) (λ n. truth_on (label_in t g) (bits_of t.names n) ≡ true)) is met)
 
--- Where all labels of these edges are alike at two valuations, both read the same edges.
+-- Where each label of these edges has the same truth at two valuations, both satisfy the same edges.
 same_edges : (v w : List Bool) (es : List LabelledEdge) → are_alike (map (λ e. e.label) es) (holds_in v) (holds_in w) ≡ true
     → filter (λ e. truth_on e.label w) es ≡ filter (λ e. truth_on e.label v) es
 same_edges v w [] alike = refl
@@ -131,7 +131,7 @@ same_edges v w (e ∷ es) alike =
     let tail = same_edges v w es parts.1 in
     λ i. cond (sym head i) (e ∷ tail i) (tail i)
 
--- A valuation that meets the guard of a class reads the edges from the set that the class's own valuation reads.
+-- A valuation that satisfies the guard of a class satisfies the same edges from the set as the class's least valuation.
 module _ (c : SymbolicAutomaton) (core : IsWellFormedSymbolic c) (s : Store) (set : List ℕ) (k : ℕ) (g : Guard) (fits : FitsStore c s set) (is : IsClassGuard c s set k g) where
   names_are : s.names ≡ length c.names
   names_are = fits.keeps.names ∙ core.parts.store_names
@@ -147,7 +147,7 @@ module _ (c : SymbolicAutomaton) (core : IsWellFormedSymbolic c) (s : Store) (se
       ∙ (ap (λ (t : LabelTree). truth_on t w) (sym is.label) ∙ meets) in
       same_edges is.valuation w (set_edges (automaton_of c) set) alike
 
-  -- the same of a number, at which an automaton's own store says what holds
+  -- the same of the valuation of a number
   pub number_edges : (n number : ℕ) → n ≡ c.store.names → truth_on (label_in s g) (bits_of s.names number) ≡ true
       → filter (λ e. truth_on e.label (bits_of n number)) (set_edges (automaton_of c) set) ≡ filter (λ e. truth_on e.label is.valuation) (set_edges (automaton_of c) set)
   number_edges n number own meets =

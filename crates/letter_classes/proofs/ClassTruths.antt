@@ -1,4 +1,4 @@
--- What the label of a class says: a letter meets it exactly where it is alike to the class's valuation.
+-- A letter satisfies the label of a class exactly where each edge's label has the same truth at it as at the class's least valuation.
 use Rattle.std.proofs.Common.{◌≡◌, ◌∙◌, ℕ, Bool, List, ap, length, sym}
 use Rattle.std.proofs.lemmas.List.{length-map}
 use Rattle.std.specs.FinSet as set

@@ -1,4 +1,4 @@
--- Lists of guards with their classes: as a store finds them, in a store that has grown, and in a table with one list more.
+-- Lists of guards with their classes: as a store computes them, in a store that has grown, and in a cache with another list.
 use Rattle.std.proofs.Common.{◌≡◌, ◌∙◌, ◌<◌, ℕ, All, Bool, true, false, cond, List, [], ◌∷◌, Some, ap, arith, get_or, length, nat_eq, refl, slice_get, subst, sym}
 use Rattle.std.proofs.lemmas.Bool.{and_parts, true≢false}
 use Rattle.std.proofs.lemmas.List.Elements.{All-contains, All-weaker}
@@ -18,7 +18,7 @@ use Rattle.letter_classes.proofs.Told.{same_place}
 use Rattle.letter_classes.specs.Known.{AreClassesKnown, IsKnown, IsListClass, AreClassesInserted, same_list}
 use Rattle.letter_classes.specs.SetClasses.{class_label}
 
--- what a store finds
+-- the classes that a store computes
 class_found : (s : Store) (list classes : List Guard) (most : ℕ) → AreClasses s list most classes → (k : ℕ) (g : Guard) → slice_get classes k ≡ Some g → IsListClass s list k g
 class_found s list classes most are k g at =
     let of = by_leasts s list most classes are in
@@ -68,7 +68,7 @@ module _ (s t : Store) (keeps : Keeps s t) where
   pub all_later : (known : List (List Guard × List Guard)) → AreClassesKnown s known → AreClassesKnown t known
   all_later known are = λ list classes at. known_later list classes (are list classes at)
 
--- with one list more
+-- in a cache with another list
 same_lists : (xs ys : List Guard) → same_list xs ys ≡ true → xs ≡ ys
 same_lists [] [] is = refl
 same_lists [] (y ∷ ys) is = absurd (true≢false (sym is))

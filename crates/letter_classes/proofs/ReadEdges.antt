@@ -1,4 +1,4 @@
--- What is taken of the edges that are read, link by link and state by state.
+-- The parts of the edges that a valuation satisfies, collected link by link and state by state.
 use Rattle.std.proofs.Common.{◌≡◌, ◌∙◌, ◌+◌, ◌≤◌, ◌==◌, ℕ, Bool, List, ◌++◌, Some, ap, filter, length, map, slice_get, sym, take}
 use Rattle.std.proofs.lemmas.List.{map-append, take_all}
 use Rattle.std.proofs.lemmas.List.Elements.{filter-append}
@@ -23,7 +23,7 @@ module _ {A : Type 0} (part : LabelledEdge → A) (reads : LabelledEdge → Bool
   all_links c state i row old new e all so =
       so ∙ ap (λ es. old ++ taken_of part reads es) (ap (map (edge_of c.store)) (take_all i row all ∙ e) ∙ sym (filter_map_of (λ (e : LabelledEdge). e.from == state) (edge_of c.store) c.links))
 
-  -- with the edges of one state more
+  -- once the edges of another state are added
   pub state_more : (b : Automaton) (set : List ℕ) (k state : ℕ) (now new : List A) → slice_get set k ≡ Some state → now ≡ taken_of part reads (set_edges b (take k set))
       → new ≡ now ++ taken_of part reads (edges_from state b.edges)
       → new ≡ taken_of part reads (set_edges b (take (k + 1) set))

@@ -23,7 +23,7 @@ pub row_guard : (c : SymbolicAutomaton) → IsWellFormedSymbolic c → (state i 
     → HasPlace s l.guard.place
 row_guard c core state i row l s e within at same = subst (λ (t : Store). HasPlace t l.guard.place) (sym same) (row_link c core state i row l e within at).guard
 
--- the edges of one state more
+-- the edges of the first k states and of the next
 pub set_edges_on : (b : Automaton) (set : List ℕ) (k state : ℕ) → slice_get set k ≡ Some state → set_edges b (take k set) ++ edges_from state b.edges ≡ set_edges b (take (k + 1) set)
 set_edges_on b set k state at = flat_map_on (λ q. edges_from q b.edges) set k state at
 

@@ -1,4 +1,4 @@
--- Lists that tell the same of each guard, though the one has each guard once.
+-- Lists with the same guards, of which one has each guard once.
 use Rattle.std.proofs.Common.{◌≡◌, ◌∙◌, ◌+◌, ◌<◌, ◌&&◌, ℕ, All, Bool, true, false, Contains, List, [], ◌∷◌, ◌++◌, ap, length, map, refl, sym, take}
 use Rattle.std.proofs.lemmas.Bool.{eqb-true, lt-ltb, ltb-true, true≢false}
 use Rattle.std.proofs.lemmas.List.{append_assoc}
@@ -15,11 +15,11 @@ use Rattle.label_guards.specs.Store.{Has, Store, places}
 use Rattle.label_guards.specs.declared.guard.Guard.{Guard}
 use Rattle.letter_classes.specs.SetClasses.{TellTheSame}
 
--- guards of one place are the same
+-- guards with one index are the same
 pub same_place : (g h : Guard) → eqb g.place h.place ≡ true → g ≡ h
 same_place g h e = λ i. record { place = eqb-true g.place h.place e i }
 
--- a guard that is there needn't be added
+-- a guard that is in the list needn't be added
 there_again : (list : List Guard) (g : Guard) → list_any (λ (y : Guard). eqb y.place g.place) list ≡ true → TellTheSame list (list ++ g ∷ [])
 there_again list g there p =
     let found = any_found (λ (y : Guard). eqb y.place g.place) list there in
@@ -30,7 +30,7 @@ there_again list g there p =
     by_cases true all h at is = all ∙ sym (ap (λ b. b && p g) all ∙ (ap p (sym is) ∙ each_is p list h all at))
     by_cases false all h at is = all ∙ sym (ap (λ b. b && p g) all)
 
--- one link more
+-- another link
 module _ (links : List Link) (i : ℕ) (l : Link) (within : i < length links) (at : l ≡ get_or links i l) (old now : List Guard)
     (so : TellTheSame now (old ++ map (λ (x : Link). x.guard) (take i links))) where
   next : old ++ map (λ (x : Link). x.guard) (take (i + 1) links) ≡ (old ++ map (λ (x : Link). x.guard) (take i links)) ++ l.guard ∷ []
@@ -44,7 +44,7 @@ module _ (links : List Link) (i : ℕ) (l : Link) (within : i < length links) (a
   pub listed : list_any (λ (y : Guard). eqb y.place l.guard.place) now ≡ true → TellTheSame now (old ++ map (λ (x : Link). x.guard) (take (i + 1) links))
   listed there p = there_again now l.guard there p ∙ pushed (now ++ l.guard ∷ []) refl p
 
--- what stands in a store, by places
+-- guards are in a store where those of a list with the same guards are
 pub told_has : (s : Store) (list all : List Guard) → TellTheSame list all → All (Has s) all → All (Has s) list
 told_has s list all told has =
     let p : Guard → Bool = λ (g : Guard). ltb g.place (places s) in

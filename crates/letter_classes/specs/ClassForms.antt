@@ -1,5 +1,5 @@
--- Automata whose states are the places of what was explored class by class: of each there is a set of states, and
--- its classes are those of that set.
+-- Automata made of explored states and edges: each explored state has a set of states of an automaton b, and its edges have the
+-- classes of letters of that set as labels.
 use Rattle.std.specs.Prelude.{ℕ, Bool, List, [], ◌∷◌, length}
 use Rattle.std.specs.List.{slice_index_or}
 use Rattle.aut_base.specs.Automaton.{Automaton, LabelledEdge}
@@ -16,7 +16,7 @@ use Rattle.letter_classes.specs.SetClasses.{class_label, set_classes, set_labels
 abbrev pub class_at : Automaton → List ℕ → ℕ → List Bool
 class_at b set k = slice_index_or (set_classes b set) k []
 
--- the edge under its class, by the sets of the places and the marks of a step from a place at a valuation
+-- the edge labelled by its class; `set_of` has the set of each explored state, and `marks_of` the marks of its step at a valuation
 abbrev pub class_edge : Automaton → (ℕ → List ℕ) → (ℕ → List Bool → List ℕ) → Transition → LabelledEdge
 class_edge b set_of marks_of transition = record {
   from = transition.from;
@@ -25,10 +25,10 @@ class_edge b set_of marks_of transition = record {
   marks = marks_of transition.from (class_at b (set_of transition.from) transition.class);
 }
 
--- the link of an edge that was found, with the marks that its output tells
+-- the link of an explored edge, with the marks that come from its output
 abbrev pub link_of : {N : Type 0} → (N → List ℕ) → Edge Guard N → Link
 link_of marks e = record { from = e.from; guard = e.class; to = e.to; marks = marks e.output }
 
--- an automaton over the names of b that starts at place 0
+-- an automaton over the names of b with start 0
 abbrev pub form_of : SymbolicAutomaton → Store → ℕ → List Link → ℕ → FormulaTree → SymbolicAutomaton
 form_of b s states links sets formula = record { names = b.names; starts = 0 ∷ []; states = states; links = links; sets = sets; formula = formula; store = s }

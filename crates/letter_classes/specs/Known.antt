@@ -1,4 +1,4 @@
--- Lists of guards, and the classes of letters that each of them tells apart.
+-- The classes of letters that satisfy the same guards of a list, and the cache of such classes.
 use Rattle.std.specs.Prelude.{◌≡◌, ℕ, All, Bool, List, Some, cond, length, nat_eq, slice_get}
 use Rattle.std.specs.Cmp.Lexicographic.{pointwise}
 use Rattle.std.specs.Map.{lookup}
@@ -9,7 +9,7 @@ use Rattle.label_guards.specs.Store.{Has, Store, label_in}
 use Rattle.label_guards.specs.declared.guard.Guard.{Guard}
 use Rattle.letter_classes.specs.SetClasses.{class_label}
 
--- the guard is that of the class of this number, of those that the list tells apart
+-- the guard is that of the class of this number, of the classes of the list
 pub record IsListClass (s : Store) (list : List Guard) (k : ℕ) (g : Guard) : Type 0 where
   pub valuation : List Bool
   pub at : slice_get (class_leasts s.names (labels_in s list)) k ≡ Some valuation
@@ -22,14 +22,14 @@ pub record IsKnown (s : Store) (list classes : List Guard) : Type 0 where
   pub has : All (Has s) list
   pub are : AreClassHandles (IsListClass s list) (length (class_leasts s.names (labels_in s list))) classes
 
--- whether the lists have the same guards in the same places
+-- whether the lists have the same guards in the same order
 abbrev pub same_list : List Guard → List Guard → Bool
 same_list = pointwise (λ (g h : Guard). nat_eq g.place h.place)
 
--- the table with the classes of one list more
+-- the cache once the classes of a list are inserted
 abbrev pub AreClassesInserted : (old new : List (List Guard × List Guard)) (list classes : List Guard) → Type 0
 AreClassesInserted old new list classes = (q : List Guard) → lookup (same_list q) new ≡ cond (same_list list q) (Some classes) (lookup (same_list q) old)
 
--- each list of the table stands with its own classes
+-- the cache has right classes for each of its lists
 abbrev pub AreClassesKnown : Store → List (List Guard × List Guard) → Type 0
 AreClassesKnown s known = (list classes : List Guard) → lookup (same_list list) known ≡ Some classes → IsKnown s list classes

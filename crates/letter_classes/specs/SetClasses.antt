@@ -1,4 +1,4 @@
--- The edges from a set of states, and the classes of letters that they tell apart.
+-- The classes of letters for a set of states: letters that satisfy the labels of the same edges from the set.
 use Rattle.std.specs.Prelude.{◌≡◌, ◌<◌, ◌==◌, ℕ, All, Bool, List, Some, filter, flat_map, length, map, slice_get}
 use Rattle.std.specs.List.{list_all}
 use Rattle.aut_base.specs.Automaton.{Automaton, LabelledEdge}
@@ -23,16 +23,16 @@ set_labels b set = map (λ e. e.label) (set_edges b set)
 abbrev pub guards_from : SymbolicAutomaton → List ℕ → List Guard
 guards_from c set = flat_map (λ q. map (λ (l : Link). l.guard) (filter (λ l. l.from == q) c.links)) set
 
--- Whatever is asked of each guard, all of the one list pass exactly where all of the other do: they are the same guards, in some
--- order and each as often as may be.
+-- The two lists have the same guards, in any order and each any number of times: all guards of the one pass a test exactly where all of
+-- the other do.
 abbrev pub TellTheSame : List Guard → List Guard → Type 0
 TellTheSame one other = (p : Guard → Bool) → list_all p one ≡ list_all p other
 
--- the least valuations of the classes that the labels of these edges tell apart, in order
+-- the least valuations of the classes, in order
 abbrev pub set_classes : Automaton → List ℕ → List (List Bool)
 set_classes b set = class_leasts (length b.names) (set_labels b set)
 
--- the label of the class of a valuation
+-- the label of a valuation's class: true where each of the labels has the same truth as under the valuation
 abbrev pub class_label : ℕ → List LabelTree → List Bool → LabelTree
 class_label n labels v = label_of_truth n (λ w. are_alike labels (holds_in v) (holds_in w))
 

@@ -1,4 +1,4 @@
-//! The classes of the edges from a set of states.
+//! The classes of letters for a set of states.
 
 ghost use Rattle.std.specs.Prelude.{◌<◌, ◌≤◌, All, IfOk, MatchOption, length};
 ghost use Rattle.aut_core.specs.SymbolicAutomata.{automaton_of};
@@ -13,9 +13,9 @@ use aut_core::Automaton;
 use label_guards::Guard;
 use std::alloc::Global;
 
-/// One guard for each class of letters that the edges from the states of the set don't tell apart, in the order of their
-/// least valuations, or None exactly where there are more than `most`. The guards stand in a store that has those of the
-/// automaton. For an empty set the one guard is `t`.
+/// One guard for each class of letters: letters that satisfy the labels of the same edges from the states of the set are in one class.
+/// The classes are in the order of their least valuations. Answers None exactly where there are more than `most`. The guards are of the
+/// given store, which has those of the automaton. For an empty set the one guard is `t`.
 pub fn classes_of_set(
     alloc: Global,
     a: &Automaton,

@@ -1,4 +1,4 @@
-//! Automata of the states and edges that were found class by class.
+//! Automata made of explored states and edges, with classes of letters as labels.
 
 ghost use Rattle.std.specs.Prelude.{◌≡◌, ◌<◌, ◌^◌, ℕ, List, All, IfOk, length, map};
 ghost use Rattle.aut_base.specs.Formula.{formula_tree};
@@ -12,11 +12,11 @@ use label_guards::{Guard, Guards};
 use std::alloc::Global;
 use std::hash::Hash;
 
-/// The marks of edges, by the outputs that their steps tell.
+/// How the marks of an edge come from the output of its step.
 pub trait Marking {
     type Output: Copy;
 
-    // what may be asked of an output
+    // the outputs for which there are marks
     ghost fits: { Self → Self.Output → Type 0 };
 
     ghost marked: { Self → Self.Output → List ℕ };
@@ -27,8 +27,8 @@ pub trait Marking {
         ensures { IfOk result (λ marks. marks ≡ marked self.now output) };
 }
 
-/// The automaton over the names of `b` whose states are the places of what was found, the first of which is the
-/// start, and whose edges are those that were found, under their classes.
+/// The automaton over the names of `b` whose states are the indices of the explored states, with start 0, and whose
+/// edges are the explored ones, labelled by their classes.
 pub fn class_form<T: Eq + Hash, M: Marking>(
     alloc: Global,
     b: &Automaton,
@@ -59,7 +59,7 @@ pub fn class_form<T: Eq + Hash, M: Marking>(
     )
 }
 
-/// The links of the edges that were found, each with its marks.
+/// The links of the explored edges, each with its marks.
 fn links_of<M: Marking>(
     alloc: Global,
     edges: &[Edge<Guard, M::Output>],

@@ -9,8 +9,8 @@ use aut_core::{Automaton, Link};
 use label_guards::GuardList;
 use std::alloc::Global;
 
-/// The guards of the edges from the states of the set, each once. Many edges have the same guard, and whoever goes through the
-/// guards for each class has less to do.
+/// The guards of the edges from the states of the set, each once. Many edges have the same guard, so this list is shorter than
+/// that of the edges, and is gone through once for each class.
 pub(crate) fn set_guards(alloc: Global, a: &Automaton, set: &[u32]) -> Result<GuardList, Memory>
     requires { All (λ q. q < a.now.states) set.now }
     ensures has { IfOk result (All (Has a.now.store)) }

@@ -1,4 +1,4 @@
-//! The classes of lists of guards, found once for each list.
+//! A cache of the classes of letters, by list of guards.
 
 ghost use Rattle.std.specs.Prelude.{◌≡◌, ◌<◌, ◌≤◌, All, IfOk, MatchOption, OnErr, OnOk, length};
 ghost use Rattle.label_guards.specs.ClassLeasts.{class_leasts, labels_in};
@@ -10,14 +10,14 @@ use indexmap::IndexMap;
 use label_guards::{Guard, GuardList, Guards};
 use std::alloc::Global;
 
-/// The guards of the classes that a list of guards tells apart, by the list.
+/// For each list of guards the guards of its classes.
 pub(crate) type Known = IndexMap<GuardList, GuardList>;
 
-/// How many guards a list may have whose classes are kept. Longer ones seldom come again, and all of them together might take
-/// far more room than what is made of their sets.
+/// The most guards of a list whose classes are kept. Longer lists seldom occur again, and together they might take far more memory
+/// than the automaton that is made.
 const MOST_KEPT: usize = 256;
 
-/// The classes that the list tells apart: those that are kept, or else found now.
+/// The classes of the list: from the cache, or else computed.
 pub(crate) fn known_classes(
     alloc: Global,
     guards: &mut Guards,
@@ -42,7 +42,7 @@ pub(crate) fn known_classes(
     new_classes(alloc, guards, known, list, most)
 }
 
-/// Finds the classes that the list tells apart, and keeps them unless there are more than `most`.
+/// Computes the classes of the list, and keeps them unless there are more than `most`.
 fn new_classes(
     alloc: Global,
     guards: &mut Guards,

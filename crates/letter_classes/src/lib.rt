@@ -1,8 +1,8 @@
-//! The classes of letters that the edges from a set of states don't tell apart, as constructions that explore sets of states
-//! class by class take them.
+//! Classes of letters: letters that satisfy the labels of the same edges from a set of states. Constructions over sets of states (the
+//! subset construction, determinisation) take one step for each class instead of one for each letter.
 //!
-//! A caller sees `classes_of_set`, over a `ClassStore`, which keeps the classes of the lists of guards that it has met. What the
-//! classes are is defined in `specs/SetClasses`, by the least valuation of each.
+//! A caller sees `classes_of_set`, over a `ClassStore`, which caches the classes of each list of guards. The classes are defined in
+//! `specs/SetClasses`, by the least valuation of each.
 #![tactic(auto)]
 
 mod classes;

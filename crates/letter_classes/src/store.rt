@@ -1,4 +1,4 @@
-//! A store of guards that keeps the classes of the lists of guards that were met.
+//! A store of guards with a cache of the classes of letters.
 
 ghost use Rattle.std.specs.Prelude.{◌≡◌, ◌<◌, ◌≤◌, All, IfOk, MatchOption, length};
 ghost use Rattle.label_guards.specs.ClassLeasts.{class_leasts, labels_in};
@@ -11,8 +11,8 @@ use label_guards::{Guard, GuardList, Guards};
 use std::alloc::Global;
 use std::marker::Model;
 
-/// A store of guards, and the classes of the lists of its guards that were met. Many sets of states have edges under the same
-/// guards, and so the same classes. Contracts see the store.
+/// A store of guards with a cache of the classes for each list of its guards. Many sets of states have edges under the same
+/// guards, and so the same classes. Contracts see the store alone.
 #[derive(Drop)]
 pub struct ClassStore {
     guards: Guards,
@@ -31,7 +31,7 @@ impl Model for ClassStore {
 }
 
 impl ClassStore {
-    /// This store, before any list was met.
+    /// This store with an empty cache.
     pub fn new(alloc: Global, guards: Guards) -> ClassStore
         ensures { result ≡ guards }
     {
@@ -41,14 +41,14 @@ impl ClassStore {
         }
     }
 
-    /// The store alone.
+    /// The store without the cache.
     pub fn into_guards(self) -> Guards
         ensures { result ≡ self }
     {
         self.guards
     }
 
-    /// One guard for each class of letters that meet the same guards of the list, in the order of their least valuations, or
+    /// One guard for each class of letters that satisfy the same guards of the list, in the order of their least valuations, or
     /// None exactly where there are more than `most`.
     pub(crate) fn classes(
         &mut self,
@@ -64,7 +64,7 @@ impl ClassStore {
         known_classes(alloc, &mut self.guards, &mut self.known, list, most)
     }
 
-    /// The store alone, to be asked.
+    /// The store without the cache, by reference.
     pub fn guards(&self) -> &Guards
         ensures { result.now ≡ self.now }
     {

@@ -1,4 +1,4 @@
-//! What is taken of the edges from a set of states that are read at a letter.
+//! The edges from a set of states that a letter satisfies, projected to the parts that a caller needs.
 
 ghost use Rattle.std.specs.Prelude.{◌≡◌, ◌<◌, ◌++◌, All, IfOk, OnOk};
 ghost use Rattle.aut_base.specs.Automaton.{LabelledEdge};
@@ -11,19 +11,19 @@ ghost use Rattle.letter_classes.specs.Taken.{reads_at, taken_of};
 use aut_base::{Memory, Seq};
 use aut_core::{Automaton, Link};
 
-/// What is taken of an edge, as the state to which it leads.
+/// The part of an edge that a caller needs, such as the state to which it leads.
 pub trait Taking {
     type Taken: Drop;
 
     ghost taken: { LabelledEdge → Self.Taken };
 
-    /// What is taken of the edge for which the link stands, whatever its label.
+    /// The part of the link's edge, which doesn't depend on its label.
     fn take(link: &Link) -> Self::Taken
         ensures { (s : Store) → taken (edge_of s link.now) ≡ result };
 }
 
-/// What is taken of the edges from these states whose labels are true at the valuation of this number, edge by edge in the
-/// order of the states. It takes the room of the list, whatever stood in it.
+/// The parts of the edges from these states whose labels are true at the valuation of this number, edge by edge in the
+/// order of the states. They replace the items of `list`, whose memory is used again.
 pub fn taken_at<T: Taking>(
     list: Seq<T::Taken>,
     a: &Automaton,
@@ -42,7 +42,7 @@ pub fn taken_at<T: Taking>(
     Ok(found)
 }
 
-/// Adds what is taken of the edges from this state.
+/// Adds the parts of such edges from this state.
 fn push_taken<T: Taking>(
     found: &mut Seq<T::Taken>,
     a: &Automaton,

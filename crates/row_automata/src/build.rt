@@ -1,10 +1,10 @@
-//! Automata of their parts.
+//! Automata made of their parts.
 
 use aut_base::{Description, Edges, Formula, MOST_NAMES, Marks, Memory, Names, Numbers, Text};
 use aut_core::Automaton;
 use std::alloc::Global;
 
-/// The automaton over names of one byte each, or `None` where this doesn't make one.
+/// The automaton of these parts over names of one byte each, or `None` where they aren't well formed.
 pub fn automaton(
     alloc: Global,
     names: &[u8],
@@ -40,7 +40,7 @@ pub fn named(alloc: Global, bytes: &[u8]) -> Result<Names, Memory> {
     Ok(names)
 }
 
-/// The sets below 31 whose bits are set.
+/// The marks of a bit mask: the sets below 31 whose bits are set.
 pub fn marks(alloc: Global, bits: u32) -> Result<Marks, Memory> {
     let mut marks = Marks::new(alloc);
     let mut rest = bits;

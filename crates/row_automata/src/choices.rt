@@ -1,4 +1,4 @@
-//! Automata of few states over two sets, each of whose parts is a choice.
+//! Automata of few states over two sets, chosen pseudo-randomly or enumerated.
 
 ghost use Rattle.std.specs.Prelude.{◌<◌};
 
@@ -8,7 +8,7 @@ use aut_core::Automaton;
 use row_files::{Fault, Sequence};
 use std::alloc::Global;
 
-/// What makes choices: chance, or the digits of a number, which may go through all that there are.
+/// A source of choices: pseudo-random numbers, or the digits of a number, so that counting up enumerates all choices.
 #[derive(Clone, Copy)]
 pub enum Choices {
     Chance(Sequence),
@@ -16,7 +16,7 @@ pub enum Choices {
 }
 
 impl Choices {
-    /// Chance, the same each time.
+    /// Pseudo-random choices, the same in each run.
     pub fn chance() -> Choices {
         Choices::Chance(Sequence::new(1))
     }
@@ -37,8 +37,8 @@ impl Choices {
     }
 }
 
-/// An automaton of so many states over one name or two, with an edge from each of these states in turn. The first state is
-/// a start, and any other with one chance in four.
+/// An automaton of this many states over one name or two, with one chosen edge from each of the listed states. The first state is
+/// a start, and each other one with probability 1/4.
 pub fn chosen(
     alloc: Global,
     choices: &mut Choices,
@@ -67,7 +67,7 @@ pub fn chosen(
     }
 }
 
-/// An edge for any set of letters to any state, in any of the sets.
+/// An edge with a chosen set of letters, target and marks.
 fn edge(
     alloc: Global,
     choices: &mut Choices,

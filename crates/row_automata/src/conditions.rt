@@ -1,12 +1,12 @@
-//! Conditions of up to three atoms over two sets, by number.
+//! An enumeration of the conditions of up to three atoms over two sets.
 
 use aut_base::{Formula, Formulas, Memory};
 use std::alloc::Global;
 
-/// How many there are: of one atom, of two under one sign, of three under one sign, and of three under both.
+/// The number of conditions: of one atom, of two under an And or an Or, of three under one of these, and of three under both.
 pub const CONDITIONS: u32 = 8 + 2 * 64 + 4 * 512;
 
-/// The condition of a number, which counts on from the first again where it is too great.
+/// The condition of this number, modulo `CONDITIONS`.
 pub fn condition(alloc: Global, number: u32) -> Result<Formula, Memory> {
     let number = number % CONDITIONS;
     if number < 8 {
@@ -38,7 +38,7 @@ fn of_two(alloc: Global, shape: u32, first: Formula, second: Formula) -> Result<
     Ok(Formula::Or(parts))
 }
 
-/// Three atoms under an And or an Or; the first, and one of the others; the first, or both others.
+/// Three atoms, by the shape: all under an And or an Or; the first and (one of the others); or the first or (both others).
 fn of_three(alloc: Global, shape: u32, atoms: u32) -> Result<Formula, Memory> {
     let (first, second, third) = (atom(atoms / 64), atom(atoms / 8), atom(atoms));
     if shape >= 2 {

@@ -1,5 +1,5 @@
-//! Small automata for programs of rows: they are read, shown, chosen part by part, and searched for the words that they
-//! accept, in two ways that share nothing.
+//! Small automata for programs of rows: parsing, printing, pseudo-random and exhaustive generation, and two independent
+//! decision procedures for the words that they accept.
 #![tactic(auto)]
 
 mod build;

@@ -1,4 +1,4 @@
-//! Automata as rows write them.
+//! The notation of automata in rows.
 
 use crate::build::{automaton, marks};
 use aut_base::{Edge, Edges, Formula, Formulas, Label, Labels, Marks, Memory, Numbers};
@@ -32,7 +32,7 @@ fn described(alloc: Global, head: &str, edges: Edges) -> Result<Option<Automaton
     )?)
 }
 
-/// What stands between the slashes at this place, and nothing where there are fewer.
+/// The part of this index between slashes, or the empty text where there are fewer.
 fn part(head: &str, place: usize) -> &str {
     head.split('/').nth(place).unwrap_or("")
 }
@@ -55,7 +55,7 @@ fn edges(alloc: Global, written: &str) -> Result<Edges, Fault> {
     Ok(edges)
 }
 
-/// `FROM[LABEL]TO`, and a `+SET` for each set.
+/// An edge: `FROM[LABEL]TO`, and a `+SET` for each set.
 fn edge(alloc: Global, word: &str) -> Result<Edge, Fault> {
     let (from, rest) = halves(word, '[')?;
     let (written, end) = halves(rest, ']')?;
@@ -75,7 +75,7 @@ fn halves(word: &str, sign: char) -> Result<(&str, &str), Fault> {
     }
 }
 
-/// Numbers of sets with a `+` between any two, or none.
+/// Numbers of sets separated by `+`, or none.
 fn marks_of(alloc: Global, sets: &str) -> Result<Marks, Fault> {
     let mut bits = 0;
     if !sets.is_empty() {
@@ -86,7 +86,7 @@ fn marks_of(alloc: Global, sets: &str) -> Result<Marks, Fault> {
     Ok(marks(alloc, bits)?)
 }
 
-/// Cubes with a `|` between any two.
+/// A label: cubes separated by `|`.
 fn label(alloc: Global, written: &str) -> Result<Label, Fault> {
     let (first, others) = written.split_once('|').unwrap_or((written, ""));
     let mut label = cube(alloc, first)?;
@@ -99,7 +99,7 @@ fn label(alloc: Global, written: &str) -> Result<Label, Fault> {
     Ok(label)
 }
 
-/// Literals with a `&` between any two.
+/// A cube: literals separated by `&`.
 fn cube(alloc: Global, written: &str) -> Result<Label, Fault> {
     let (first, others) = written.split_once('&').unwrap_or((written, ""));
     let mut cube = literal(alloc, first)?;
@@ -112,7 +112,7 @@ fn cube(alloc: Global, written: &str) -> Result<Label, Fault> {
     Ok(cube)
 }
 
-/// `t`, `f` or the number of a name, behind some `!`.
+/// A literal: `t`, `f` or the number of a name, after any number of `!`.
 fn literal(alloc: Global, written: &str) -> Result<Label, Fault> {
     let atom = written.trim_start_matches('!');
     let mut literal = match atom {
@@ -128,7 +128,7 @@ fn literal(alloc: Global, written: &str) -> Result<Label, Fault> {
     Ok(literal)
 }
 
-/// Conjunctions with a `|` between any two.
+/// A condition: conjunctions separated by `|`.
 fn formula(alloc: Global, written: &str) -> Result<Formula, Fault> {
     let (first, others) = written.split_once('|').unwrap_or((written, ""));
     let mut formula = conjunction(alloc, first)?;
@@ -141,7 +141,7 @@ fn formula(alloc: Global, written: &str) -> Result<Formula, Fault> {
     Ok(formula)
 }
 
-/// Atoms with a `&` between any two.
+/// A conjunction: atoms separated by `&`.
 fn conjunction(alloc: Global, written: &str) -> Result<Formula, Fault> {
     let (first, others) = written.split_once('&').unwrap_or((written, ""));
     let mut formula = atom(first)?;
@@ -153,7 +153,7 @@ fn conjunction(alloc: Global, written: &str) -> Result<Formula, Fault> {
     Ok(formula)
 }
 
-/// `t`, `f`, or `I` or `F` before a set, or before a `!` and a set.
+/// An atom: `t`, `f`, or `I` or `F` before a set, or before a `!` and a set.
 fn atom(written: &str) -> Result<Formula, Fault> {
     let set = written.trim_start_matches(['I', 'F', '!'].as_slice());
     let neg = written.contains('!');

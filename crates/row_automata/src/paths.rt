@@ -1,4 +1,4 @@
-//! Which words an automaton accepts, by a search through the paths that read the cycle.
+//! Acceptance of lasso words, decided by a search of the paths that read the cycle with the marks that they collect.
 
 use crate::build::marks;
 use crate::words::Words;
@@ -7,7 +7,7 @@ use aut_core::{Automaton, Link};
 use std::alloc::Global;
 use std::collections::HashSet;
 
-/// An edge, with a bit for each of its sets and for each letter at which it can be gone.
+/// An edge, with bit masks of its sets and of the letters that satisfy its label.
 #[derive(Clone, Copy)]
 struct Step {
     to: u32,
@@ -15,7 +15,7 @@ struct Step {
     letters: u32,
 }
 
-/// An automaton over some of the names `a` and `b`, ready to be searched. It has at most 31 sets.
+/// An automaton over some of the names `a` and `b`, prepared for the search. It has at most 31 sets.
 #[derive(Drop)]
 pub struct Paths {
     starts: Vec<bool>,
@@ -43,7 +43,7 @@ impl Paths {
         Ok(Paths { starts, steps })
     }
 
-    /// Whether there is one start, and one edge of each state at each of so many letters.
+    /// Whether there is exactly one start, and for each state and each of the first `letters` letters exactly one edge.
     pub fn are_single(&self, letters: u32) -> bool {
         let starts = self.starts.iter().filter(|is_start| **is_start).count();
         starts == 1
@@ -77,7 +77,7 @@ impl Paths {
         Ok(accepted)
     }
 
-    /// The states from which some of these words is accepted.
+    /// The states from which at least one of these words is accepted.
     pub fn alive(
         &self,
         alloc: Global,
@@ -94,8 +94,8 @@ impl Paths {
         Ok(alive)
     }
 
-    /// From which states the cycle again and again is accepted: some rounds lead to one from which a path that meets the
-    /// condition leads back after some rounds.
+    /// The states from which the cycle repeated for ever is accepted: some rounds of it lead to a state from which a path that meets the
+    /// condition leads back to that state after some rounds.
     fn accepting(
         &self,
         alloc: Global,
@@ -115,7 +115,7 @@ impl Paths {
         Ok(accepting)
     }
 
-    /// For each state, the states to which some rounds of the cycle lead.
+    /// For each state, the states to which one or more rounds of the cycle lead.
     fn rounds(&self, alloc: Global, cycle: &[u32]) -> Result<Vec<Vec<bool>>, Memory> {
         let mut ends = Vec::new(alloc);
         for state in 0..self.steps.len() {
@@ -130,7 +130,7 @@ impl Paths {
         Ok(rounds)
     }
 
-    /// Whether behind each beginning of the letters some of these states may be reached.
+    /// Whether after each prefix of the letters one of these states can be reached.
     pub fn goes_on(&self, alloc: Global, states: &[bool], letters: &[u32]) -> Result<bool, Memory> {
         let mut here = self.starts.clone()?;
         for letter in letters {
@@ -142,7 +142,7 @@ impl Paths {
         Ok(meet(&here, states))
     }
 
-    /// Adds the states from which the letters may be read to an end in one of the others.
+    /// Adds the states from which a path that reads the letters leads to one of the others.
     fn add_leading(
         &self,
         alloc: Global,
@@ -189,8 +189,8 @@ impl Paths {
         Ok(next)
     }
 
-    /// Whether a path from this state back to it reads the cycle some times and meets the condition. Behind a round it is only
-    /// gone on where some rounds lead back.
+    /// Whether a path from this state back to it reads the cycle one or more times and meets the condition. After a round it goes on only
+    /// from states from which some rounds lead back.
     fn closes(
         &self,
         alloc: Global,
@@ -234,10 +234,11 @@ impl Paths {
     }
 }
 
-/// More nodes than a search through paths of small automata comes to.
+/// A bound on the nodes of the search, more than small automata need.
 const MOST_NODES: usize = 1_000_000;
 
-/// Where a path is: its state, its place in the cycle, the sets of some edge so far, and those of each edge so far.
+/// A node of the search: the state of a path, its position in the cycle, the union of its edges' marks so far, and their
+/// intersection.
 #[derive(Clone, Copy, PartialEq, Eq, Hash)]
 struct Node {
     state: usize,
@@ -257,15 +258,15 @@ impl Node {
         }
     }
 
-    /// Whether a cycle with these sets meets the condition: two edges have them, one all sets of some edge and the other
-    /// the sets of each.
+    /// Whether a cycle with this union and intersection of marks meets the condition: it does exactly where a cycle of two edges does that
+    /// have these two as marks.
     fn meets(self, alloc: Global, formula: &Formula) -> Result<bool, Memory> {
         let edges = [marks(alloc, self.some)?, marks(alloc, self.each)?];
         Ok(formula.met_by(&edges))
     }
 }
 
-/// Whether some rounds lead from one state to another.
+/// Whether one or more rounds lead from one state to another.
 fn leads_to(rounds: &[Vec<bool>], state: usize, other: usize) -> bool {
     rounds.get(state).is_some_and(|ends| is_set(ends, other))
 }
@@ -280,7 +281,7 @@ fn set(flags: &mut Vec<bool>, state: usize) {
     }
 }
 
-/// These states, and those to which the ends of each lead again and again.
+/// These states, and all that are reached from them by `ends`.
 fn spread(alloc: Global, own: &[bool], ends: &[Vec<bool>]) -> Result<Vec<bool>, Memory> {
     let mut all = own.to_vec(alloc)?;
     for _ in 0..ends.len() {
@@ -310,7 +311,7 @@ fn meet(left: &[bool], right: &[bool]) -> bool {
         .any(|(left, right)| *left && *right)
 }
 
-/// The edge with its letters.
+/// The edge of a link, with its letters.
 fn read_link(a: &Automaton, link: &Link, letters: &[Letter]) -> Step {
     let mut read = 0;
     let mut bit = 1u32;

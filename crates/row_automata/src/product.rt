@@ -1,11 +1,12 @@
-//! Which words an automaton accepts, by its product with the word and a cycle there that meets the condition.
+//! Acceptance of lasso words, decided by an accepting cycle in the product of the automaton and the word.
 
 use crate::words::Word;
 use aut_base::{Formula, Letter, Marks, Memory, Text};
 use aut_core::Automaton;
 use std::alloc::Global;
 
-/// An edge of the product: its ends, its sets, and a bit for each set that it is in or, two places on, that it is not in.
+/// An edge of the product: its nodes, its sets, and its kinds: a bit for each set that it is in and, two bits further, for each set
+/// that it isn't in.
 #[derive(Drop)]
 struct Arc {
     from: usize,
@@ -24,7 +25,7 @@ pub fn accepts(alloc: Global, a: &Automaton, word: &Word) -> Result<bool, Memory
         mark(&mut reached, (*start as usize).saturating_mul(length));
     }
     spread(&mut reached, &arcs, u32::MAX, true);
-    // Each cycle of the product comes through the place where the word's cycle begins.
+    // Each cycle of the product has a node at the position where the word's cycle begins.
     for state in 0..a.states() as usize {
         let node = state.saturating_mul(length).saturating_add(word.stem.len());
         if reached.get(node) == Some(&true) && closes(alloc, a.formula(), &arcs, nodes, node)? {
@@ -34,8 +35,8 @@ pub fn accepts(alloc: Global, a: &Automaton, word: &Word) -> Result<bool, Memory
     Ok(false)
 }
 
-/// Whether a cycle through the node meets the condition. Of the edges of a cycle only the kinds matter, and all edges between
-/// nodes that lie on a cycle of such kinds make one cycle too.
+/// Whether a cycle through the node meets the condition. It depends on the kinds of the cycle's edges alone, and all edges of such
+/// kinds between nodes that are on cycles of them through the node make one cycle too.
 fn closes(
     alloc: Global,
     formula: &Formula,
@@ -69,7 +70,7 @@ impl Arc {
     }
 }
 
-/// Marks the nodes that edges of these kinds lead to from marked ones, or from which they lead to marked ones.
+/// Marks all nodes that are reached from marked ones by edges of these kinds, or, backwards, all that reach marked ones.
 fn spread(marked: &mut Vec<bool>, arcs: &[Arc], kinds: u32, is_ahead: bool) {
     for _ in 0..marked.len() {
         let mut is_done = true;
@@ -100,7 +101,7 @@ fn mark(marked: &mut Vec<bool>, node: usize) {
     }
 }
 
-/// The edges of the product. Its nodes are states at the places of the word.
+/// The edges of the product. Its nodes are pairs of a state and a position in the word.
 fn arcs(alloc: Global, a: &Automaton, word: &Word) -> Result<Vec<Arc>, Memory> {
     let mut arcs = Vec::new(alloc);
     let length = word.stem.len().saturating_add(word.cycle.len());
@@ -143,7 +144,7 @@ fn kinds(in_first: bool, in_second: bool) -> u32 {
     first | second
 }
 
-/// The letters that one letter of a word may be.
+/// The letters of a set of letters that is given by its bits.
 fn choices(alloc: Global, known: u32) -> Result<Vec<Letter>, Memory> {
     let mut choices = Vec::new(alloc);
     for (bit, names) in [(1, b"".as_slice()), (2, b"a"), (4, b"b"), (8, b"ab")] {
@@ -158,7 +159,7 @@ fn choices(alloc: Global, known: u32) -> Result<Vec<Letter>, Memory> {
     Ok(choices)
 }
 
-/// The sets of an edge, of which there are two at most.
+/// The marks of an edge, of which there are at most two.
 fn listed(alloc: Global, sets: &[u32]) -> Result<Marks, Memory> {
     let mut marks = Marks::new(alloc);
     if !sets.contains(&0) {

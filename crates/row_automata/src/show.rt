@@ -1,10 +1,10 @@
-//! Automata as they are shown.
+//! Printing of automata.
 
 use aut_base::{Formula, Formulas, Memory, Text};
 use aut_core::{Automaton, Link};
 use std::alloc::Global;
 
-/// The automaton in the notation of rows, but its condition stands in Polish notation, and its labels have spaces.
+/// The automaton in the notation of rows, except that its condition is in Polish notation and its labels have spaces.
 pub fn shown(alloc: Global, a: &Automaton) -> Result<Text, Memory> {
     let mut text = Text::new(alloc);
     push_number(alloc, &mut text, a.states())?;

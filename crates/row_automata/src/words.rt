@@ -3,8 +3,8 @@
 use aut_base::Memory;
 use std::alloc::Global;
 
-/// A stem, and a cycle that follows it again and again. A letter is known by a set of letters that it is one of, as bits:
-/// letter 0 has no name, letter 1 has `a`, letter 2 has `b`, and letter 3 has both. Over `a` alone there are the first two.
+/// A lasso word. Each letter of its stem and cycle is a bit mask of the letters that it may be: letter 0 has no name, letter 1
+/// has `a`, letter 2 has `b`, and letter 3 has both. Over `a` alone there are the first two.
 #[derive(Drop)]
 pub struct Word {
     pub stem: Vec<u32>,
@@ -19,7 +19,7 @@ pub struct Words {
 }
 
 impl Words {
-    /// All words whose stems and cycles have at most so many letters, each of which is one of so many.
+    /// All words with stems and cycles of at most these lengths, over the first `letters` letters.
     pub fn new(alloc: Global, letters: u32, stem: u32, cycle: u32) -> Result<Words, Memory> {
         Ok(Words {
             stems: lists(alloc, letters, 0, stem)?,
@@ -27,7 +27,7 @@ impl Words {
         })
     }
 
-    /// How many words there are.
+    /// The number of words.
     pub fn len(&self) -> usize {
         self.stems.len().saturating_mul(self.cycles.len())
     }
@@ -37,7 +37,7 @@ impl Words {
     }
 }
 
-/// All lists of so many letters.
+/// All lists of single letters, as bit masks, of these lengths.
 fn lists(
     alloc: Global,
     letters: u32,
@@ -54,7 +54,7 @@ fn lists(
     Ok(lists)
 }
 
-/// The list of the digits of a number.
+/// The letters, as bit masks, whose numbers are the digits of a number to this base.
 fn list(alloc: Global, base: u32, length: u32, number: u32) -> Result<Vec<u32>, Memory> {
     let mut rest = number;
     let mut list = Vec::new(alloc);

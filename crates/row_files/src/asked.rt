@@ -1,18 +1,18 @@
-//! Rows that ask a call by its name for the answer to a text.
+//! Rows that make a call, given by its name, with a text, and compare its answer.
 
 use crate::row::{Row, run};
 use crate::{Count, Fault, Stop, add, add_escaped, kind_and_rest};
 use aut_base::Text;
 use std::alloc::Global;
 
-/// What answers calls.
+/// The calls that a program of rows can make.
 pub trait Answers {
-    /// The answer of the call of this name to the text, or that there is no such call.
+    /// The answer of the call of this name to the text. Fails where there is no such call.
     fn answer(&self, rt: &HostRuntime, call: &str, text: &Text) -> Result<Text, Fault>;
 }
 
 /// Runs the rows of these files, whose lines are `? CALL`, the input's lines with the mark `<`, `>\ PIECE`, which adds to the
-/// answer, and `> ANSWER`, which ends a row. The call stays for the rows behind it.
+/// expected answer, and `> ANSWER`, which ends a row. A call is that of the following rows too, until another is named.
 pub fn ask<A: Answers + Drop>(
     rt: &HostRuntime,
     files: &[&'static str],
@@ -34,7 +34,7 @@ pub fn ask<A: Answers + Drop>(
 struct Asked<A> {
     answers: A,
     call: String,
-    /// The lines of the input as they stand.
+    /// The lines of the input as they are written.
     lines: String,
     text: Text,
     wanted: Text,
@@ -90,7 +90,7 @@ impl<A: Answers> Row for Asked<A> {
 }
 
 impl<A> Asked<A> {
-    /// Takes the name of the call, for this row and those behind it.
+    /// Takes the name of the call, for this row and those after it.
     fn set_call(&mut self, name: &str) -> Result<(), Fault> {
         if !self.lines.as_str().is_empty() {
             return Err(Fault::Misplaced);

@@ -1,8 +1,8 @@
-//! How many rows there are, and how many of them came out otherwise.
+//! The count of rows, and of those whose result was not the expected one.
 
 use crate::{Fault, Stop};
 
-/// How many rows were run, and how many of these came out otherwise.
+/// How many rows were run, and how many of these had another result than expected (differed).
 #[derive(Clone, Copy, Debug)]
 pub struct Count {
     rows: u32,
@@ -10,7 +10,7 @@ pub struct Count {
 }
 
 impl Count {
-    /// No row was run.
+    /// The count before any row is run.
     pub fn new() -> Count {
         Count {
             rows: 0,
@@ -18,7 +18,7 @@ impl Count {
         }
     }
 
-    /// One row more.
+    /// Counts a row, and whether it differed.
     pub fn add(&mut self, is_different: bool) {
         self.rows = self.rows.saturating_add(1);
         if is_different {
@@ -26,7 +26,7 @@ impl Count {
         }
     }
 
-    /// One row more. What came out otherwise is printed.
+    /// Counts a row. Where it differed, prints the message.
     pub fn take(&mut self, rt: &HostRuntime, different: Option<String>) -> Result<(), Fault> {
         self.add(different.is_some());
         if let Some(text) = different {
@@ -35,7 +35,7 @@ impl Count {
         Ok(())
     }
 
-    /// Ends a program of rows: writes its last line to standard output, and fails where some row came out otherwise.
+    /// Ends a program of rows: writes its last line to standard output, and fails where some row differed.
     pub fn end(&self, rt: &HostRuntime) -> Result<(), Stop> {
         self.print(rt)?;
         if self.different > 0 {

@@ -1,9 +1,9 @@
-//! Files of rows, whatever they are rows of: what a call is made with, and what must come out.
+//! Files of rows (test cases), for any calls: a row says what a call is made with and what its result must be.
 //!
-//! A caller gives `run` the files and a `Row`, which says what the lines of a row mean, makes its call and tells what came out
-//! otherwise; or `ask` the files and an `Answers`, where each row asks a call by its name. A `Count` goes through all rows of a
-//! program, and ends it. What a line says is taken apart by `kind_and_rest`, `number`, `numbers`, `range`, `add` and
-//! `add_escaped`. A program whose rows are made by chance takes them from a `Sequence`. The README of this crate has the notation.
+//! A caller gives `run` the files and a `Row`, which parses the lines of a row, makes its call and compares the result;
+//! or gives `ask` the files and an `Answers`, where each row names its call. A `Count` counts all rows of a program, and ends it.
+//! Lines are parsed with `kind_and_rest`, `number`, `numbers`, `range`, `add` and `add_escaped`. A program that makes its rows
+//! pseudo-randomly takes numbers from a `Sequence`. The README of this crate has the notation.
 #![tactic(auto)]
 
 mod asked;

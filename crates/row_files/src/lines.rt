@@ -1,4 +1,4 @@
-//! What a line says, and why rows can't be read or run.
+//! Parsing of lines, and the errors of reading and running rows.
 
 use aut_base::{Memory, Numbers};
 use std::alloc::{AllocError, AllocFailed, Global};
@@ -10,27 +10,27 @@ pub enum Fault {
     /// A file could not be read, or standard output not written.
     Io(io::Error),
     Memory,
-    /// The line is of no kind.
+    /// The line's kind is unknown.
     UnknownKind,
-    /// A `\` with a byte that makes no escape, or at the end.
+    /// An unknown escape, or a `\` at the end.
     UnknownEscape,
-    /// Where a number should stand is none below 2^32, or one that is too great there.
+    /// A number is expected, but there is none below 2^32, or one that is too great there.
     NoNumber,
-    /// The line can't stand there: a row begins with another kind, or has it already.
+    /// A line of this kind isn't allowed there: a row begins with another kind, or has such a line already.
     Misplaced,
-    /// A row lacks a line that each must have, or a line what it must say.
+    /// A row lacks a required line, or a line a required part.
     Missing,
     /// Two texts of a row have one name.
     SameName,
-    /// The number of the last run is below that of the first.
+    /// The second number of a range is below the first.
     NoRun,
-    /// A call failed that should not.
+    /// A call failed that must not fail.
     Failed,
-    /// Some row came out otherwise.
+    /// Some row had another result than expected.
     Different,
 }
 
-/// Where reading or running the rows ended before the last. Lines are counted from 1.
+/// Where and why reading or running the rows ended before the last. Lines are counted from 1.
 #[derive(Debug, Drop)]
 pub struct Stop {
     pub file: &'static str,
@@ -38,7 +38,7 @@ pub struct Stop {
     pub fault: Fault,
 }
 
-/// A fault in rows that stand in no file, as those that are made by chance.
+/// A fault in rows that are from no file, such as pseudo-random ones.
 impl From<Fault> for Stop {
     fn from(fault: Fault) -> Stop {
         Stop {
@@ -73,7 +73,7 @@ impl<T: Drop> From<AllocFailed<T>> for Fault {
     }
 }
 
-/// The kind of a line, which is its first word, and what stands after the space behind that.
+/// The kind of a line, which is what is before its first space, and the rest after that space.
 pub fn kind_and_rest(line: &str) -> (&str, &str) {
     match line.split_once(' ') {
         Some(parts) => parts,
@@ -89,7 +89,7 @@ pub fn number(word: &str) -> Result<u32, Fault> {
     }
 }
 
-/// Numbers with a space between any two.
+/// Numbers separated by spaces.
 pub fn numbers(alloc: Global, rest: &str) -> Result<Numbers, Fault> {
     let mut list = Numbers::new(alloc);
     for word in rest.split(' ') {
@@ -98,7 +98,7 @@ pub fn numbers(alloc: Global, rest: &str) -> Result<Numbers, Fault> {
     Ok(list)
 }
 
-/// Two numbers with a space between them, the first not above the second.
+/// Two numbers separated by a space, the first not greater than the second.
 pub fn range(rest: &str) -> Result<(u32, u32), Fault> {
     let (first, last) = kind_and_rest(rest);
     let first = number(first)?;

@@ -1,22 +1,22 @@
-//! The rows of files are run, and what came out otherwise is printed.
+//! Running the rows of files, and printing those that differ.
 
 use crate::{Count, Fault, Stop};
 use std::alloc::Global;
 use std::fs;
 
-/// A kind of row: what its lines say, the call that it makes, and what it wants of that.
+/// A kind of row: how its lines are parsed, the call that it makes, and the result that it expects.
 pub trait Row {
-    /// Takes a line of the row, and tells whether the row is whole with it. No empty line comes, and no comment.
+    /// Takes a line of the row, and answers whether the row is complete with it. The line is neither empty nor a comment.
     fn add(&mut self, rt: &HostRuntime, line: &str) -> Result<bool, Fault>;
 
-    /// Whether the row is whole at an empty line or the end of a file. A row without lines is not. Where another line must
-    /// end the row, one that was begun lacks that line.
+    /// Whether the row is complete at an empty line or the end of a file. A row without lines is not. Fails where the row was begun and
+    /// a line of another kind has to end it.
     fn is_whole(&self) -> Result<bool, Fault>;
 
-    /// Makes the call, and gives what to print where something else came out than the row wants.
+    /// Makes the call, and answers a message to print where the result is not the expected one.
     fn different(&self, rt: &HostRuntime) -> Result<Option<String>, Fault>;
 
-    /// Forgets the lines of a row that was run. What stays for the next one, as a call's name, is the kind's own choice.
+    /// Forgets the lines of a row that was run. A kind of row may keep some for the next row, such as a call's name.
     fn clear(&mut self, alloc: Global);
 }
 
@@ -57,7 +57,7 @@ fn run_file<R: Row>(
     Ok(())
 }
 
-/// Gives a line to the row, and tells whether that ends it.
+/// Gives a line to the row, and answers whether that ends it.
 fn is_ended<R: Row>(rt: &HostRuntime, line: &str, row: &mut R) -> Result<bool, Fault> {
     if line.is_empty() {
         return row.is_whole();
@@ -68,7 +68,7 @@ fn is_ended<R: Row>(rt: &HostRuntime, line: &str, row: &mut R) -> Result<bool, F
     row.add(rt, line)
 }
 
-/// Runs a whole row.
+/// Runs a complete row.
 fn finish<R: Row>(rt: &HostRuntime, row: &mut R, count: &mut Count) -> Result<(), Fault> {
     let different = row.different(rt)?;
     count.take(rt, different)?;

@@ -1,15 +1,15 @@
-//! Numbers by chance, the same ones each time.
+//! Pseudo-random numbers, the same ones in each run.
 
 ghost use Rattle.std.specs.Prelude.{◌<◌};
 
-/// Numbers that follow one another by a rule (a linear congruential generator).
+/// A linear congruential generator of pseudo-random numbers.
 #[derive(Clone, Copy)]
 pub struct Sequence {
     last: u32,
 }
 
 impl Sequence {
-    /// The numbers that follow this one.
+    /// The generator with this seed.
     pub fn new(first: u32) -> Sequence {
         Sequence { last: first }
     }

@@ -1,11 +1,11 @@
-//! What a line says of a text: a line of it, a piece with escapes, repetition, or a file.
+//! Texts of rows: lines add to them a line, a piece with escapes, a repeated piece, or a file.
 
 use crate::{Fault, kind_and_rest, number};
 use aut_base::Text;
 use std::alloc::Global;
 use std::fs;
 
-/// Adds to a text what a line says of it. The form is what stands in the line's kind behind the mark of the text.
+/// Adds to a text what a line has for it. The form is what follows the mark of the text in the line's kind.
 pub fn add(rt: &HostRuntime, text: &mut Text, form: &str, rest: &str) -> Result<(), Fault> {
     match form {
         "" => add_line(text, rest),
@@ -16,7 +16,7 @@ pub fn add(rt: &HostRuntime, text: &mut Text, form: &str, rest: &str) -> Result<
     }
 }
 
-/// Adds a line as it stands, and a line feed.
+/// Adds a line as it is, and a line feed.
 fn add_line(text: &mut Text, line: &str) -> Result<(), Fault> {
     text.extend(line.as_bytes())?;
     text.push(b'\n')?;
@@ -30,7 +30,7 @@ fn add_file(rt: &HostRuntime, text: &mut Text, path: &str) -> Result<(), Fault> 
     Ok(())
 }
 
-/// Adds a piece with escapes as often as the number before it says.
+/// Adds a piece with escapes this many times: the number is before the piece.
 fn add_repeated(alloc: Global, text: &mut Text, rest: &str) -> Result<(), Fault> {
     let (count, piece) = kind_and_rest(rest);
     for number in 0..number(count)? {
@@ -39,20 +39,20 @@ fn add_repeated(alloc: Global, text: &mut Text, rest: &str) -> Result<(), Fault>
     Ok(())
 }
 
-/// Where in an escape a byte stands.
+/// The state of the parser of escapes.
 #[derive(Clone, Copy)]
 enum Place {
-    /// In none.
+    /// Outside of an escape.
     Plain,
-    /// Behind the `\`.
+    /// After `\`.
     Escape,
-    /// Behind `\x`.
+    /// After `\x`.
     High,
-    /// Behind `\x` and a digit of this value.
+    /// After `\x` and a digit of this value.
     Low(u8),
 }
 
-/// Adds a piece, with what its escapes stand for. The number is that of the repetition, from 0.
+/// Adds a piece, with its escapes replaced. The number is that of the repetition, from 0.
 pub fn add_escaped(alloc: Global, text: &mut Text, piece: &str, number: u32) -> Result<(), Fault> {
     let mut place = Place::Plain;
     for byte in piece.bytes() {
@@ -64,7 +64,7 @@ pub fn add_escaped(alloc: Global, text: &mut Text, piece: &str, number: u32) -> 
     }
 }
 
-/// Adds what a byte at this place stands for, and answers the place behind it.
+/// Adds what a byte in this state means, and answers the next state.
 fn add_byte(
     alloc: Global,
     text: &mut Text,
@@ -89,7 +89,7 @@ fn add_byte(
     }
 }
 
-/// Adds what an escape of this byte stands for, and answers the place behind it.
+/// Adds what the escape of this byte means, and answers the next state.
 fn add_escape(alloc: Global, text: &mut Text, byte: u8, number: u32) -> Result<Place, Fault> {
     match byte {
         b'\\' => text.push(b'\\')?,

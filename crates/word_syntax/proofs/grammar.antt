@@ -1,4 +1,4 @@
--- Tokens as the grammar has them and as the readers of words and letters take them.
+-- The parsers of words and letters accept exactly what the grammar derives.
 pub mod Completions
 pub mod InLetters
 pub mod LetterParts

@@ -1,4 +1,4 @@
--- The one reduced lasso of an infinite word, by least periods of its cycle.
+-- The unique reduced lasso word of an infinite word, computed by least periods of its cycle.
 pub mod Cyclic
 pub mod LeastPeriods
 pub mod LetterSame

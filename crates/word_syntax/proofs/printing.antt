@@ -1,4 +1,4 @@
--- How a word is printed, and that it is read back.
+-- A printed word is read back as a pattern that it matches.
 pub mod Joining
 pub mod OverNames
 pub mod PrintedTokens

@@ -1,4 +1,4 @@
--- Texts, read token by token: which token stands next, and what a text says or where it goes wrong.
+-- Reading texts token by token: the next token, and the pattern of a text or the offset of its error.
 pub mod FrontTokens
 pub mod Midways
 pub mod NextTokens

@@ -1,4 +1,5 @@
--- That the propositions of labels are below a number can be shown in one way at most, as a rule of a type has to be.
+-- The invariant of patterns that the propositions of labels are below a number, and that it has at most one proof, as an invariant of
+-- a type must.
 use Rattle.std.specs.Prelude.{ℕ, List, map}
 use Rattle.std.specs.List.{AllByRecursion, AllByRecursion-prop}
 use Rattle.std.specs.Coded.{×_prop, Unit-prop, le_prop}

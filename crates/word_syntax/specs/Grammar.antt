@@ -5,7 +5,7 @@
 --     conjunction = (operand "&")* operand
 --     operand     = "1" | "0" | NAME | "!" operand | "(" letter ")"
 --
--- A formula's propositions go by the place of their names in the list of names.
+-- A formula refers to a proposition by the index of its name in the list of names.
 use Rattle.std.specs.Prelude.{◌≡◌, ℕ, suc, List, [], ◌∷◌, ◌++◌, Some, filter, not, slice_get}
 use Rattle.aut_base.specs.CanonicalLabel.{all_of, one_of}
 use Rattle.aut_base.specs.Label as label
@@ -15,14 +15,14 @@ use Rattle.aut_base.specs.declared.limit.TheConstants.{MOST_DEPTH}
 use Rattle.word_syntax.specs.declared.token.Token.{Token}
 use Rattle.word_syntax.specs.declared.token.Token.TheVariants as token
 
--- A pattern as a value: the letters of a lasso word, each as a formula over the names.
+-- A pattern as a value: a formula over the names for each letter of a stem and of a cycle.
 pub record WordPattern : Type 0 where
   pub names : List (List ℕ)
   pub stem : List LabelTree
   pub cycle : List LabelTree
 
 -- The rules for a letter, over a list of names, where no more than `room` of `(` and `!` may be open at once. A chain
--- of `&` or `|` is one conjunction or disjunction of its parts in order, and a single part stands for itself.
+-- of `&` or `|` is one conjunction or disjunction of its parts in order; a single part is its own.
 mutual
   -- operand = "1" | "0" | NAME | "!" operand | "(" letter ")"
   pub data IsOperand : List (List ℕ) → ℕ → List Token → LabelTree → Type 0 where
@@ -66,7 +66,7 @@ token_names [] = []
 token_names (token.Name name ∷ ts) = name ∷ token_names ts
 token_names (_ ∷ ts) = token_names ts
 
--- each name once, where it first stands
+-- the names in the order of their first occurrence, each once
 abbrev pub distinct : List (List ℕ) → List (List ℕ)
 distinct [] = []
 distinct (name ∷ names) = name ∷ filter (λ other. not (same_text name other)) (distinct names)

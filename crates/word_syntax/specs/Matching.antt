@@ -1,4 +1,4 @@
--- Which lasso words match a pattern, and an automaton that says so.
+-- Which lasso words match a pattern, and the automaton of a pattern.
 use Rattle.std.specs.Prelude.{◌≡◌, ℕ, ◌+◌, ◌<◌, ◌==◌, true, if◌then◌else◌, List, [], ◌∷◌, ◌++◌, length}
 use Rattle.aut_base.specs.Acceptance.{Accepts}
 use Rattle.aut_base.specs.Automaton.{Automaton, LabelledEdge}
@@ -7,7 +7,7 @@ use Rattle.aut_base.specs.Label.{LabelTree, holds_at, truth}
 use Rattle.aut_base.specs.Word.{NameSet, copies}
 use Rattle.word_syntax.specs.Grammar.{WordPattern}
 
--- each letter meets the formula in its place
+-- the lists are of one length, and each letter satisfies the formula at the same index
 abbrev pub AllMeet : List (List ℕ) → List NameSet → List LabelTree → Type 0
 AllMeet names [] [] = Unit {0}
 AllMeet names [] (t ∷ ts) = ⊥
@@ -37,11 +37,11 @@ pub record AcceptsPattern (p : WordPattern) (b : Automaton) : Type 0 where
   pub matches : Matches p stem cycle
   pub accepts : Accepts b stem cycle
 
--- the state after this one, where the last leads back
+-- the successor of a state, which for the last state is the state `back`
 abbrev pub next_state : ℕ → ℕ → ℕ → ℕ
 next_state back total place = if place + 1 == total then back else place + 1
 
--- an edge for each label, from one state to the next
+-- an edge for each label, from each state to its successor
 abbrev pub edges_along : ℕ → ℕ → ℕ → List LabelTree → List LabelledEdge
 edges_along back total place [] = []
 edges_along back total place (t ∷ ts) = record { from = place; label = t; to = next_state back total place; marks = [] } ∷ edges_along back total (place + 1) ts

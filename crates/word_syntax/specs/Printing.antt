@@ -1,4 +1,4 @@
--- How a lasso word is printed: a conjunction of literals in the place of each letter.
+-- How a lasso word is printed: each letter as a conjunction of literals.
 use Rattle.std.specs.Prelude.{ℕ, ◌==◌, ◌&&◌, ◌||◌, Bool, false, not, if◌then◌else◌, Contains, IsTrue, List, [], ◌∷◌, ◌++◌, map, flat_map, codes, nat_le}
 use Rattle.std.specs.FinSet.{contains}
 use Rattle.std.specs.List.{list_all}
@@ -16,7 +16,7 @@ abbrev pub begins_small : List ℕ → Bool
 begins_small [] = false
 begins_small (b ∷ bs) = is_small b
 
--- a word of the notation
+-- a keyword of the notation
 abbrev pub is_keyword : List ℕ → Bool
 is_keyword name = same_text name (codes "true") || (same_text name (codes "false") || same_text name (codes "cycle"))
 
@@ -40,6 +40,6 @@ abbrev pub word_text : List (List ℕ) → List NameSet → List NameSet → Lis
 word_text names stem cycle =
     flat_map (λ letter. letter_text names letter ++ codes "; ") stem ++ (codes "cycle{" ++ (joined (codes "; ") (map (letter_text names) cycle) ++ codes "}"))
 
--- the letter holds only these names
+-- the letter has these names alone
 abbrev pub HoldsOnly : List (List ℕ) → NameSet → Type 0
 HoldsOnly names letter = (name : List ℕ) → IsTrue (contains letter name) → Contains names name

@@ -1,4 +1,4 @@
--- The tokens of a word: how each is spelled, and where it ends. Each is the longest that the bytes allow.
+-- The tokens of the notation of lasso words: how each is spelled, and where it ends. Each is the longest that the bytes allow.
 use Rattle.std.specs.Prelude.{◌≡◌, ◌≢◌, ℕ, ◌==◌, ◌&&◌, ◌||◌, ◌⊎◌, Bool, true, false, List, [], ◌∷◌, ◌++◌, codes}
 use Rattle.std.specs.List.{list_all}
 pub use Rattle.aut_base.specs.Bytes.{is_digit, is_letter, is_space}
@@ -15,7 +15,7 @@ abbrev pub IsBare : List ℕ → Type 0
 IsBare [] = ⊥
 IsBare (b ∷ bs) = (is_letter b ≡ true) × (list_all is_alphanumeric bs ≡ true)
 
--- a name without quotes: no word of the notation
+-- a name without quotes, which is no keyword
 pub record IsBareName (name : List ℕ) : Type 0 where
   pub bare : IsBare name
   pub not_true : name ≢ codes "true"
@@ -43,18 +43,18 @@ SpellsWordToken Cycle word = word ≡ codes "cycle"
 SpellsWordToken LeftBrace word = word ≡ codes "{"
 SpellsWordToken RightBrace word = word ≡ codes "}"
 
--- With this byte the word would be a longer token: a name or a word of the notation goes on, or `&` or `|` doubles.
+-- With this byte the word would be a longer token: a further byte of a name or keyword, or a second `&` or `|`.
 abbrev pub extends : List ℕ → ℕ → Bool
 extends [] c = false
 extends (b ∷ []) c = (is_letter b && is_alphanumeric c) || (((b == 38) && (c == 38)) || ((b == 124) && (c == 124)))
 extends (b ∷ d ∷ ds) c = is_letter b && is_alphanumeric c
 
--- what follows makes the word no longer
+-- the bytes that follow don't make the token longer
 abbrev pub EndsWord : List ℕ → List ℕ → Type 0
 EndsWord word [] = Unit {0}
 EndsWord word (c ∷ rest) = extends word c ≡ false
 
--- the token stands at the front of the bytes, and `rest` follows it
+-- the token is at the front of the bytes, and `rest` follows it
 pub record IsWordFront (bytes : List ℕ) (token : Token) (rest : List ℕ) : Type 0 where
   pub word : List ℕ
   pub split : bytes ≡ word ++ rest
@@ -67,7 +67,7 @@ pub record FollowsBlanks (input bytes : List ℕ) : Type 0 where
   pub split : input ≡ before ++ bytes
   pub blank : list_all is_space before ≡ true
 
--- These tokens stand at the front of the text, with blanks before and between them, and `rest` follows.
+-- These tokens are at the front of the text, with blanks before and between them, and `rest` follows.
 abbrev pub LexesWord : List ℕ → List Token → List ℕ → Type 0
 LexesWord text [] rest = text ≡ rest
 LexesWord text (t ∷ ts) rest = (bytes : List ℕ) × (next : List ℕ) × FollowsBlanks text bytes × IsWordFront bytes t next × LexesWord next ts rest

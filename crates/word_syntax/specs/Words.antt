@@ -1,4 +1,4 @@
--- What holds of reduced lasso words.
+-- Uniqueness of reduced lasso words.
 use Rattle.std.specs.Prelude.{◌≡◌, ◌<◌, List, length}
 use Rattle.aut_base.specs.Word.{IsReduced, NameSet, SpellsSame}
 

@@ -1,4 +1,4 @@
--- Which pattern a text writes, and where a text that writes none goes wrong.
+-- Which pattern a text writes, and the offset of the error in a text that writes none.
 use Rattle.std.specs.Prelude.{◌≡◌, ℕ, ◌+◌, ◌^◌, ◌<◌, ◌≤◌, ◌⊎◌, true, false, List, [], ◌∷◌, ◌++◌, length, map, drop, Result, Ok, Err}
 use Rattle.std.specs.List.{list_all}
 use Rattle.aut_base.specs.Label.{label_tree}
@@ -23,16 +23,16 @@ pub record WritesWord (text : List ℕ) (p : WordPattern) : Type 0 where
   pub blank : list_all is_space rest ≡ true
   pub word : IsWord tokens p
 
--- Why a word that begins with these tokens can't go on at these bytes.
+-- Why no pattern that begins with these tokens goes on with these bytes.
 pub data StopsWord (tokens : List Token) : List ℕ → Type 0 where
-  -- a token can't stand there, or opens one `(` or `!` more than may be open
+  -- a token that can't follow, or that opens more `(` and `!` than may be open
   misplaced : {bytes rest : List ℕ} (t : Token) → IsWordFront bytes t rest → (IsPrefixOfWord (tokens ++ t ∷ []) → ⊥) → StopsWord tokens bytes
   -- the bytes are no token
   no_token : {b : ℕ} {bs : List ℕ} → is_space b ≡ false → ((t : Token) (rest : List ℕ) → IsWordFront (b ∷ bs) t rest → ⊥) → StopsWord tokens (b ∷ bs)
   -- the text ends too early
   ended : ((p : WordPattern) → IsWord tokens p → ⊥) → StopsWord tokens []
 
--- A word can begin with the tokens up to offset k, and can't go on there.
+-- The tokens before the offset k begin some pattern, but none goes on as the text does from there.
 pub record IsStoppedAt (text : List ℕ) (k : ℕ) : Type 0 where
   pub tokens : List Token
   pub rest : List ℕ
@@ -43,11 +43,11 @@ pub record IsStoppedAt (text : List ℕ) (k : ℕ) : Type 0 where
   pub offset : k + length bytes ≡ length text
   pub stops : StopsWord tokens bytes
 
--- The text writes no pattern, and k is the offset that is told: always 0 for a text of 2^32 bytes or more.
+-- The text writes no pattern, and k is the offset of its error: always 0 for a text of 2^32 bytes or more.
 abbrev pub IsBadAt : List ℕ → ℕ → Type 0
 IsBadAt text k = ((2 ^ 32 ≤ length text) × (k ≡ 0)) ⊎ ((length text < 2 ^ 32) × IsStoppedAt text k)
 
--- the text writes no pattern at all
+-- the text writes no pattern
 abbrev pub WritesNothing : List ℕ → Type 0
 WritesNothing text = (p : WordPattern) → WritesWord text p → ⊥
 
@@ -63,11 +63,11 @@ pub record OneReading (text : List ℕ) : Type 0 where
   pub offset : (j k : ℕ) → IsBadAt text j → IsBadAt text k → j ≡ k
   pub either : (p : WordPattern) (k : ℕ) → WritesWord text p → IsBadAt text k → ⊥
 
--- the name stands at the first byte of the text, and this many bytes spell it
+-- the name is the token at the first byte of the text, and this many bytes spell it
 pub record IsNameAtFront (text name : List ℕ) (size : ℕ) : Type 0 where
   pub within : size ≤ length text
   pub front : IsWordFront text (token.Name name) (drop size text)
 
--- no name stands at the first byte
+-- no name begins at the first byte
 abbrev pub NoNameAtFront : List ℕ → Type 0
 NoNameAtFront text = (name rest : List ℕ) → IsWordFront text (token.Name name) rest → ⊥

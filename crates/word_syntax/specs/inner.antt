@@ -1,4 +1,4 @@
--- Definitions that only inner functions speak in.
+-- Definitions that only the contracts of inner functions use.
 pub mod Chains
 pub mod Fronts
 pub mod Machine

@@ -14,8 +14,8 @@ use aut_base::{Description, Edge, Edges, Formula, Label, MOST_NAMES, Marks, Memo
 use aut_core::{Automaton, NameFault, copy_names};
 use std::alloc::Global;
 
-/// An automaton that accepts some lasso word together with another one exactly where that other one accepts a word that
-/// matches the pattern.
+/// An automaton of the pattern: it and any other automaton accept a common lasso word exactly where the other one accepts a word
+/// that matches the pattern.
 pub fn pattern_automaton(alloc: Global, pattern: &Pattern) -> Result<Automaton, NameFault>
     ensures accepts { IfOk result (λ made. (b : AutomatonTree) → AcceptTogether (automaton_of made) b ↔ AcceptsPattern (word_pattern pattern.now) b) }
     ensures shape { IfOk result (λ made. automaton_of made ≡ canonical (word_automaton (word_pattern pattern.now))) }
@@ -30,7 +30,7 @@ pub fn pattern_automaton(alloc: Global, pattern: &Pattern) -> Result<Automaton, 
     Ok(Automaton::from_description(alloc, &description)?)
 }
 
-// The automaton with the pattern's labels as they are.
+// The automaton with the pattern's formulas as labels, not yet in canonical form.
 fn pattern_description(alloc: Global, pattern: &Pattern) -> Result<Description, Memory>
     ensures { IfOk result (λ d. automaton d ≡ word_automaton (word_pattern pattern.now)) }
 {
@@ -51,7 +51,7 @@ fn pattern_description(alloc: Global, pattern: &Pattern) -> Result<Description, 
     })
 }
 
-// An edge for each label, from one state to the next. The last state leads back.
+// An edge for each label, from one state to the next. That of the last state leads back to the first of the cycle.
 fn push_edges(
     alloc: Global,
     edges: &mut Edges,
@@ -74,7 +74,7 @@ fn push_edges(
     Ok(())
 }
 
-// The state after this one.
+// The successor of a state.
 fn next_state(back: u32, total: u32, place: u32) -> u32
     requires { place < total }
     ensures { result ≡ next_state back total place }

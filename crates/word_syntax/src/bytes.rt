@@ -1,4 +1,4 @@
-//! The kinds of bytes.
+//! The kinds of bytes in the notation.
 
 ghost use Rattle.std.specs.Prelude.{◌≡◌, ◌≤◌, length, drop};
 ghost use Rattle.std.specs.List.{list_all, prefix_len};
@@ -12,35 +12,35 @@ pub(crate) fn is_space(byte: u8) -> bool
     byte == b' ' || byte == b'\t' || byte == b'\n' || byte == b'\r'
 }
 
-/// What a bare name begins with.
+/// A byte with which a bare name begins: an ASCII letter or `_`.
 pub(crate) fn is_letter(byte: u8) -> bool
     ensures { result ≡ kinds.is_letter byte }
 {
     (b'A' <= byte && byte <= b'Z') || (b'a' <= byte && byte <= b'z') || byte == b'_'
 }
 
-/// What a bare name goes on with.
+/// A further byte of a bare name: an ASCII letter, a digit or `_`.
 pub(crate) fn is_word(byte: u8) -> bool
     ensures { result ≡ kinds.is_alphanumeric byte }
 {
     is_letter(byte) || (b'0' <= byte && byte <= b'9')
 }
 
-/// How many blanks stand at the front.
+/// The number of blanks at the front.
 pub(crate) fn blanks(bytes: &[u8]) -> usize
     ensures { result ≡ prefix_len kinds.is_space bytes.now }
 {
     bytes.iter().take_while(|byte| is_space(**byte)).count()
 }
 
-/// How many letters and digits stand at the front.
+/// The number of letters and digits at the front.
 pub(crate) fn words(bytes: &[u8]) -> usize
     ensures { result ≡ prefix_len kinds.is_alphanumeric bytes.now }
 {
     bytes.iter().take_while(|byte| is_word(**byte)).count()
 }
 
-/// The bytes from this place on.
+/// The bytes from this index on.
 pub(crate) fn from(bytes: &[u8], at: usize) -> &[u8]
     requires { at ≤ length bytes.now }
     ensures { result.now ≡ drop at bytes.now }
@@ -48,7 +48,7 @@ pub(crate) fn from(bytes: &[u8], at: usize) -> &[u8]
     &bytes[at..]
 }
 
-/// What a name without quotes begins with, where it is printed.
+/// A byte with which a name begins that is printed without quotes: `a` to `z` or `_`.
 pub(crate) fn is_small(byte: u8) -> bool
     ensures { result ≡ is_small byte }
 {

@@ -1,4 +1,4 @@
-//! Parts of a conjunction or disjunction that is being read.
+//! The parts of a conjunction or disjunction while it is read.
 
 ghost use Rattle.std.specs.Prelude.{◌≡◌, [], ◌∷◌, ◌++◌, IfOk};
 ghost use Rattle.aut_base.specs.CanonicalLabel.{all_of, one_of};
@@ -19,7 +19,7 @@ pub(crate) enum Chain {
 
 #[tactic(auto, using(aut_base::proofs::trees::LabelTrees::label_trees))]
 impl Chain {
-    /// These parts and one more.
+    /// These parts with another at the end.
     pub(crate) fn add(self, alloc: Global, label: Label) -> Result<Chain, Memory>
         ensures { IfOk result (λ new. chain_list new ≡ chain_list self ++ label_tree label ∷ []) }
     {

@@ -1,4 +1,4 @@
-//! What holds of the notation and of words.
+//! Laws of the notation and of lasso words.
 
 ghost use Rattle.std.specs.Prelude.{ℕ, List};
 ghost use Rattle.word_syntax.specs.ReadBack.{PrintedIsReadBack};

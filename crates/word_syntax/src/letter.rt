@@ -1,4 +1,4 @@
-//! The reader of a letter, which takes one token at a time and keeps what is open.
+//! The parser of a letter's formula, which takes one token at a time, with a stack of the levels of parentheses.
 
 ghost use Rattle.aut_base.specs.declared.limit.TheConstants.{MOST_DEPTH};
 ghost use Rattle.std.specs.Prelude.{◌≡◌, true, false, ◌+◌, ◌<◌, ◌≤◌, ◌^◌, length, IfOk, Some, None};
@@ -12,16 +12,16 @@ use crate::token::Token;
 use aut_base::{Label, MOST_DEPTH, Memory, Names};
 use std::alloc::Global;
 
-/// A letter, or a part of one in parentheses, as far as it is read.
+/// A level: the formula, or a part of it in parentheses, as far as it is read.
 #[derive(Debug, Drop)]
 pub(crate) struct Level {
     /// How many `(` and `!` are open around it.
     around: u32,
-    /// Whole parts of its disjunction.
+    /// The complete parts of its disjunction.
     ors: Chain,
-    /// Whole parts of the conjunction that is being read.
+    /// The complete parts of the conjunction that is being read.
     ands: Chain,
-    /// How many `!` stand before the operand that is to come.
+    /// How many `!` were read before the next operand.
     nots: u32,
     ghost within: { around + nots ≤ MOST_DEPTH },
 }
@@ -39,7 +39,7 @@ pub(crate) struct LetterReader {
 impl Level {
     ghost use Rattle.word_syntax.specs.inner.Chains.{level_tree};
 
-    // Nothing of it is read.
+    // A level of which nothing is read yet.
     fn new(around: u32) -> Level
         requires { around ≤ MOST_DEPTH }
         ensures { level_tree result ≡ machine.fresh_level around }
@@ -66,7 +66,7 @@ impl Level {
         })
     }
 
-    // The conjunction has ended, and another is to come.
+    // The conjunction has ended, and another follows.
     fn or(self, alloc: Global) -> Result<Level, Memory>
         ensures { IfOk result (λ new. level_tree new ≡ machine.or_level (level_tree self)) }
     {
@@ -79,7 +79,7 @@ impl Level {
         })
     }
 
-    // What it says, where it is whole.
+    // The label of the level, where it is complete.
     fn label(self, alloc: Global) -> Result<Label, Memory>
         ensures { IfOk result (λ label. label_tree label ≡ machine.level_label (level_tree self)) }
     {
@@ -102,7 +102,7 @@ fn negated(alloc: Global, label: Label, times: u32) -> Result<Label, Memory>
 impl LetterReader {
     ghost use Rattle.word_syntax.specs.inner.Chains.{GoesInLetter, letter_state};
 
-    /// Nothing of the letter is read.
+    /// The parser at the beginning of a letter.
     pub(crate) fn new(alloc: Global) -> LetterReader
         ensures { letter_state result ≡ machine.fresh }
     {
@@ -113,7 +113,7 @@ impl LetterReader {
         }
     }
 
-    /// Goes on with a token, or `None` where the token can't stand there. Names find their places.
+    /// The parser after a token, or `None` where the token can't follow. A name that is new is added to the names.
     pub(crate) fn step(
         self,
         alloc: Global,
@@ -130,7 +130,7 @@ impl LetterReader {
         }
     }
 
-    // Where an operand is to come.
+    // Takes a token where an operand has to follow.
     fn begin_operand(
         self,
         alloc: Global,
@@ -154,7 +154,7 @@ impl LetterReader {
         }
     }
 
-    // Where an operand has ended.
+    // Takes a token where an operand has just ended.
     fn after_operand(self, alloc: Global, token: Token) -> Result<Option<LetterReader>, Memory>
         requires { self.ready ≡ true }
         ensures { IfOk result (λ next. option_map letter_state next ≡ machine.after_operand (letter_state self) token) }
@@ -266,7 +266,7 @@ impl LetterReader {
         }
     }
 
-    /// The letter, where it is whole.
+    /// The letter's formula, where it is complete.
     pub(crate) fn whole(self, alloc: Global) -> Result<Option<Label>, Memory>
         ensures { IfOk result (λ label. option_map label_tree label ≡ machine.whole_letter (letter_state self)) }
     {

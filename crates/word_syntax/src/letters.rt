@@ -1,4 +1,4 @@
-//! Letters: whether two are the same, and copies.
+//! Comparison and copies of letters.
 
 ghost use Rattle.std.specs.Prelude.{◌≡◌, ◌≤◌, length, take, drop, ◌↔◌, ◌++◌, IsTrue, IfOk, OnOk};
 ghost use Rattle.word_syntax.specs.inner.Periods.{IsSubset};
@@ -21,7 +21,7 @@ fn is_within(a: &Letter, b: &Letter) -> bool
     holds_only(a, b.names())
 }
 
-// The letter, held apart.
+// A copy of the letter.
 fn copy_letter(alloc: Global, letter: &Letter) -> Result<Letter, Memory>
     ensures { IfOk result (λ new. new ≡ letter.now) }
 {
@@ -46,7 +46,7 @@ pub(crate) fn push_copies(
     Ok(())
 }
 
-/// The letters before this place.
+/// The letters before this index.
 pub(crate) fn before(letters: &[Letter], place: usize) -> &[Letter]
     requires { place ≤ length letters.now }
     ensures { result.now ≡ take place letters.now }
@@ -54,7 +54,7 @@ pub(crate) fn before(letters: &[Letter], place: usize) -> &[Letter]
     &letters[..place]
 }
 
-/// The letters from this place on.
+/// The letters from this index on.
 pub(crate) fn behind(letters: &[Letter], place: usize) -> &[Letter]
     requires { place ≤ length letters.now }
     ensures { result.now ≡ drop place letters.now }

@@ -1,4 +1,4 @@
-//! The token at the front of a text.
+//! The lexer: the token at the front of a text.
 
 ghost use Rattle.std.specs.Prelude.{◌≡◌, ◌==◌, ◌<◌, IsTrue, length, ◌≤◌, slice_index, drop, IfOk, IfSome};
 ghost use Rattle.word_syntax.specs.Tokens.{is_letter};
@@ -9,7 +9,7 @@ use crate::token::Token;
 use aut_base::{Memory, Text};
 use std::alloc::Global;
 
-/// The token at the front of these bytes, and how many of them spell it.
+/// The token at the front of these bytes, and its length in bytes.
 pub(crate) fn front_token(alloc: Global, bytes: &[u8]) -> Result<Option<(Token, usize)>, Memory>
     ensures { IfOk result (λ found. found ≡ front_token bytes.now) }
 {
@@ -69,7 +69,7 @@ fn sign_token(byte: u8) -> Option<Token>
     }
 }
 
-// How often the sign stands at the front, up to twice.
+// How often the sign occurs at the front, up to twice.
 fn doubled(sign: u8, bytes: &[u8]) -> usize
     ensures { result ≡ sign_count sign bytes.now }
 {
@@ -80,7 +80,7 @@ fn doubled(sign: u8, bytes: &[u8]) -> usize
     }
 }
 
-// What a string means whose opening quote stands before these bytes, and how many of them it takes.
+// The text of a string whose opening quote is just before these bytes, and how many of them it takes, with the closing quote.
 fn unquoted(alloc: Global, bytes: &[u8]) -> Result<Option<(Text, usize)>, Memory>
     ensures value { IfOk result (λ found. found ≡ unquoted bytes.now) }
     ensures within { IfOk result (λ found. IfSome found (λ s. s.1 ≤ length bytes.now)) }

@@ -1,7 +1,7 @@
-//! The notation of lasso words and their patterns: reading and printing it, and what a pattern means.
+//! A notation of lasso words and of patterns of them: reading, printing, and the automaton of a pattern.
 //!
-//! The tokens are defined in `specs/Tokens`, the grammar over them in `specs/Grammar`, and what a text writes, and where
-//! one that writes nothing goes wrong, in `specs/Writing`.
+//! The tokens are defined in `specs/Tokens`, the grammar over them in `specs/Grammar`, and the pattern that a text writes, or the
+//! offset of its error, in `specs/Writing`.
 #![tactic(auto)]
 
 mod automaton;

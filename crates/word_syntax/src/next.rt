@@ -9,16 +9,16 @@ use crate::token::Token;
 use aut_base::Memory;
 use std::alloc::Global;
 
-/// What stands next, behind blanks.
+/// What follows in a text, after blanks.
 #[derive(Debug, Drop)]
 pub(crate) enum Next {
-    /// A token, and the places of its first byte and behind its last.
+    /// A token, the offset of its first byte, and that after its last.
     Token(Token, usize, usize),
-    /// From this place on, the end of the text or bytes that are no token.
+    /// No token: at this offset the text ends, or has bytes that are no token.
     Nothing(usize),
 }
 
-/// What stands next in the text from this place on.
+/// What follows in the text from this offset on.
 pub(crate) fn next_token(alloc: Global, bytes: &[u8], at: usize) -> Result<Next, Memory>
     requires { at ≤ length bytes.now }
     ensures { IfOk result (λ next. IsNextAnswer bytes.now at next) }

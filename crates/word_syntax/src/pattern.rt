@@ -1,4 +1,4 @@
-//! Patterns of lasso words, and why a text writes none.
+//! Patterns of lasso words, and the errors of reading one.
 
 ghost use Rattle.std.specs.Prelude.{◌≡◌, ◌+◌, ◌<◌, ◌^◌, length};
 ghost use Rattle.word_syntax.specs.Below.{AllLabelsBelow, AllLabelsBelow-prop};
@@ -8,8 +8,8 @@ use aut_base::{Label, Memory, Names, Seq};
 /// Labels, in order.
 pub type LabelList = Seq<Label>;
 
-/// A pattern of lasso words: a formula for each letter of the stem and of the cycle. A formula's propositions go by the
-/// place of their names in `names`.
+/// A pattern of lasso words: a formula for each letter of the stem and of the cycle. A formula refers to a proposition by the
+/// index of its name in `names`.
 #[derive(Debug, Drop)]
 pub struct Pattern {
     pub names: Names,
@@ -24,7 +24,7 @@ pub struct Pattern {
 /// Why a text writes no pattern.
 #[derive(Clone, Copy, Debug, PartialEq, Eq)]
 pub enum WordFault {
-    /// The text is no word: it can't go on at this offset as it does.
+    /// The text is no pattern: it has an error at this byte offset.
     BadWord(u64),
     /// Want of memory.
     Memory,

@@ -1,4 +1,4 @@
-//! The shortest list of which a list is copies.
+//! The parts of reducing a lasso word: the shortest list of which the cycle is copies, and letters that the stem shares with it.
 
 ghost use Rattle.std.specs.Prelude.{◌≡◌, ◌+◌, ◌<◌, ◌≤◌, length, IfOk};
 ghost use Rattle.word_syntax.specs.inner.Periods.{AreLeastPeriods, ArePeriods, IsLeastPeriod, IsRoot, IsShared};
@@ -21,7 +21,7 @@ pub(crate) fn root_size(alloc: Global, letters: &[Letter]) -> Result<usize, Memo
     }
 }
 
-// The least period of each front of the letters, by its length (Knuth, Morris and Pratt 1977).
+// The least period of each prefix of the letters, by its length (Knuth, Morris and Pratt 1977).
 fn least_periods(alloc: Global, letters: &[Letter]) -> Result<Vec<usize>, Memory>
     requires { 0 < length letters.now }
     ensures { IfOk result (λ periods. ArePeriods letters.now periods.items) }
@@ -36,7 +36,7 @@ fn least_periods(alloc: Global, letters: &[Letter]) -> Result<Vec<usize>, Memory
     Ok(periods)
 }
 
-// The least period of the front that is one letter longer.
+// The least period of the prefix that is longer by a letter.
 fn next_period(letters: &[Letter], periods: &[usize], front: usize) -> usize
     requires some { 0 < front }
     requires within { front < length letters.now }
@@ -51,14 +51,14 @@ fn next_period(letters: &[Letter], periods: &[usize], front: usize) -> usize
     period
 }
 
-/// How many of a stem's letters are left, and where a cycle begins.
+/// How many letters of the stem are kept, and the index at which the rotated cycle begins.
 #[derive(Clone, Copy)]
 pub(crate) struct Shared {
     pub(crate) kept: usize,
     pub(crate) from: usize,
 }
 
-/// Leaves out the last letters of the stem for as long as each is the last letter of the cycle, which turns with them.
+/// Drops the last letter of the stem and rotates the cycle by one for as long as that letter is the cycle's last.
 pub(crate) fn shared_end(stem: &[Letter], root: &[Letter]) -> Shared
     requires { 0 < length root.now }
     ensures { IsShared stem.now root.now result.kept result.from }

@@ -57,7 +57,7 @@ fn push_letter(text: &mut Text, letter: &Letter, names: &Names) -> Result<(), Me
     push_literals(text, letter, names.as_slice())
 }
 
-// The literals of some names.
+// The literals of these names.
 fn push_literals(text: &mut Text, letter: &Letter, names: &[Text]) -> Result<(), Memory>
     requires { 0 < length names.now }
     ensures { OnOk result (text.new ≡ text.old ++ joined (codes " & ") (map (printing.name_literal_text letter.now) names.now)) }
@@ -139,7 +139,7 @@ fn begins_small(bytes: &[u8]) -> bool
     is_small(bytes[0])
 }
 
-// Whether the name is a word of the notation.
+// Whether the name is a keyword of the notation.
 fn is_keyword(name: &Text) -> bool
     ensures { result ≡ printing.is_keyword name.now }
 {

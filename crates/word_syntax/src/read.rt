@@ -1,4 +1,4 @@
-//! Reading a pattern, or a name alone.
+//! Reading a pattern, or a single name.
 
 ghost use Rattle.std.specs.Prelude.{◌≡◌, ◌+◌, ◌<◌, ◌≤◌, ◌^◌, length, IfOk, MatchOption};
 ghost use Rattle.word_syntax.specs.Writing.{AnswersWord, IsNameAtFront, IsStoppedAt, NoNameAtFront};
@@ -13,8 +13,8 @@ use crate::{Pattern, WordFault};
 use aut_base::{Memory, Text};
 use std::alloc::Global;
 
-/// The pattern that the text writes. `BadWord` is answered exactly where it writes none, with the offset at which it
-/// goes wrong.
+/// The pattern that the text writes. `BadWord` is answered exactly where it writes none, with the byte offset of its
+/// error.
 pub fn read_word(alloc: Global, text: &Text) -> Result<Pattern, WordFault>
     ensures { AnswersWord result text.now }
 {
@@ -35,7 +35,7 @@ pub fn read_word(alloc: Global, text: &Text) -> Result<Pattern, WordFault>
     }
 }
 
-// All tokens of the text, taken by a reader of words.
+// The parser after all tokens of the text.
 fn read_tokens(alloc: Global, bytes: &[u8]) -> Result<WordReader, WordFault>
     requires { length bytes.now < 2 ^ 32 }
     ensures { StopsOrGoes bytes.now result }
@@ -61,8 +61,8 @@ fn read_tokens(alloc: Global, bytes: &[u8]) -> Result<WordReader, WordFault>
     }
 }
 
-/// The name that stands as the first token at the first byte of the text, and how many bytes spell it. `None` is
-/// answered exactly where no name stands there.
+/// The name that is the token at the first byte of the text, and its length in bytes as it is spelled. `None` is
+/// answered exactly where no name begins there.
 pub fn read_name(alloc: Global, text: &Text) -> Result<Option<(Text, usize)>, Memory>
     ensures { IfOk result (λ found. MatchOption found (NoNameAtFront text.now) (λ name. IsNameAtFront text.now name.0 name.1)) }
 {

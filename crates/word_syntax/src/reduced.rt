@@ -1,4 +1,4 @@
-//! The shortest lasso of an infinite word.
+//! Reduction of lasso words.
 
 ghost use Rattle.std.specs.Prelude.{◌↔◌, IfOk};
 ghost use Rattle.aut_base.specs.Acceptance.{Accepts};
@@ -10,7 +10,7 @@ use crate::period::{root_size, shared_end};
 use aut_base::{Lasso, Letters, Memory};
 use std::alloc::Global;
 
-/// The reduced lasso of the same infinite word. Each automaton accepts both or neither.
+/// The reduced lasso word (shortest stem and cycle) of the same infinite word. Each automaton accepts both or neither.
 pub fn reduce(alloc: Global, word: &Lasso) -> Result<Lasso, Memory>
     ensures same { IfOk result (λ new. SpellsSame new.stem new.cycle word.now.stem word.now.cycle) }
     ensures reduced { IfOk result (λ new. IsReduced new.stem new.cycle) }

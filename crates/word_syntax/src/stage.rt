@@ -1,14 +1,14 @@
-//! Where in a word its reader stands.
+//! The stages of parsing a pattern.
 
-/// Where in a word its reader stands.
+/// The part of a pattern that is being read.
 #[derive(Clone, Copy, Debug, PartialEq, Eq)]
 pub(crate) enum Stage {
     /// In the letters of the stem.
     Stem,
-    /// Behind `cycle`.
+    /// After `cycle`, before the opening brace.
     Brace,
     /// In the letters of the cycle.
     Cycle,
-    /// Behind the closing brace.
+    /// After the closing brace.
     End,
 }

@@ -1,8 +1,8 @@
-//! The tokens of a word.
+//! The tokens of the notation.
 
 use aut_base::Text;
 
-/// A token of the notation of words.
+/// A token of the notation of lasso words.
 #[derive(Debug, Drop)]
 pub enum Token {
     /// `1` or `true`

@@ -1,4 +1,4 @@
-//! The reader of a word, which takes one token at a time.
+//! The parser of a pattern, which takes one token at a time.
 
 ghost use Rattle.std.specs.Prelude.{◌≡◌, true, ◌<◌, ◌^◌, [], length, IfOk};
 ghost use Rattle.word_syntax.specs.inner.Machine as machine;
@@ -11,7 +11,7 @@ use aut_base::{Memory, Names};
 use std::alloc::Global;
 use std::mem;
 
-/// A word as far as it is read.
+/// A pattern as far as it is read.
 #[derive(Debug, Drop)]
 pub(crate) struct WordReader {
     /// The names, in the order in which they first appear.
@@ -39,7 +39,7 @@ impl WordReader {
         }
     }
 
-    /// Goes on with a token, or `None` where the token can't stand there.
+    /// The parser after a token, or `None` where the token can't follow.
     pub(crate) fn step(self, alloc: Global, token: Token) -> Result<Option<WordReader>, Memory>
         requires { length self.names < 2 ^ 32 }
         ensures { IfOk result (λ next. TakesToken self token next) }
@@ -154,7 +154,7 @@ impl WordReader {
     }
 }
 
-// Whether letters stand there.
+// Whether letters may follow at this stage.
 fn has_letters(stage: Stage) -> bool
     ensures { result ≡ machine.has_letters stage }
 {

@@ -1,4 +1,4 @@
--- Canonical labels: each says what its label says, and labels that say the same at every letter have the same one.
+-- Labels that are true at the same letters have the same canonical label, and a canonical label is its own canonical form.
 use Rattle.std.proofs.Common.{◌≡◌, ◌≢◌, ◌∙◌, ◌↔◌, ℕ, ◌<◌, Bool, List, length, AllPairs, sym, ap}
 use Rattle.aut_base.specs.CanonicalLabel.{canonical_label}
 use Rattle.aut_base.specs.Label.{AllBelow, LabelTree, holds_at, truth}

@@ -9,7 +9,7 @@ use Rattle.aut_base.specs.Valuation.{holds_in, truth_on, valuation_of}
 use Rattle.aut_base.proofs.canonical.ValuationLists.{all_same, holds_in-valuation_of, independent_agrees, length-map_range, valuation_of-same}
 use Rattle.aut_base.proofs.numbers.Truth.{and-true, and_or, or-false}
 
--- the literals of a cube, which all hold
+-- whether all literals of a cube hold
 abbrev pub all_hold : (ℕ → Bool) → List Literal → Bool
 all_hold holds = list_all (λ l. truth holds (literal_tree l))
 
@@ -51,7 +51,7 @@ and_false : (a : Bool) → false ≡ (a && false)
 and_false true = refl
 and_false false = refl
 
--- cubes under one literal more
+-- the truth of cubes to each of which a literal is added
 pub any-under : (holds : ℕ → Bool) (l : Literal) (cs : List (List Literal)) → list_any (all_hold holds) (map (λ cube. l ∷ cube) cs) ≡ (truth holds (literal_tree l) && list_any (all_hold holds) cs)
 any-under holds l [] = and_false (truth holds (literal_tree l))
 any-under holds l (c ∷ cs) =
@@ -72,7 +72,7 @@ end_true : (holds : ℕ → Bool) (b : Bool) → list_any (all_hold holds) (cond
 end_true holds true = refl
 end_true holds false = refl
 
--- the cubes of the propositions from the i-th on
+-- the cubes of a truth function of the propositions from the i-th on are true where the function is
 pub cubes_hold : (holds : ℕ → Bool) (i n : ℕ) (g : List Bool → Bool) → list_any (all_hold holds) (cubes i n g) ≡ g (map holds (range_with_len i n))
 cubes_hold holds i zero g = end_true holds (g [])
 cubes_hold holds i (suc n) g =
@@ -92,7 +92,7 @@ cubes_hold holds i (suc n) g =
     ] is in
     go (is_independent n g) refl
 
--- the label of a truth function, wherever one asks for its truth
+-- the label of a truth function is true where the function is
 pub truth-label_of : (holds : ℕ → Bool) (n : ℕ) (g : List Bool → Bool) → truth holds (label_of_truth n g) ≡ g (valuation_of n holds)
 truth-label_of holds n g = truth-cubes_tree holds (cubes 0 n g) ∙ cubes_hold holds 0 n g
 
@@ -119,7 +119,7 @@ cubes_same i (suc n) g h same =
 pub label_of-same : (n : ℕ) (g h : List Bool → Bool) → ((v : List Bool) → length v ≡ n → g v ≡ h v) → label_of_truth n g ≡ label_of_truth n h
 label_of-same n g h same = ap cubes_tree (cubes_same 0 n g h same)
 
--- the truth of a label speaks of its own propositions
+-- the truth of a label depends on the truth of its own propositions alone
 mutual
   pub truth_below : (n : ℕ) (p q : ℕ → Bool) (t : LabelTree) → AllBelow n t → ((i : ℕ) → i < n → p i ≡ q i) → truth p t ≡ truth q t
   truth_below n p q True below same = refl
@@ -137,7 +137,7 @@ mutual
   some_true_below n p q none below same = refl
   some_true_below n p q (more t ts) below same = cc (truth_below n p q t below.0 same, some_true_below n p q ts below.1 same)
 
--- the canonical form of a label says what the label says
+-- the canonical form of a label is true where the label is
 pub canonical_label_keeps_truth : (n : ℕ) (t : LabelTree) (holds : ℕ → Bool) → AllBelow n t → truth holds (canonical_label n t) ≡ truth holds t
 canonical_label_keeps_truth n t holds below =
     truth-label_of holds n (truth_on t) ∙ truth_below n (holds_in (valuation_of n holds)) holds t below (holds_in-valuation_of n holds)

@@ -9,7 +9,7 @@ use Rattle.aut_base.specs.LabelExamples.{CanonicalExamples}
 use Rattle.aut_base.specs.Valuation.{number_of, valuations}
 use Rattle.aut_base.proofs.canonical.ValuationLists.{both_ways}
 
--- in twice as many numbers, each number stands for two
+-- where valuations have the numbers from k on, those with a proposition put before them have the numbers from 2k on, twice as many
 numbers : (vs : List (List Bool)) (k m : ℕ) → map number_of vs ≡ range_with_len k m → map number_of (both_ways vs) ≡ range_with_len (2 * k) (2 * m)
 numbers [] k zero e = refl
 numbers [] k (suc m) e = absurd cc

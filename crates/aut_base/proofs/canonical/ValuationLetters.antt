@@ -1,4 +1,4 @@
--- From each valuation a letter can be made at which the same propositions hold, and each letter has its valuation.
+-- For each valuation there is a letter at which the same propositions hold, and for each letter such a valuation.
 use Rattle.std.proofs.Common.{⊎_elim, ◌≡◌, ◌≢◌, ◌∙◌, ℕ, zero, suc, ◌<◌, ◌≤◌, Bool, true, false, ◌||◌, List, [], ◌∷◌, length, map, get_or, Some, slice_get, AllPairs, refl, sym, ap, arith}
 use Rattle.std.proofs.lemmas.Bool.{cases_lt, cases_order, false_from_ne_true}
 use Rattle.std.proofs.lemmas.Cmp.{nat_list_cmp_total, eq_by_cmp_equiv}
@@ -14,7 +14,7 @@ use Rattle.aut_base.specs.Label.{holds_at}
 use Rattle.aut_base.specs.Valuation.{holds_in, letter_of, names_on}
 use Rattle.aut_base.specs.Word.{NameSet}
 
--- none of the names passes the test
+-- where no name passes the test, none of those that hold does
 none_on : (p : List ℕ → Bool) (names : List (List ℕ)) (v : List Bool) → ((k : ℕ) (name : List ℕ) → slice_get names k ≡ Some name → p name ≡ false) → list_any p (names_on names v) ≡ false
 none_on p [] v fails = refl
 none_on p (x ∷ xs) [] fails = refl
@@ -22,7 +22,7 @@ none_on p (x ∷ xs) (false ∷ v) fails = none_on p xs v (λ k. fails (suc k))
 none_on p (x ∷ xs) (true ∷ v) fails =
     let first : p x ≡ false = fails 0 x refl in let rest = none_on p xs v (λ k. fails (suc k)) in rw first rest
 
--- only the name at place i passes it
+-- where only the name at index i passes it, one of those that hold does exactly where proposition i holds
 one_on : (p : List ℕ → Bool) (names : List (List ℕ)) (v : List Bool) (i : ℕ) (name : List ℕ) → slice_get names i ≡ Some name → p name ≡ true
     → ((k : ℕ) (other : List ℕ) → k ≢ i → slice_get names k ≡ Some other → p other ≡ false) → list_any p (names_on names v) ≡ holds_in v i
 one_on p [] v i name is passes fails = absurd (none-some name is)

@@ -18,7 +18,7 @@ all-both_ways p [] = refl
 all-both_ways p (v ∷ vs) =
     ap (λ b. p (false ∷ v) && (p (true ∷ v) && b)) (all-both_ways p vs) ∙ sym (and_assoc (p (false ∷ v)) (p (true ∷ v)) _)
 
--- what passes for every valuation passes for each list of that length
+-- a test that all listed valuations pass is passed by each list of that length
 pub each_valuation : (n : ℕ) (p : List Bool → Bool) → list_all p (valuations n) ≡ true → (v : List Bool) → length v ≡ n → p v ≡ true
 each_valuation zero p all [] long = (and_parts (p []) true all).0
 each_valuation zero p all (b ∷ v) long = absurd (omega arith)
@@ -57,7 +57,7 @@ test_same false false e = refl
 test_same true false e = sym e
 test_same false true e = e
 
--- where the first proposition makes no difference
+-- a truth function that doesn't depend on the first proposition
 pub independent_agrees : (n : ℕ) (g : List Bool → Bool) → is_independent n g ≡ true → (v : List Bool) → length v ≡ n → g (false ∷ v) ≡ g (true ∷ v)
 independent_agrees n g alone v long =
     same_test _ _ (each_valuation n (λ w. beq (g (false ∷ w)) (g (true ∷ w))) alone v long)
@@ -66,7 +66,7 @@ pub independent_from : (n : ℕ) (g : List Bool → Bool) → ((v : List Bool) �
 independent_from n g same =
     all_valuations n (λ w. beq (g (false ∷ w)) (g (true ∷ w))) (λ v long. test_same _ _ (same v long))
 
--- a list of truths is the valuation in which the same propositions hold
+-- a list of truth values is the valuation in which the same propositions hold
 pub length-map_range : (holds : ℕ → Bool) (i n : ℕ) → length (map holds (range_with_len i n)) ≡ n
 length-map_range holds i zero = refl
 length-map_range holds i (suc n) = ap suc (length-map_range holds (i + 1) n)

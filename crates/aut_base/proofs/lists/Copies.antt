@@ -1,4 +1,4 @@
--- A list many times over: how long it is, what stands at each place, which tests it passes, and as often again.
+-- Repetitions of a list: their length, the item at each index, the tests that they pass, and their sums.
 use Rattle.std.proofs.Common.{◌≡◌, ◌∙◌, ℕ, zero, suc, ◌+◌, ◌*◌, ◌<◌, Bool, List, [], ◌++◌, append_assoc, length, slice_get, refl, sym, ap, arith}
 use Rattle.std.specs.List.{list_any, list_all}
 use Rattle.std.proofs.lemmas.List.{append-nil, length-append}
@@ -11,7 +11,7 @@ pub length-copies : {A : Type 0} (k : ℕ) (v : List A) → length (copies k v) 
 length-copies zero v = omega arith
 length-copies (suc k) v = omega (arith, length-append v (copies k v), length-copies k v)
 
--- place m of the copy s
+-- the item at index m of copy s
 pub get-copies : {A : Type 0} (k s m n : ℕ) (v : List A) → s < k → m < length v → n ≡ s * length v + m → slice_get (copies k v) n ≡ slice_get v m
 get-copies zero s m n v below within e = absurd (omega arith)
 get-copies (suc k) zero m n v below within e = ap (slice_get (v ++ copies k v)) (omega arith) ∙ slice_get-append_left v (copies k v) m within

@@ -44,7 +44,7 @@ zip_append R [] us (y ∷ ys) vs first second = absurd first
 zip_append R (x ∷ xs) us [] vs first second = absurd first
 zip_append R (x ∷ xs) us (y ∷ ys) vs first second = (first.0, zip_append R xs us ys vs first.1 second)
 
--- what stands at the same place of the other list
+-- the item at the same index of the other list
 pub zip_left : {X Y : Type 0} (R : X → Y → Type 0) (xs : List X) (ys : List Y) (k : ℕ) (x : X) → AllZip R xs ys → slice_get xs k ≡ Some x → (y : Y) × (slice_get ys k ≡ Some y) × R x y
 zip_left R [] ys k x zip at = absurd (none-some x at)
 zip_left R (a ∷ xs) [] k x zip at = absurd zip

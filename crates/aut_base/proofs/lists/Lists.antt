@@ -1,4 +1,4 @@
--- Lists, by their places and their pieces, beyond what the standard library says of them.
+-- Lemmas on the indices and parts of lists that the standard library doesn't have.
 use Rattle.aut_base.proofs.numbers.Truth.{and_comm, or_comm}
 use Rattle.std.proofs.Common.{Bool, List, None, Some, [], ap, arith, cond, drop, false, filter, get_or, inl, inr, length, map, refl, slice_get, suc}
 use Rattle.std.proofs.Common.{sym, take, true, zero, ℕ, ◌&&◌, ◌++◌, ◌+◌, ◌-◌, ◌<◌, ◌==◌, ◌||◌, ◌∙◌, ◌∷◌, ◌≡◌, ◌≤◌, ◌⊎◌}
@@ -26,7 +26,7 @@ slice_get-push_left [] y i x is = absurd (none-some x is)
 slice_get-push_left (z ∷ xs) y zero x is = is
 slice_get-push_left (z ∷ xs) y (suc i) x is = slice_get-push_left xs y i x is
 
--- what stands in a list with one item more
+-- an item of a list to which one was added
 pub slice_get-push_cases : {X : Type 0} (xs : List X) (y : X) (i : ℕ) (x : X) → slice_get (xs ++ y ∷ []) i ≡ Some x → (slice_get xs i ≡ Some x) ⊎ ((i ≡ length xs) × (y ≡ x))
 slice_get-push_cases [] y zero x h = inr (refl, same_Some y x h)
 slice_get-push_cases [] y (suc i) x h = absurd (none-some x h)
@@ -44,18 +44,18 @@ slice_get-at [] i x l is = absurd (omega (arith, l))
 slice_get-at (y ∷ ys) zero x l is = ap Some (sym is)
 slice_get-at (y ∷ ys) (suc i) x l is = slice_get-at ys i x (omega (arith, l)) is
 
--- what is left of a list from a place on
+-- the rest of a list from an index on
 pub drop-at : {X : Type 0} (xs : List X) (i : ℕ) (x : X) → i < length xs → x ≡ get_or xs i x → drop i xs ≡ x ∷ drop (i + 1) xs
 drop-at xs i x l is = drop_more xs i x l ∙ ap (λ y. y ∷ drop (i + 1) xs) (sym is)
 
 pub take-push : {X : Type 0} (xs : List X) (i : ℕ) (x : X) → i < length xs → x ≡ get_or xs i x → take (i + 1) xs ≡ take i xs ++ x ∷ []
 take-push xs i x l is = take_more xs i x l ∙ ap (λ y. take i xs ++ y ∷ []) (sym is)
 
--- a list before, at and after a place
+-- a list is what is before an index, the item there, and what is after it
 pub split-at : {X : Type 0} (xs : List X) (i : ℕ) (x : X) → i < length xs → x ≡ get_or xs i x → xs ≡ take i xs ++ x ∷ drop (i + 1) xs
 split-at xs i x l is = sym (take-append-drop i xs) ∙ ap (λ d. take i xs ++ d) (drop_more xs i x l ∙ ap (λ y. y ∷ drop (i + 1) xs) (sym is))
 
--- what is left from the place of an item on
+-- the same, where the item is known by `slice_get`
 pub drop-slice_get_suc : {X : Type 0} (xs : List X) (i : ℕ) (x : X) → slice_get xs i ≡ Some x → drop i xs ≡ x ∷ drop (suc i) xs
 drop-slice_get_suc [] i x is = absurd (none-some x is)
 drop-slice_get_suc (y ∷ ys) zero x is = ap (λ z. z ∷ ys) (same_Some y x is)
@@ -64,7 +64,7 @@ drop-slice_get_suc (y ∷ ys) (suc i) x is = drop-slice_get_suc ys i x is
 pub drop-slice_get : {X : Type 0} (xs : List X) (i : ℕ) (x : X) → slice_get xs i ≡ Some x → drop i xs ≡ x ∷ drop (i + 1) xs
 drop-slice_get xs i x is = let next : suc i ≡ i + 1 = omega arith in drop-slice_get_suc xs i x is ∙ ap (λ n. x ∷ drop n xs) next
 
--- one more element of a front
+-- a prefix that is longer by an item
 pub take-slice_get_suc : {X : Type 0} (xs : List X) (i : ℕ) (x : X) → slice_get xs i ≡ Some x → take (suc i) xs ≡ take i xs ++ x ∷ []
 take-slice_get_suc [] i x is = absurd (none-some x is)
 take-slice_get_suc (y ∷ ys) zero x is = ap (λ z. z ∷ []) (same_Some y x is)
@@ -73,7 +73,7 @@ take-slice_get_suc (y ∷ ys) (suc i) x is = ap (λ zs. y ∷ zs) (take-slice_ge
 pub take-slice_get : {X : Type 0} (xs : List X) (i : ℕ) (x : X) → slice_get xs i ≡ Some x → take (i + 1) xs ≡ take i xs ++ x ∷ []
 take-slice_get xs i x is = let next : i + 1 ≡ suc i = omega arith in ap (λ n. take n xs) next ∙ take-slice_get_suc xs i x is
 
--- one byte more taken
+-- dropping another item
 pub drop_one_more : {A : Type 0} (taken : ℕ) (text : List A) → drop (taken + 1) text ≡ drop 1 (drop taken text)
 drop_one_more taken text = sym (drop-drop 1 taken text)
 
@@ -149,7 +149,7 @@ range_more a (suc n) =
 pub append_three : {A : Type 0} (a b c d : List A) → (a ++ (b ++ c)) ++ d ≡ a ++ (b ++ (c ++ d))
 append_three a b c d = append_assoc a (b ++ c) d ∙ ap (λ w. a ++ w) (append_assoc b c d)
 
--- what the numbers below one more give
+-- the lists of the numbers up to n are those of the numbers below n, and that of n
 pub flat_map-range_more : {A : Type 0} (f : ℕ → List A) (n : ℕ) → flat_map f (range_with_len 0 (n + 1)) ≡ flat_map f (range_with_len 0 n) ++ f n
 flat_map-range_more f n =
     let e : 0 + n ≡ n = omega arith in

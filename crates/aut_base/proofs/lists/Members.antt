@@ -1,4 +1,4 @@
--- What stands in a list: in one that is made of another, by its place, and by tests of some item or of all.
+-- Membership in lists: in lists made of others, by index, and by tests of some item or of all.
 use Rattle.std.proofs.Common.{◌≡◌, ◌∙◌, ◌↔◌, ◌⊎◌, ◌&&◌, ◌+◌, ◌<◌, ◌≤◌, ℕ, zero, suc, Bool, true, false, cond, List, [], ◌∷◌, ◌++◌, All, Contains, Some, ap}
 use Rattle.std.proofs.Common.{arith, filter, get_or, inl, inr, length, map, refl, slice_get, subst, sym, take}
 use Rattle.std.proofs.lemmas.Bool.{and_from, and_parts, cases_eq, or_cases, or_left, or_parts, or_right, true≢false}
@@ -24,11 +24,11 @@ pub there_cases : {X : Type 0} (x : X) (xs : List X) (y : X) → Contains (x ∷
 there_cases x xs y (zero, within, is) = inl is
 there_cases x xs y (suc k, within, is) = inr (k, omega (arith, within), is)
 
--- what each item has, it has by being there
+-- what holds of each member holds of each item
 pub each_there : {X : Type 0} (P : X → Type 0) (xs : List X) → ((x : X) → Contains xs x → P x) → All P xs
 each_there P xs h k d within = h (get_or xs k d) (Contains-get_or xs k d within)
 
--- what holds of each item of two lists holds of those of the first, and of the second
+-- what holds of each item of two lists together holds of each of the first, and of each of the second
 pub all_of_first : {X : Type 0} (P : X → Type 0) (xs ys : List X) → All P (xs ++ ys) → All P xs
 all_of_first P xs ys all k d within = All-contains P (xs ++ ys) (get_or xs k d) all (Contains-append_left xs ys (get_or xs k d) (Contains-get_or xs k d within))
 
@@ -45,7 +45,7 @@ from_map f (x ∷ xs) y there = elim (there_cases (f x) (map f xs) y there) [
   | inr later ↦ (let rest = from_map f xs y later in (rest.0, later_there x xs rest.0 rest.1, rest.2))
 ]
 
--- two functions that agree on what the list contains
+-- functions that agree on the members of a list map it to the same list
 pub map_alike : {X Y : Type 0} (f g : X → Y) (xs : List X) → ((x : X) → Contains xs x → f x ≡ g x) → map f xs ≡ map g xs
 map_alike f g [] same = refl
 map_alike f g (x ∷ xs) same = λ i. same x (zero, omega arith, refl) i ∷ map_alike f g xs (λ y there. same y (suc there.0, omega (arith, there.1), there.2)) i
@@ -97,7 +97,7 @@ from_range a n x there =
     let is : a + there.0 ≡ x = sym (get_or-range_with_len a n there.0 x within) ∙ there.2 in
     (omega (arith, is), omega (arith, is, within))
 
--- a test that tells what is equal
+-- a test of equality
 abbrev pub Tells : {X : Type 0} → (X → X → Bool) → Type 0
 Tells {X} same = (a b : X) → (same a b ≡ true) ↔ (a ≡ b)
 
@@ -110,7 +110,7 @@ found_there same tells x xs some =
 pub there_found : {X : Type 0} (same : X → X → Bool) → Tells same → (x : X) (xs : List X) → Contains xs x → list_any (same x) xs ≡ true
 there_found same tells x xs there = list_any_at (same x) xs there.0 x there.1 ((tells x (get_or xs there.0 x)).1 (sym there.2))
 
--- what each item has, the item that was read has
+-- what holds of each item holds of the one that was read
 pub read_has : {X : Type 0} (P : X → Type 0) (xs : List X) (i : ℕ) (x : X) → All P xs → i < length xs → x ≡ get_or xs i x → P x
 read_has P xs i x all within is = subst P (sym is) (all i x within)
 
@@ -119,7 +119,7 @@ placed_there [] i x is = absurd (none-some x is)
 placed_there (y ∷ ys) zero x is = subst (Contains (y ∷ ys)) (same_Some y x is) (first_there y ys)
 placed_there (y ∷ ys) (suc i) x is = later_there y ys x (placed_there ys i x is)
 
--- a test of some item, by what stands there
+-- some item passes a test where a member does
 pub any_from : {A : Type 0} (p : A → Bool) (xs : List A) (x : A) → Contains xs x → p x ≡ true → list_any p xs ≡ true
 any_from p [] x h passes = absurd (none_there x h)
 any_from p (y ∷ ys) x h passes = elim (there_cases y ys x h) [
@@ -140,7 +140,7 @@ none_at p (y ∷ ys) x none h =
     let parts = or_parts (p y) (list_any p ys) none in
     elim (there_cases y ys x h) [ inl e ↦ ap p (sym e) ∙ parts.0 | inr rest ↦ none_at p ys x parts.1 rest ]
 
--- by the item at a place
+-- or where the item at an index does
 pub any_at : {A : Type 0} (p : A → Bool) (xs : List A) (i : ℕ) (x : A) → slice_get xs i ≡ Some x → p x ≡ true → list_any p xs ≡ true
 any_at p xs i x is passes = any_from p xs x (placed_there xs i x is) passes
 

@@ -1,4 +1,4 @@
--- What has been done with a list up to a place, element by element, and what is to come.
+-- Loops over a list: the items up to an index, and those that are left.
 use Rattle.aut_base.proofs.lists.Lists.{drop-slice_get, take-push, take-slice_get}
 use Rattle.std.proofs.Common.{Bool, List, Some, [], ap, drop, false, get_or, length, map, slice_get, sym, take, true, ℕ, ◌&&◌, ◌++◌, ◌+◌, ◌||◌, ◌∙◌, ◌∷◌, ◌≡◌, ◌≤◌, ◌<◌}
 use Rattle.std.proofs.lemmas.List.Concat.{flat_map-append}
@@ -6,7 +6,7 @@ use Rattle.std.proofs.lemmas.List.{append-nil, append_assoc, drop_all, map-appen
 use Rattle.std.specs.List.{list_all, list_any}
 use Rattle.std.specs.Prelude.{flat_map}
 
--- A test of the elements one after the other: those so far did not decide it.
+-- Where no item so far decides a test, and the next one doesn't, the rest after it does.
 pub any_more : {A : Type 0} (p : A → Bool) (xs : List A) (k : ℕ) (x : A) → slice_get xs k ≡ Some x → list_any p (drop k xs) ≡ list_any p xs → p x ≡ false → list_any p (drop (k + 1) xs) ≡ list_any p xs
 any_more p xs k x is so_far fails = sym (ap (λ b. b || list_any p (drop (k + 1) xs)) fails) ∙ sym (ap (list_any p) (drop-slice_get xs k x is)) ∙ so_far
 
@@ -41,7 +41,7 @@ rest_more xs k x old new all y is so_far e made =
     ∙ sym (ap (λ zs. old ++ zs) (drop-slice_get xs k x is))
     ∙ so_far
 
--- what was added for the items so far, and for the next one
+-- the images of the items so far, and that of the next one
 pub map_on : {X Y : Type 0} (f : X → Y) (xs : List X) (i : ℕ) (x : X) → i < length xs → x ≡ get_or xs i x → map f (take i xs) ++ f x ∷ [] ≡ map f (take (i + 1) xs)
 map_on f xs i x within is = sym (ap (map f) (take-push xs i x within is) ∙ map-append f (take i xs) (x ∷ []))
 

@@ -1,4 +1,4 @@
--- Sums and products that stop at a last number.
+-- Saturating sums and products.
 use Rattle.std.proofs.Common.{◌≡◌, ◌∙◌, ℕ, zero, suc, ◌+◌, ◌*◌, ◌≤◌, ◌<◌, min, sym, ap, subst, arith, ⊎_elim}
 use Rattle.std.proofs.Math.Nat.{min-eq_left, min-eq_right, zero-min, suc-min-suc}
 use Rattle.std.proofs.lemmas.Bool.{cases_lt}
@@ -9,7 +9,7 @@ capped_add s a b = omega arith
 grows : (x y : ℕ) → x ≤ x * suc y
 grows x y = omega arith
 
--- a product with a number that is past the last
+-- a product with a number that is greater than the last
 passed_mul : (s a b : ℕ) → s < a → min (s * min b s) s ≡ min (a * b) s
 passed_mul s a zero past = let none : min (s * 0) s ≡ min (a * 0) s = omega arith in ap (λ n. min (s * n) s) (zero-min s) ∙ none
 passed_mul zero a (suc b) past = omega arith

@@ -1,4 +1,4 @@
--- Lists whose items stand pair by pair in some relation.
+-- Lists of which each item is in some relation to each later one.
 use Rattle.std.proofs.Common.{zero, suc, List, [], ◌∷◌, ◌++◌, All, AllPairs, arith, map}
 use Rattle.std.proofs.lemmas.List.Elements.{All-append, All-map, All-tail}
 use Rattle.std.proofs.lemmas.List.Kept.{AllPairs-cons}

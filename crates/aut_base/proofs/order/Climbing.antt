@@ -1,4 +1,4 @@
--- Edges whose states rise, from some state on: put together row by row, and as a list in order.
+-- Edges in the order of the states that they leave, from some state on: appended state by state, and as one list in order.
 use Rattle.std.proofs.Common.{◌≡◌, ◌+◌, ◌≤◌, ℕ, zero, suc, List, [], ◌∷◌, ◌++◌, All, append_assoc, arith, map, subst, sym}
 use Rattle.std.proofs.lemmas.List.{get_or-map, length-map}
 use Rattle.std.proofs.lemmas.List.Elements.{All-cons, All-tail}
@@ -11,7 +11,7 @@ use Rattle.aut_base.specs.Automaton.{LabelledEdge}
 abbrev pub AllFrom : ℕ → List LabelledEdge → Type 0
 AllFrom q = All (λ e. e.from ≡ q)
 
--- the states that the edges leave rise, from this one on
+-- the edges are in the order of the states that they leave, none of which is before this one
 abbrev pub Climbs : ℕ → List LabelledEdge → Type 0
 Climbs low [] = Unit {0}
 Climbs low (e ∷ es) = (low ≤ e.from) × Climbs e.from es
@@ -46,7 +46,7 @@ climbs_in_order low (e ∷ es) climbs zero (suc j) d le within =
 climbs_in_order low (e ∷ es) climbs (suc i) zero d le within = absurd (omega (arith, le))
 climbs_in_order low (e ∷ es) climbs (suc i) (suc j) d le within = climbs_in_order e.from es climbs.1 i j d (omega (arith, le)) (omega (arith, within))
 
--- and edges in that order climb
+-- and edges in that order are such a list
 pub in_order_climbs : (low : ℕ) (es : List LabelledEdge) → All (λ e. low ≤ e.from) es → IsNonDecreasing (map (λ e. e.from) es) → Climbs low es
 in_order_climbs low [] least rises = tt
 in_order_climbs low (e ∷ es) least rises = (

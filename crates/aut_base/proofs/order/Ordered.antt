@@ -1,4 +1,4 @@
--- Lists that stand in order, and what is kept of a list.
+-- Ordered lists, and the items of a list that pass a test.
 use Rattle.aut_base.proofs.lists.AllByRecursion.{AllByRecursion-from_map, AllByRecursion-weaker}
 use Rattle.aut_base.proofs.numbers.Truth.{or_comm}
 use Rattle.std.proofs.Common.{All, AllPairs, Bool, List, [], ap, arith, cond, false, filter, get_or, length, map, nat_lt, refl, suc, sym, true, zero}
@@ -9,7 +9,7 @@ use Rattle.std.proofs.lemmas.List.Elements.{All-cons, All-tail, recursion_from_A
 use Rattle.std.specs.List.{AllByRecursion, list_all, list_any, range_with_len}
 use Rattle.std.specs.Prelude.{flat_map}
 
--- each item stands so to every later one
+-- each item is in the relation to every later one
 abbrev pub Pairs : {X : Type 0} → (X → X → Type 0) → List X → Type 0
 Pairs R [] = Unit {0}
 Pairs R (x ∷ xs) = AllByRecursion (R x) xs × Pairs R xs
@@ -45,13 +45,13 @@ pub none_pass : {X : Type 0} (p : X → Bool) (xs : List X) → AllByRecursion (
 none_pass p [] all = refl
 none_pass p (x ∷ xs) all = ap (λ b. b || list_any p xs) all.0 ∙ none_pass p xs all.1
 
--- one more number
+-- m is below n + 1 where it is below n or is n
 lt_more : (m n : ℕ) (b c : Bool) → nat_lt m n ≡ b → (m == n) ≡ c → nat_lt m (suc n) ≡ (b || c)
 lt_more m n true c p q = lt-ltb m (suc n) (omega (arith, ltb-true m n p))
 lt_more m n false true p q = lt-ltb m (suc n) (omega (arith, eqb-true m n q))
 lt_more m n false false p q = le-ltb m (suc n) (omega (arith, ltb-false m n p, eqb-false m n q))
 
--- what stands below n, at n
+-- the items with a key below n, and those with the key n
 abbrev pub Under : {X : Type 0} → (X → ℕ) → ℕ → List X → List X
 Under key n = filter (λ x. nat_lt (key x) n)
 
@@ -89,7 +89,7 @@ pub map_flat_map : {X Y Z : Type 0} (f : Y → Z) (g : X → List Y) (xs : List 
 map_flat_map f g [] = refl
 map_flat_map f g (x ∷ xs) = ap (λ ys. map f (g x) ++ ys) (map_flat_map f g xs) ∙ sym (map-append f (g x) (flat_map g xs))
 
--- a list kept in part is put together item by item
+-- the items of a list that pass, one item after another
 one_kept : {X : Type 0} (x : X) (b : Bool) (xs : List X) → cond b (x ∷ xs) xs ≡ cond b (x ∷ []) [] ++ xs
 one_kept x true xs = refl
 one_kept x false xs = refl
@@ -98,7 +98,7 @@ pub filter_by_one : {X : Type 0} (p : X → Bool) (xs : List X) → filter p xs 
 filter_by_one p [] = refl
 filter_by_one p (x ∷ xs) = one_kept x (p x) (filter p xs) ∙ ap (λ ys. cond (p x) (x ∷ []) [] ++ ys) (filter_by_one p xs)
 
--- numbers that follow one another
+-- the bounds of a range
 pub range_within : (i n : ℕ) → AllByRecursion (λ x. (i ≤ x) × (x < i + n)) (range_with_len i n)
 range_within i zero = tt
 range_within i (suc n) = (
@@ -151,7 +151,7 @@ pub kept_rest : {X : Type 0} (P : X → Type 0) (x : X) (xs : List X) (b : Bool)
 kept_rest P x xs true all = All-tail P x xs all
 kept_rest P x xs false all = all
 
--- what is true of all that is kept
+-- what holds of all items that pass
 pub of_kept : {X : Type 0} (P : X → Type 0) (p : X → Bool) (xs : List X) → All P (filter p xs) → All (λ x. p x ≡ true → P x) xs
 of_kept P p [] all = λ k d w. absurd (omega (arith, w))
 of_kept P p (x ∷ xs) all = All-cons (λ y. p y ≡ true → P y) x xs (kept_here P x (filter p xs) (p x) all) (of_kept P p xs (kept_rest P x (filter p xs) (p x) all))

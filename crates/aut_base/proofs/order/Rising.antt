@@ -1,4 +1,4 @@
--- Edges in the order of the states that they leave, and marks that rise, put together piece by piece.
+-- Edges in the order of the states that they leave, and increasing marks: how such lists are appended.
 use Rattle.std.proofs.Common.{◌≡◌, ◌+◌, ◌<◌, ◌≤◌, ℕ, zero, suc, Bool, true, false, cond, List, [], ◌∷◌, ◌++◌, All, AllPairs, Contains, arith, filter, flat_map, get_or, length, map, subst, sym}
 use Rattle.std.specs.List.{range_with_len}
 use Rattle.std.specs.List.Sorted.{IsNonDecreasing}
@@ -7,7 +7,7 @@ use Rattle.std.proofs.lemmas.List.Elements.{All-head, All-tail}
 use Rattle.aut_base.specs.Automaton.{LabelledEdge}
 use Rattle.aut_base.proofs.lists.Members.{first_there, later_there}
 
--- the edges stand in order, and leave states from `low` on and below `high`
+-- the edges are in the order of the states that they leave, which are from `low` on and below `high`
 abbrev pub Rises : ℕ → ℕ → List LabelledEdge → Type 0
 Rises low high [] = Unit {0}
 Rises low high (e ∷ es) = (low ≤ e.from) × (e.from < high) × Rises e.from high es
@@ -20,7 +20,7 @@ pub rises_then : (low mid high : ℕ) (es fs : List LabelledEdge) → low ≤ mi
 rises_then low mid high [] fs l h first second = rises_wider mid low high high fs l (omega arith) second
 rises_then low mid high (e ∷ es) fs l h first second = (first.0, omega (arith, first.1), rises_then e.from mid high es fs (omega (arith, first.1)) h first.2 second)
 
--- edges that leave one state, and more from there on
+-- edges that leave one state, and more that leave states from there on
 pub rises_at : (low at high : ℕ) (es fs : List LabelledEdge) → low ≤ at → at < high → ((e : LabelledEdge) → Contains es e → e.from ≡ at) → Rises at high fs → Rises low high (es ++ fs)
 rises_at low at high [] fs l h same rest = rises_wider at low high high fs l (omega arith) rest
 rises_at low at high (e ∷ es) fs l h same rest =
@@ -47,7 +47,7 @@ rises_moved f by is low high [] r = tt
 rises_moved f by is low high (e ∷ es) r =
     (omega (arith, is e, r.0), omega (arith, is e, r.1), subst (λ (n : ℕ). Rises n (by + high) (map f es)) (sym (is e)) (rises_moved f by is e.from high es r.2))
 
--- pieces for numbers that follow one another
+-- lists for the numbers of a range, appended
 pub rises_pieces : (f : ℕ → List LabelledEdge) (place : ℕ → ℕ) → ((x : ℕ) → place x ≤ place (x + 1)) → (a n : ℕ) → ((x : ℕ) → a ≤ x → x < a + n → Rises (place x) (place (x + 1)) (f x))
     → Rises (place a) (place (a + n)) (flat_map f (range_with_len a n))
 rises_pieces f place grows a zero each = tt
@@ -87,7 +87,7 @@ risen high (e ∷ es) order below low first = (
       (λ d some. order 0 1 d (omega arith) (omega (arith, some, length-map es (λ (f : LabelledEdge). f.from)))),
 )
 
--- numbers that rise, from `low` on
+-- increasing numbers, from `low` on
 abbrev pub Increases : ℕ → List ℕ → Type 0
 Increases low [] = Unit {0}
 Increases low (x ∷ xs) = (low ≤ x) × Increases (x + 1) xs

@@ -1,4 +1,4 @@
--- Lists of numbers that rise: two with the same members are one.
+-- Strictly increasing lists of numbers: two with the same members are equal.
 use Rattle.std.proofs.Common.{◌≡◌, ◌+◌, ◌<◌, ◌≤◌, ℕ, suc, AllPairs, Bool, true, Contains, List, [], ◌∷◌, arith, filter, get_or, inl, inr, length, refl, subst, sym}
 use Rattle.std.proofs.lemmas.List.Kept.{AllPairs-from_increasing}
 use Rattle.std.specs.List.{range_with_len}
@@ -42,7 +42,7 @@ increases_of low (x ∷ xs) rises first = (
 pub same_rising : (xs ys : List ℕ) → AllPairs (λ x y. x < y) xs → AllPairs (λ x y. x < y) ys → ((q : ℕ) → Contains xs q → Contains ys q) → ((q : ℕ) → Contains ys q → Contains xs q) → xs ≡ ys
 same_rising xs ys one other = same_members 0 xs ys (increases_of 0 xs one (λ d some. omega arith)) (increases_of 0 ys other (λ d some. omega arith))
 
--- one that has the numbers below n that pass
+-- one whose members are the numbers below n that pass a test
 pub kept_of_range : (p : ℕ → Bool) (n : ℕ) (xs : List ℕ) → IsStrictlyIncreasing xs → ((q : ℕ) → Contains xs q → (q < n) × (p q ≡ true)) → ((q : ℕ) → q < n → p q ≡ true → Contains xs q)
     → xs ≡ filter p (range_with_len 0 n)
 kept_of_range p n xs rises to back = same_members 0 xs (filter p (range_with_len 0 n)) (increases_of 0 xs (AllPairs-from_increasing xs rises) (λ d some. omega arith))

@@ -1,4 +1,4 @@
--- What makes an automaton well formed, found out place by place.
+-- That a description is well formed, tested for one index after another.
 use Rattle.std.proofs.Common.{◌≡◌, ◌≢◌, ℕ, ◌<◌, ◌≤◌, ◌-◌, ◌∙◌, sym, ap, subst, arith, List, [], ◌∷◌, map, length, get_or, All, AllPairs}
 use Rattle.std.proofs.lemmas.List.{get_or-map, length-map}
 use Rattle.std.proofs.lemmas.List.Sorted.{IsNonDecreasingBy-from_all_adjacent}
@@ -20,7 +20,7 @@ well_formed d names states starts order edges formula = record {
   formula = formula;
 }
 
--- the edge at a place
+-- the edge at an index
 tree_edge_at : (edges : List Edge) (i : ℕ) (e : Edge) → i < length edges → e ≡ get_or edges i e → get_or (map labelled_edge edges) i (labelled_edge e) ≡ labelled_edge e
 tree_edge_at edges i e within is = get_or-map labelled_edge edges i e (labelled_edge e) within ∙ ap labelled_edge (sym is)
 
@@ -57,7 +57,7 @@ out_of_order edges i x y some within at_x at_y less order =
     let right = ap (λ (e : Edge). e.from) at_y in
     absurd (omega arith)
 
--- an edge that all edges are like
+-- what holds of all edges holds of the one at an index
 pub one_of_all : (P : LabelledEdge → Type 0) (edges : List Edge) (i : ℕ) (e : Edge) → i < length edges → e ≡ get_or edges i e → All P (map labelled_edge edges) → P (labelled_edge e)
 one_of_all P edges i e within is all =
     let size = length-map edges labelled_edge in

@@ -1,4 +1,4 @@
--- The worked examples.
+-- Which words the example automata accept.
 use Rattle.std.proofs.Common.{◌≡◌, ◌∙◌, ◌⊎◌, inl, inr, ℕ, zero, suc, ◌<◌, Bool, true, false, not, if◌then◌else◌, refl, sym, ap, subst, lit<, List, ◌∷◌, [], map, length, Contains, get_or, arith}
 use Rattle.std.specs.FinSet as set
 use Rattle.std.specs.List.{list_any}
@@ -116,7 +116,7 @@ ever_after_on_off r = go (cases_eq r.state 1)
     go (inl at) = no_round r.rounds r.positive (stays r.state (copies r.rounds (on ∷ off ∷ [])) r.cycle r.state at r.returns).1
     go (inr away) = false≢true (sym (no_mark r.state (copies r.rounds (on ∷ off ∷ [])) r.cycle r.state away r.returns) ∙ r.meets)
 
--- The letters with a foreign name.
+-- The letters at which the foreign proposition holds.
 on_and_foreign_a : set.contains on_and_foreign name_a ≡ true
 on_and_foreign_a = set.contains-insert nat_list_cmp_total (set.from_list (name_b ∷ [])) name_a name_a
 
@@ -144,7 +144,7 @@ stays_there starts p (x ∷ xs) [] q path = absurd path
 stays_there starts p (x ∷ xs) (e ∷ es) q path =
     stays_there starts e.to xs es q path.3 ∙ ((is_loop starts x e path.1 path.2).stays ∙ sym path.0)
 
--- where a path that begins with this letter stands
+-- the state at which a path can read this letter
 stands : (starts : List ℕ) (p : ℕ) (x : NameSet) (xs : List NameSet) (es : List LabelledEdge) (q : ℕ) → IsPath (either_way starts) p (x ∷ xs) es q → p ≡ (if set.contains x name_a then 0 else 1)
 stands starts p x xs [] q path = absurd path
 stands starts p x xs (e ∷ es) q path = path.0 ∙ (is_loop starts x e path.1 path.2).reads

@@ -1,5 +1,5 @@
--- Runs over a lasso word: a path to a state, and one from there back to it. A run can be taken to close later, after
--- more turns of the cycle, and to go round more often, and keeps what conditions its cycle meets.
+-- Runs over a lasso word: a path to a state, and a closed path from there. Its closed path can be taken to begin later, after
+-- more turns of the word's cycle, and to be repeated, and still meets the same conditions.
 use Rattle.std.proofs.Common.{◌≡◌, ◌∙◌, ℕ, zero, suc, ◌+◌, ◌*◌, ◌<◌, true, List, ◌++◌, Contains, ap, append_assoc, arith, length, map, refl, subst, sym}
 use Rattle.std.proofs.lemmas.List.{map-append}
 use Rattle.std.proofs.lemmas.List.Folds.{list_all-append, list_any-append}
@@ -14,7 +14,7 @@ use Rattle.aut_base.specs.Formula.{FormulaTree, met}
 use Rattle.aut_base.specs.Word.{NameSet, copies}
 use Rattle.aut_base.specs.Runs.{LassoRun}
 
--- the cycle as conditions see it
+-- the marks of the edges of a cycle, on which conditions depend
 abbrev pub marks_of : List LabelledEdge → List (List ℕ)
 marks_of = map (λ e. e.marks)
 
@@ -37,8 +37,7 @@ accepts_of a u v turns rounds r endless positive meets = record {
   meets = meets;
 }
 
--- a word that an automaton accepts is accepted by another in which the same run begins at a start and goes along edges, if its
--- cycle meets the other's condition
+-- a word that an automaton accepts is accepted by another too, if the run is a run of that one and its cycle meets its condition
 pub accepts_too : (a b : Automaton) (u v : List NameSet) (r : Accepts a u v) → Contains b.starts r.start → IsPath b r.start (u ++ copies r.turns v) r.way r.state
     → IsPath b r.state (copies r.rounds v) r.cycle r.state → met (marks_of r.cycle) b.formula ≡ true → Accepts b u v
 accepts_too a b u v r is_start leads returns meets =

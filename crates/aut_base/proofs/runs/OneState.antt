@@ -65,7 +65,7 @@ pub one_state_accepts : (at_on at_off : List ℕ) (sets : ℕ) (f : FormulaTree)
     → Accepts (one_state at_on at_off sets f) u v ↔ (met (map (marks_at at_on at_off) v) f ≡ true)
 one_state_accepts at_on at_off sets f u v endless = (from, to)
   where
-    -- however often the cycle is gone, the marks are the same
+    -- however often the cycle is repeated, it has the same marks
     same_marks : (k p q : ℕ) (cycle : List LabelledEdge) → 0 < k → IsPath (one_state at_on at_off sets f) p (copies k v) cycle q
         → met (map (λ e. e.marks) cycle) f ≡ met (map (marks_at at_on at_off) v) f
     same_marks k p q cycle some path =

@@ -1,5 +1,5 @@
--- An automaton accepts what another accepts if, for each edge that can be gone at a letter, it has one between the same
--- states and with the same marks that can be gone at that letter too.
+-- An automaton accepts what another accepts if, for each edge of that one and each letter of its label, it has an edge between the
+-- same states and with the same marks whose label holds of that letter too.
 use Rattle.std.proofs.Common.{◌≡◌, ◌∙◌, ◌↔◌, ◌<◌, ℕ, true, List, [], ◌∷◌, ◌++◌, length, map, get_or, Contains, refl, sym, ap, subst, arith}
 use Rattle.std.proofs.lemmas.List.{get_or-map, length-map}
 use Rattle.std.proofs.lemmas.List.Elements.{Contains-get_or}
@@ -41,9 +41,9 @@ pub accepts_wider : (a b : Automaton) → a.names ≡ b.names → ((e : Labelled
     → met (marks_of r.cycle) b.formula ≡ true → Accepts b u v
 accepts_wider a b names has u v r is_start meets = accepts_of b u v r.turns r.rounds (run_wider a b u v names has r.turns r.rounds (run_of a u v r) is_start) r.endless r.positive meets
 
--- ---- edges that can be gone at the same letters
+-- ---- edges for the same letters
 
--- an edge of the automaton that can be gone at the letter in place of this one
+-- an edge of the automaton between the same states and with the same marks as this one, whose label holds of the letter
 pub record Twin (b : Automaton) (x : NameSet) (e : LabelledEdge) : Type 0 where
   pub twin : LabelledEdge
   pub there : Contains b.edges twin
@@ -90,7 +90,7 @@ accepts_follows a b follows starts formula u v r =
     } in
     accepts_of b u v r.turns r.rounds run r.endless r.positive (ap (λ marks. met marks b.formula) cycle.marks ∙ (ap (met (marks_of r.cycle)) (sym formula) ∙ r.meets))
 
--- the edges of one automaton are those of the other, with labels that say the same
+-- the edges of one automaton are those of the other under labels that are true at the same letters
 pub record Relabels (a b : Automaton) (f : LabelledEdge → LabelledEdge) : Type 0 where
   pub edges : b.edges ≡ map f a.edges
   pub starts : b.starts ≡ a.starts
@@ -137,7 +137,7 @@ relabelled_accepts a b f new u v = (
   accepts_follows a b (old_follows a b f new) (λ s. subst (λ starts. Contains starts s) (sym new.starts)) (sym new.formula) u v,
 )
 
--- the same edges, under labels that say the same over these names
+-- the same edges under other labels, which are true over these names at the same letters
 pub other_labels_accept : (a : Automaton) (names : List (List ℕ)) (label : LabelledEdge → LabelTree)
     → ((e : LabelledEdge) (x : NameSet) → Contains a.edges e → truth (holds_at names x) (label e) ≡ truth (holds_at a.names x) e.label)
     → (u v : List NameSet) → Accepts (record a { names = names; edges = map (λ (e : LabelledEdge). record e { label = label e }) a.edges }) u v ↔ Accepts a u v

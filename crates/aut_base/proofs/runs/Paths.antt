@@ -1,4 +1,4 @@
--- Paths put together and taken apart.
+-- Concatenation and splitting of paths.
 use Rattle.std.proofs.Common.{◌≡◌, ℕ, zero, suc, ◌<◌, List, [], ◌∷◌, ◌++◌, ap, arith, length, refl, subst, sym}
 use Rattle.std.proofs.lemmas.Nat.{mul-lt}
 use Rattle.aut_base.proofs.lists.Copies.{length-copies}
@@ -13,7 +13,7 @@ path_join a p r q [] ys (e ∷ es) fs first second = absurd first
 path_join a p r q (x ∷ xs) ys [] fs first second = absurd first
 path_join a p r q (x ∷ xs) ys (e ∷ es) fs first second = (first.0, first.1, first.2, path_join a e.to r q xs ys es fs first.3 second)
 
--- a path that reads one list and then another, in two
+-- the two parts of a path that reads one list and then another
 pub record Halves (a : Automaton) (p q : ℕ) (xs ys : List NameSet) (es : List LabelledEdge) : Type 0 where
   pub middle : ℕ
   pub front : List LabelledEdge
@@ -36,7 +36,7 @@ path_split a p q (x ∷ xs) ys (e ∷ es) path =
       second = rest.second;
     }
 
--- a closed path, gone some times
+-- a closed path, repeated k times
 pub path_copies : (a : Automaton) (q : ℕ) (k : ℕ) (xs : List NameSet) (es : List LabelledEdge) → IsPath a q xs es q → IsPath a q (copies k xs) (copies k es) q
 path_copies a q zero xs es path = refl
 path_copies a q (suc k) xs es path = path_join a q q q xs (copies k xs) es (copies k es) path (path_copies a q k xs es path)

@@ -1,4 +1,4 @@
--- Paths that read an infinite word from some moment on, which split and join wherever one likes.
+-- Paths that read an infinite word from some position on, and how they split and join.
 use Rattle.std.proofs.Common.{◌≡◌, ◌∙◌, ℕ, zero, suc, ◌+◌, ◌*◌, ◌<◌, true, List, [], ◌∷◌, ◌++◌, length, Option, Some, Contains, slice_get, refl, sym, ap, subst, arith}
 use Rattle.std.proofs.lemmas.Option.{same_Some}
 use Rattle.aut_base.specs.Acceptance.{IsPath}
@@ -6,13 +6,13 @@ use Rattle.aut_base.specs.Automaton.{LabelledEdge, Automaton}
 use Rattle.aut_base.specs.Label.{truth, holds_at}
 use Rattle.aut_base.specs.Word.{NameSet, copies}
 
--- the path reads the letters of `w` from moment n on
+-- the path reads the letters of `w` from position n on
 abbrev pub Reads : Automaton → (ℕ → Option NameSet) → ℕ → ℕ → List LabelledEdge → ℕ → Type 0
 Reads a w n p [] q = p ≡ q
 Reads a w n p (e ∷ es) q =
     (p ≡ e.from) × Contains a.edges e × ((x : NameSet) → w n ≡ Some x → truth (holds_at a.names x) e.label ≡ true) × Reads a w (n + 1) e.to es q
 
--- these letters are those of `w` from moment n on
+-- these letters are those of `w` from position n on
 abbrev pub Agrees : (ℕ → Option NameSet) → ℕ → List NameSet → Type 0
 Agrees w n xs = (k : ℕ) → k < length xs → w (n + k) ≡ slice_get xs k
 
@@ -47,7 +47,7 @@ reads_path a w n p (x ∷ xs) [] q agrees long reads = absurd (omega arith)
 reads_path a w n p (x ∷ xs) (e ∷ es) q agrees long reads =
     (reads.0, reads.1, reads.2 x (agrees_first w n x xs agrees), reads_path a w (n + 1) e.to xs es q (agrees_rest w n x xs agrees) (omega arith) reads.3)
 
--- where a path that begins in p ends
+-- the state at which a path from p ends
 abbrev pub ends : ℕ → List LabelledEdge → ℕ
 ends p [] = p
 ends p (e ∷ es) = ends e.to es
@@ -72,7 +72,7 @@ split_second a w n m p q [] fs at reads =
     subst Q same reads
 split_second a w n m p q (e ∷ es) fs at reads = split_second a w (n + 1) m e.to q es fs (omega arith) reads.3
 
--- A closed path of j times l edges, which can be gone at each moment o + s * l, can be gone again and again.
+-- A closed path of j times l edges that can read the word from each position o + s * l on can be repeated there.
 pub repeated : (a : Automaton) (w : ℕ → Option NameSet) (o l j q : ℕ) (cycle : List LabelledEdge) → length cycle ≡ j * l → ((s : ℕ) → Reads a w (o + s * l) q cycle q) → (k s : ℕ)
     → Reads a w (o + s * l) q (copies k cycle) q
 repeated a w o l j q cycle long round zero s = refl

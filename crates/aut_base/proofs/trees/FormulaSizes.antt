@@ -14,7 +14,7 @@ formula_size-And p = ap formula_size (formula_tree-And p)
 pub formula_size-Or : (p : Formulas) → formula_size (formula_tree (Or p)) ≡ 1 + formulas_size (trees (formula_list p))
 formula_size-Or p = ap formula_size (formula_tree-Or p)
 
--- the part at a place
+-- the part at an index
 pub formula_size-at : (parts : List FormulaTree) (place : ℕ) (part : FormulaTree) → slice_get parts place ≡ Some part → formula_size part ≤ formulas_size (trees parts)
 formula_size-at [] place part is = absurd (none-some part is)
 formula_size-at (x ∷ xs) zero part is = let same : formula_size x ≡ formula_size part = ap formula_size (same_Some x part is) in omega arith

@@ -6,7 +6,7 @@ use Rattle.aut_base.specs.declared.formula.Formula.TheOpen.{Formula-F, Formulas-
 use Rattle.aut_base.specs.declared.formula.Formula.TheFolds.{fold-roll-Formula, fold_out-Formulas}
 use Rattle.aut_base.specs.declared.formula.Formulas.{Formulas}
 
--- the trees of one layer of parts
+-- the parts of one level, as trees
 abbrev parts_step : Formulas-F FormulaTree FormulaParts → FormulaParts
 parts_step ls = record { first = ls.first.value; second = ls.second.value; others = ls.others.items }
 
@@ -28,20 +28,20 @@ formula_tree-And p = ap formula_tree (sym (rolls-And p)) ∙ fold-roll-Formula F
 pub formula_tree-Or : (p : Formulas) → formula_tree (Or p) ≡ FormulaTree.Or (formula_parts p).first (formula_parts p).second (trees (formula_parts p).others)
 formula_tree-Or p = ap formula_tree (sym (rolls-Or p)) ∙ fold-roll-Formula FormulaTree FormulaParts formula_step parts_step (Formula-F.Or p)
 
--- the parts, by what the fields hold
+-- the parts, by the fields
 pub formula_parts-fields : (p : Formulas) → formula_parts p ≡ record { first = formula_tree p.first.value; second = formula_tree p.second.value; others = map formula_tree p.others.items }
 formula_parts-fields p = fold_out-Formulas FormulaTree FormulaParts formula_step parts_step p
 
--- the list of parts, by what the fields hold
+-- the list of parts, by the fields
 pub formula_list-fields : (p : Formulas) → formula_list p ≡ formula_tree p.first.value ∷ formula_tree p.second.value ∷ map formula_tree p.others.items
 formula_list-fields p = ap (λ parts. parts.first ∷ parts.second ∷ parts.others) (formula_parts-fields p)
 
--- What a conjunction and a disjunction say, by what the fields hold.
+-- The trees of a conjunction and of a disjunction, by the fields.
 pub formula_tree-And-fields : (p : Formulas) → formula_tree (And p) ≡ FormulaTree.And (formula_tree p.first.value) (formula_tree p.second.value) (trees (map formula_tree p.others.items))
 formula_tree-And-fields p = formula_tree-And p ∙ ap (λ parts. FormulaTree.And parts.first parts.second (trees parts.others)) (formula_parts-fields p)
 
 pub formula_tree-Or-fields : (p : Formulas) → formula_tree (Or p) ≡ FormulaTree.Or (formula_tree p.first.value) (formula_tree p.second.value) (trees (map formula_tree p.others.items))
 formula_tree-Or-fields p = formula_tree-Or p ∙ ap (λ parts. FormulaTree.Or parts.first parts.second (trees parts.others)) (formula_parts-fields p)
 
--- All of them under one name, for tactics.
+-- These equations as one rule set for tactics.
 pub ruleset formula_trees = (formula_tree-True, formula_tree-False, formula_tree-Inf, formula_tree-Fin, formula_tree-And-fields, formula_tree-Or-fields)

@@ -5,7 +5,7 @@ use Rattle.std.proofs.Common.{◌≡◌, ℕ, zero, suc, ◌≤◌, List, [], �
 use Rattle.std.proofs.lemmas.Option.{same_Some, none-some}
 use Rattle.aut_base.specs.Label.{LabelTree, label_size, labels_size, trees}
 
--- the part at a place
+-- the part at an index
 pub label_size-at : (parts : List LabelTree) (place : ℕ) (part : LabelTree) → slice_get parts place ≡ Some part → label_size part ≤ labels_size (trees parts)
 label_size-at [] place part is = absurd (none-some part is)
 label_size-at (x ∷ xs) zero part is = let same : label_size x ≡ label_size part = ap label_size (same_Some x part is) in omega arith

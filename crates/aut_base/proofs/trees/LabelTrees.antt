@@ -9,7 +9,7 @@ use Rattle.aut_base.specs.declared.label.Label.TheOpen.{Label-F, Labels-F}
 use Rattle.aut_base.specs.declared.label.Label.TheFolds.{fold-roll-Label, fold_out-Labels}
 use Rattle.aut_base.specs.declared.label.Labels.{Labels}
 
--- the trees of one layer of parts
+-- the parts of one level, as trees
 abbrev parts_step : Labels-F LabelTree LabelParts → LabelParts
 parts_step ls = record { first = ls.first; second = ls.second; others = ls.others.items }
 
@@ -34,20 +34,20 @@ label_tree-And p = ap label_tree (sym (rolls-And p)) ∙ fold-roll-Label LabelTr
 pub label_tree-Or : (p : Box Labels Global) → label_tree (Or p) ≡ LabelTree.Or (label_parts p.value).first (label_parts p.value).second (trees (label_parts p.value).others)
 label_tree-Or p = ap label_tree (sym (rolls-Or p)) ∙ fold-roll-Label LabelTree LabelParts label_step parts_step (Label-F.Or p)
 
--- the parts, by what the fields hold
+-- the parts, by the fields
 pub label_parts-fields : (p : Labels) → label_parts p ≡ record { first = label_tree p.first; second = label_tree p.second; others = map label_tree p.others.items }
 label_parts-fields p = fold_out-Labels LabelTree LabelParts label_step parts_step p
 
--- the list of parts, by what the fields hold
+-- the list of parts, by the fields
 pub label_list-fields : (p : Labels) → label_list p ≡ label_tree p.first ∷ label_tree p.second ∷ map label_tree p.others.items
 label_list-fields p = ap (λ parts. parts.first ∷ parts.second ∷ parts.others) (label_parts-fields p)
 
--- What a conjunction and a disjunction say, by what the fields hold.
+-- The trees of a conjunction and of a disjunction, by the fields.
 pub label_tree-And-fields : (p : Box Labels Global) → label_tree (And p) ≡ LabelTree.And (label_tree p.value.first) (label_tree p.value.second) (trees (map label_tree p.value.others.items))
 label_tree-And-fields p = label_tree-And p ∙ ap (λ parts. LabelTree.And parts.first parts.second (trees parts.others)) (label_parts-fields p.value)
 
 pub label_tree-Or-fields : (p : Box Labels Global) → label_tree (Or p) ≡ LabelTree.Or (label_tree p.value.first) (label_tree p.value.second) (trees (map label_tree p.value.others.items))
 label_tree-Or-fields p = label_tree-Or p ∙ ap (λ parts. LabelTree.Or parts.first parts.second (trees parts.others)) (label_parts-fields p.value)
 
--- All of them under one name, for tactics.
+-- These equations as one rule set for tactics.
 pub ruleset label_trees = (label_tree-True, label_tree-False, label_tree-Prop, label_tree-Negated, label_tree-Not, label_tree-And-fields, label_tree-Or-fields)

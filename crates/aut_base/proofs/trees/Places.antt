@@ -1,11 +1,11 @@
--- A place in a list that begins with two items of its own.
+-- Indices into a list whose first two items are stored apart.
 use Rattle.std.proofs.Common.{◌≡◌, ℕ, ◌<◌, ◌≤◌, ◌-◌, ◌∙◌, List, ◌∷◌, length, map, Some, get_or, slice_get, refl, ap, arith}
 use Rattle.std.proofs.lemmas.List.{length-map}
 use Rattle.std.proofs.lemmas.Option.{slice_get_read, slice_get-map}
 use Rattle.std.specs.Option.{option_map}
 use Rattle.aut_base.proofs.lists.Lists.{slice_get-behind_two}
 
--- the tree of the item at a place behind two others
+-- the tree of an item after the first two
 pub tree_behind_two : {A B : Type 0} (tree : A → B) (a b : B) (xs : List A) (list : List B) (place : ℕ) (x : A) → list ≡ a ∷ b ∷ map tree xs → 2 ≤ place → place < length list
     → x ≡ get_or xs (place - 2) x → slice_get list place ≡ Some (tree x)
 tree_behind_two tree a b xs list place x e h within read =

@@ -49,7 +49,7 @@ insert_listed names name h =
 pub insert_pushed : (names : List (List ℕ)) (name : List ℕ) → sign (names ++ name ∷ []) ≡ set.insert (sign names) name
 insert_pushed names name = set.from_list_push nat_list_cmp_total (slice_cmp-IsAntisymmetric nat_cmp-IsAntisymmetric) names name
 
--- what is said of a list holds of the letter made of it
+-- what a call did to a list of names, it did to the letter made of it
 pub pushed_ok : {E : Type 0} (names new : List (List ℕ)) (name : List ℕ) (letter : NameSet) (result : Result (Unit {0}) E) → sign names ≡ letter → OnOk result (new ≡ names ++ name ∷ [])
     → OnOk result (sign new ≡ set.insert letter name)
 pushed_ok names new name letter (Ok u) is h = ap sign h ∙ (insert_pushed names name ∙ ap (λ l. set.insert l name) is)

@@ -1,4 +1,4 @@
--- A condition is met alike by two cycles with the same sets of edges.
+-- Two cycles with the same set of edges meet the same conditions.
 use Rattle.std.proofs.Common.{◌≡◌, ◌∙◌, ℕ, ◌<◌, Bool, true, false, not, List, ◌++◌, map, take, drop, refl, sym}
 use Rattle.std.specs.List.{list_any, list_all}
 use Rattle.std.proofs.lemmas.List.Folds.{list_all-map}
@@ -8,7 +8,7 @@ use Rattle.aut_base.specs.Word.{copies}
 use Rattle.aut_base.proofs.lists.Copies.{any-copies, all-copies}
 use Rattle.aut_base.proofs.lists.Lists.{list_any-map, list_any-turned, list_all-turned}
 
--- no test tells the two lists apart, whether some item passes it or all items do
+-- the two lists pass the same tests, of some item and of all
 pub record Alike {A : Type 0} (xs ys : List A) : Type 0 where
   pub some : (p : A → Bool) → list_any p xs ≡ list_any p ys
   pub each : (p : A → Bool) → list_all p xs ≡ list_all p ys
@@ -32,14 +32,14 @@ mutual
   some_alike xs ys alike FormulaTrees.none = refl
   some_alike xs ys alike (FormulaTrees.more f fs) = cc (met_alike xs ys alike f, some_alike xs ys alike fs)
 
--- a cycle gone round some times
+-- a cycle, repeated k times
 pub gone_alike : {A B : Type 0} (f : A → B) (k : ℕ) (cycle : List A) → 0 < k → Alike (map f (copies k cycle)) (map f cycle)
 gone_alike f k cycle some = record {
   some = λ p. list_any-map p f _ ∙ (any-copies (λ x. p (f x)) k cycle some ∙ sym (list_any-map p f cycle));
   each = λ p. list_all-map p f _ ∙ (all-copies (λ x. p (f x)) k cycle some ∙ sym (list_all-map p f cycle));
 }
 
--- the same, turned to begin at another place
+-- the same, rotated to begin at another of its edges
 pub turned_alike : {A B : Type 0} (f : A → B) (k n : ℕ) (cycle : List A) → 0 < k → Alike (map f (drop n (copies k cycle) ++ take n (copies k cycle))) (map f cycle)
 turned_alike f k n cycle some = record {
   some = λ p. list_any-map p f _ ∙ (list_any-turned (λ x. p (f x)) n (copies k cycle) ∙ (any-copies (λ x. p (f x)) k cycle some ∙ sym (list_any-map p f cycle)));

@@ -1,6 +1,6 @@
--- Why lasso words that spell the same infinite word are accepted alike. A path that reads the one word goes on
--- round its closed path until it has read a whole number of cycles of the other. The closed path, turned to begin
--- there and gone often enough, reads a whole number of them as well, and has the same edges.
+-- Lasso words that spell the same infinite word are accepted alike. Proof: an accepting run over the one word goes on along its closed
+-- path until it has read the stem and a whole number of cycles of the other word. The closed path, rotated to begin there and repeated
+-- often enough, reads a whole number of those cycles as well, and has the same edges.
 use Rattle.std.proofs.Common.{◌≡◌, ◌∙◌, ℕ, ◌+◌, ◌-◌, ◌*◌, ◌<◌, ◌≤◌, List, ◌++◌, length, take, drop, Option, refl, sym, ap, subst, arith}
 use Rattle.std.proofs.Math.Nat.{le-mul_of_pos_right}
 use Rattle.std.proofs.lemmas.List.{length-append, length-drop, length-take-le, take-append-drop}
@@ -26,8 +26,8 @@ round_agrees w u v s j spells some k within =
     let times = length-copies j v in
     spells (length u + s * length v + k) ∙ round_letter u v s j k _ some (omega arith) (omega arith)
 
--- When the second word is taken up: `wait` steps after moment o, once its cycle of y letters was read `turns`
--- times after its stem of x letters. A closed path of `size` edges is gone `times` times from there.
+-- The position at which the closed path over the second word begins: `wait` steps after position o, where the word's stem of x letters
+-- and its cycle of y letters, `turns` times, were read. A closed path of `size` edges reads whole cycles if it is repeated `times` times.
 record Moment (o size x y : ℕ) : Type 0 where
   turns : ℕ
   wait : ℕ
@@ -58,7 +58,7 @@ moment o size x y some_size some_y =
       some_rounds = omega arith;
     }
 
--- A closed path, gone on with for `wait` steps, and gone from there.
+-- A closed path, followed for `wait` steps and rotated to begin there.
 record Turned (a : Automaton) (w : ℕ → Option NameSet) (n q wait : ℕ) (all : List LabelledEdge) : Type 0 where
   here : ℕ
   on : Reads a w n q (take wait all) here
@@ -82,8 +82,8 @@ turn a w n m q wait all enough at first again =
           (split_first a w m q q front back again');
     }
 
--- What acceptance says of the infinite word `w`, whose letters come again after every l from moment o on: a path
--- leads to a closed path, which can be gone at each of those moments.
+-- An accepting run as paths over the infinite word `w`, which has period l from position o on: a path leads to a closed path, which
+-- can be followed from each of those positions.
 record Looped (a : Automaton) (u v : List NameSet) (r : Accepts a u v) (w : ℕ → Option NameSet) (o l : ℕ) : Type 0 where
   long_way : length r.way ≡ o + r.turns * l
   long_cycle : length r.cycle ≡ r.rounds * l
@@ -106,7 +106,7 @@ looped a u v some r =
       round = λ s. reads_word a w (length u + s * length v) r.state (copies r.rounds v) r.cycle r.state (round_agrees w u v s r.rounds (λ n. refl) some) r.returns;
     }
 
--- the closed path, gone `times` times, and turned
+-- the closed path, repeated `times` times and rotated
 turned : (a : Automaton) (u v : List NameSet) (r : Accepts a u v) (w : ℕ → Option NameSet) (o l wait times : ℕ) (g : Looped a u v r w o l) → wait ≤ times * length r.cycle
     → Turned a w (o + r.turns * l) r.state wait (copies times r.cycle)
 turned a u v r w o l wait times g enough =

@@ -1,5 +1,4 @@
--- The items of a stem and then a cycle again and again, as the letters of a lasso word's infinite word are, read off the stem and
--- the copies of the cycle.
+-- The n-th letter of a lasso word (or item of any such list): read off the stem followed by copies of the cycle.
 use Rattle.std.proofs.Common.{◌≡◌, ◌∙◌, ℕ, ◌+◌, ◌-◌, ◌*◌, ◌/◌, ◌%◌, ◌<◌, ◌≤◌, List, ◌++◌, length, slice_get, if◌then◌else◌, ◌⊎◌, inl, inr, sym, ap, arith}
 use Rattle.std.proofs.lemmas.Bool.{lt-ltb, le-ltb, cases_lt}
 use Rattle.std.proofs.lemmas.Nat.{mod-mul-add, mod_below, div_below, div-add-mod'}

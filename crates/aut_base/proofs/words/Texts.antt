@@ -1,4 +1,4 @@
--- Texts as keys: when a comparison says that two are the same, and the search for one in a list.
+-- Comparison of texts, and the search for a text in a list.
 use Rattle.std.proofs.Common.{◌≡◌, ◌≢◌, ◌∙◌, ℕ, ◌+◌, ◌<◌, ◌≤◌, true, false, List, length, get_or, sym, ap, refl, All, slice_get, Some, nat_eq, arith}
 use Rattle.std.specs.Cmp.Lexicographic.{pointwise, texts_ties}
 use Rattle.std.proofs.lemmas.Bool.{false_from_ne_true, false≢true}

@@ -1,4 +1,4 @@
--- The links of an automaton of flagged states, as the edges that they stand for.
+-- Automata in memory that are restricted to flagged states: their links are the edges of the definition.
 use Rattle.std.proofs.Common.{◌≡◌, ◌∙◌, ◌<◌, ◌≤◌, ℕ, Bool, List, [], ◌∷◌, All, ap, arith, filter, get_or, length, map, refl, subst, sym, take}
 use Rattle.std.proofs.lemmas.List.{length-map, take_all}
 use Rattle.std.proofs.lemmas.List.Elements.{All-filter, All-head, All-map, All-tail, All-weaker}
@@ -20,7 +20,7 @@ use Rattle.aut_ops.specs.declared.reached.ReachedSize.{ReachedSize}
 use Rattle.graph_walk.specs.Reach.{AreReachFlags}
 use Rattle.aut_ops.specs.inner.Renumbering.{link_arc, link_passable, link_stays, new_link, new_number}
 
--- the edges of the links that stay
+-- the edges of the links that are kept
 pub edges_staying : (c : SymbolicAutomaton) (flags : List Bool) → map (edge_of c.store) (filter (link_stays c flags) c.links) ≡ (between flags (automaton_of c)).edges
 edges_staying c flags = map-filter (edge_of c.store) (is_kept_edge (length c.names) flags) c.links
 
@@ -45,7 +45,7 @@ module _ (flags : List Bool) (ranks : List ℕ) (is : ranks ≡ map (flagged_bef
       ap (λ (d : LabelledEdge). d ∷ map (edge_of s) (map (new_link ranks) ls)) same
       ∙ ap (λ ds. renumbered_edge flags e ∷ ds) (edges_are s ls (All-tail (λ (m : Link). m.from < length flags) l ls from) (All-tail (λ (m : Link). m.to < length flags) l ls to))
 
--- the ends of links are states
+-- links leave states of the automaton
 pub links_from_states : (c : SymbolicAutomaton) → IsWellFormedSymbolic c → (n : ℕ) → n ≡ c.states → (p : Link → Bool) → All (λ l. l.from < n) (filter p c.links)
 links_from_states c core n is p = All-filter p (λ (l : Link). l.from < n) c.links (All-weaker (IsLinkOf c) (λ (l : Link). l.from < n) (λ l link. omega (arith, link.from, is)) c.links core.parts.links)
 
@@ -55,19 +55,19 @@ links_to_states c core n is p = All-filter p (λ (l : Link). l.to < n) c.links (
 pub starts_states : (c : SymbolicAutomaton) → IsWellFormedSymbolic c → (n : ℕ) → n ≡ c.states → (p : ℕ → Bool) → All (λ q. q < n) (filter p c.starts)
 starts_states c core n is p = All-filter p (λ q. q < n) c.starts (All-weaker (λ q. q < c.states) (λ q. q < n) (λ q less. omega (arith, less, is)) c.starts core.parts.starts)
 
--- the arcs of the links that are passable
+-- the arcs of the links with satisfiable labels
 pub passable_links : (c : SymbolicAutomaton) (arcs : List (ℕ × ℕ)) (i : ℕ) → length c.links ≤ i → arcs ≡ map link_arc (filter (link_passable c) (take i c.links))
     → arcs ≡ passable_arcs (automaton_of c)
 passable_links c arcs i end so_far =
     so_far ∙ (ap (λ ls. map link_arc (filter (link_passable c) ls)) (take_all i c.links end)
     ∙ (sym (map-map arc_of (edge_of c.store) (filter (link_passable c) c.links)) ∙ ap (map arc_of) (map-filter (edge_of c.store) (is_satisfiable (length c.names)) c.links)))
 
--- parts that make such an automaton
+-- the parts of the automaton x
 pub record MakesOf (x : Automaton) (made : SymbolicAutomaton) : Type 0 where
   pub is : automaton_of made ≡ x
   pub parts : AreSymbolicParts made
 
--- the edges between flagged states, under the numbers that they have
+-- the restriction to flagged states, which keep their numbers
 pub kept_alone : (c : SymbolicAutomaton) (flags : List Bool) (starts : List ℕ) (states : ℕ) (links : List Link) → IsWellFormedSymbolic c → starts ≡ filter (is_flagged flags) c.starts
     → states ≡ c.states
     → links ≡ filter (link_stays c flags) c.links → MakesOf (between flags (automaton_of c)) (record c { starts = starts; states = states; links = links })
@@ -82,7 +82,7 @@ kept_alone c flags starts states links core starts_are states_are links_are =
           (subst (All (λ (l : Link). Has c.store l.guard)) (sym links_are) (All-filter (link_stays c flags) (λ (l : Link). Has c.store l.guard) c.links (links_have c core)));
     }
 
--- the same with the states numbered anew
+-- the same with renumbered states
 pub numbered_alone : (c : SymbolicAutomaton) (flags : List Bool) (ranks flagged starts : List ℕ) (states : ℕ) (staying links : List Link) → IsWellFormedSymbolic c → length flags ≡ c.states
     → ranks ≡ map (flagged_before flags) (range_with_len 0 (length flags)) → flagged ≡ filter (is_flagged flags) c.starts → starts ≡ map (new_number ranks) flagged
     → states ≡ flagged_before flags (length flags)
@@ -107,7 +107,7 @@ numbered_alone c flags ranks flagged starts states staying links core size ranks
           (subst (All (λ (l : Link). Has c.store l.guard)) (sym new) there);
     }
 
--- how many of the states and of the links stay
+-- the numbers of states and links that are kept
 pub reached_size : (c : SymbolicAutomaton) (flags : List Bool) (size : ReachedSize) → AreReachFlags c.states (passable_arcs (automaton_of c)) c.starts flags
     → size.states ≡ flagged_before flags (length flags)
     → size.edges ≡ length (filter (link_stays c flags) c.links) → IsReachedSize (automaton_of c) size

@@ -1,4 +1,4 @@
--- What holds of an automaton with the edges between flagged states alone.
+-- An automaton restricted to flagged states is well formed, and accepts the same words where accepting runs stay at such states.
 use Rattle.std.proofs.Common.{◌≡◌, ◌≢◌, ◌<◌, ◌&&◌, ℕ, Bool, true, false, cond, not, List, [], ◌∷◌, ◌++◌, Contains, ap, arith, filter, length, refl, subst, sym}
 use Rattle.std.proofs.lemmas.Bool.{and_from}
 use Rattle.std.proofs.lemmas.List.Elements.{All-contains, All-filter, All-map, All-weaker}
@@ -30,7 +30,7 @@ module _ (a : Automaton) (formed : IsWellFormed a) where
   edge_within : (e : LabelledEdge) → Contains a.edges e → IsEdgeOf a e
   edge_within e there = All-contains (IsEdgeOf a) a.edges e formed.edges there
 
-  -- an edge that is gone at a letter
+  -- an edge whose label a letter satisfies is one with a satisfiable label
   pub passable_met : (e : LabelledEdge) (x : NameSet) → Contains a.edges e → truth (holds_at a.names x) e.label ≡ true → is_satisfiable (length a.names) e ≡ true
   passable_met e x there holds = ap not (not_never (length a.names) (holds_at a.names x) e.label (edge_within e there).label holds)
 
@@ -56,7 +56,7 @@ module _ (a : Automaton) (formed : IsWellFormed a) where
       subst (λ s. AreReachFlags a.states (passable_arcs a) s flags) starts_are
       (subst (λ ls. AreReachFlags a.states ls starts flags) arcs_are (subst (λ n. AreReachFlags n arcs starts flags) nodes_are reached))
 
-  -- a path leads along edges whose labels aren't false
+  -- a path leads along edges with satisfiable labels
   pub path_reaches : (p q : ℕ) (xs : List NameSet) (es : List LabelledEdge) → IsPath a p xs es q → Reaches (passable_arcs a) p q
   path_reaches p q [] [] path = record { walk = []; leads = path }
   path_reaches p q [] (e ∷ es) path = absurd path
@@ -69,7 +69,7 @@ module _ (a : Automaton) (formed : IsWellFormed a) where
       }
 
   module _ (flags : List Bool) where
-    -- the states on the ways from s to t are flagged
+    -- the states on walks from s to t are flagged
     abbrev pub AreFlagged : ℕ → ℕ → Type 0
     AreFlagged s t = (r : ℕ) → r < a.states → Reaches (passable_arcs a) s r → Reaches (passable_arcs a) r t → is_flagged flags r ≡ true
 

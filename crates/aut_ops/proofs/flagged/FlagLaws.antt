@@ -1,4 +1,4 @@
--- Flags that are exact are determined, and so is what is made by them.
+-- Flags that are set exactly where a property holds are unique, and so are trimmed and pruned automata.
 use Rattle.std.proofs.Common.{◌≡◌, ◌∙◌, ◌↔◌, ◌<◌, ℕ, zero, suc, Bool, true, false, IsTrue, List, [], ◌∷◌, ap, arith, length, refl, sym}
 use Rattle.aut_ops.specs.Laws.{PrunedIsDetermined, TrimmedIsDetermined}
 use Rattle.aut_ops.specs.Satisfiable.{between, is_flagged}
@@ -18,7 +18,7 @@ same_flags zero (f ∷ first) (g ∷ second) long too same = absurd (omega (arit
 same_flags (suc n) (f ∷ first) (g ∷ second) long too same =
     ap (λ b. b ∷ first) (same 0 (omega arith)) ∙ ap (λ fs. g ∷ fs) (same_flags n first second (omega (arith, long)) (omega (arith, too)) (λ q less. same (suc q) (omega (arith, less))))
 
--- lists that are exact of the same property
+-- lists of flags that are set exactly where the same property holds
 pub exact_flags : (n : ℕ) (Is : ℕ → Type 0) (first second : List Bool) → length first ≡ n → length second ≡ n → ((q : ℕ) → q < n → IsTrue (is_flagged first q) ↔ Is q)
     → ((q : ℕ) → q < n → IsTrue (is_flagged second q) ↔ Is q) → first ≡ second
 exact_flags n Is first second long too one other =

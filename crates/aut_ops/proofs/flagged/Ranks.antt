@@ -1,4 +1,4 @@
--- The numbers of flagged states before a state.
+-- The number of flagged states before a state, as its new number.
 use Rattle.std.proofs.Common.{◌≡◌, ◌∙◌, ◌+◌, ◌<◌, ◌≤◌, ℕ, zero, suc, Bool, true, false, cond, List, [], ◌∷◌, ap, arith, inl, inr, length, map, sym}
 use Rattle.std.proofs.lemmas.Bool.{cases_lt, false≢true}
 use Rattle.std.proofs.lemmas.List.{length-map}
@@ -15,7 +15,7 @@ rank_rises [] (suc p) (suc q) le = omega arith
 rank_rises (true ∷ flags) (suc p) (suc q) le = let rest = rank_rises flags p q (omega (arith, le)) in omega (arith, rest)
 rank_rises (false ∷ flags) (suc p) (suc q) le = rank_rises flags p q (omega (arith, le))
 
--- behind a flagged state it is greater
+-- after a flagged state it is greater
 pub rank_less : (flags : List Bool) (p q : ℕ) → is_flagged flags p ≡ true → p < q → flagged_before flags p < flagged_before flags q
 rank_less flags p zero flagged less = absurd (omega (arith, less))
 rank_less [] zero (suc q) flagged less = absurd (false≢true flagged)
@@ -41,7 +41,7 @@ rank_within [] (suc q) = omega arith
 rank_within (true ∷ flags) (suc q) = let rest = rank_within flags q in omega (arith, rest)
 rank_within (false ∷ flags) (suc q) = let rest = rank_within flags q in omega (arith, rest)
 
--- the number so far, with one flag more
+-- the number after another flag
 
 rank_push : (flags : List Bool) (i : ℕ) → i < length flags → flagged_before flags (i + 1) ≡ flagged_before flags i + cond (is_flagged flags i) 1 0
 rank_push flags i within = length-filter_more (λ flag. flag) flags i false within

@@ -1,4 +1,5 @@
--- What holds of an automaton whose flagged states are numbered anew: of each start and each end of an edge, which are flagged.
+-- An automaton with renumbered states is well formed and accepts the same words, where its starts and the states of its edges are
+-- flagged.
 use Rattle.std.proofs.Common.{◌≡◌, ◌≢◌, ◌∙◌, ◌<◌, ℕ, Bool, true, List, [], ◌∷◌, All, Contains, ap, arith, map, refl, sym}
 use Rattle.std.proofs.lemmas.List.Elements.{All-contains, All-map, same_from_all_zip}
 use Rattle.aut_base.proofs.order.AllPairsOf.{pairs_map}
@@ -19,7 +20,7 @@ pub climbs_renumbered : (flags : List Bool) (low : ℕ) (es : List LabelledEdge)
 climbs_renumbered flags low [] climbs = tt
 climbs_renumbered flags low (e ∷ es) climbs = (rank_rises flags low e.from climbs.0, climbs_renumbered flags e.from es climbs.1)
 
--- both ends of the edge are flagged
+-- both states of the edge are flagged
 pub record AreEnds (flags : List Bool) (e : LabelledEdge) : Type 0 where
   pub from : is_flagged flags e.from ≡ true
   pub to : is_flagged flags e.to ≡ true

@@ -1,4 +1,4 @@
--- There can't be no list of flags that is exact of a property of finitely many numbers.
+-- For any property of the numbers below n, it isn't so that there is no list of flags that are set exactly where it holds.
 use Rattle.std.proofs.Common.{◌≡◌, ◌∙◌, ◌↔◌, ◌+◌, ◌<◌, ℕ, zero, suc, Bool, true, false, IsTrue, List, [], ◌∷◌, ◌++◌, arith, inl, inr, length, length-append, refl, sym, subst}
 use Rattle.std.proofs.lemmas.Bool.{cases_lt, false≢true}
 use Rattle.std.proofs.lemmas.List.{get_or_append_left, get_or_push}
@@ -13,7 +13,7 @@ module _ (Is : ℕ → Type 0) where
   abbrev AreExact : ℕ → List Bool → Type 0
   AreExact n flags = (length flags ≡ n) × ((q : ℕ) → q < n → IsTrue (is_flagged flags q) ↔ Is q)
 
-  -- one flag more
+  -- another flag
   exact_more : (n : ℕ) (flags : List Bool) (flag : Bool) → AreExact n flags → IsTrue flag ↔ Is n → AreExact (suc n) (flags ++ flag ∷ [])
   exact_more n flags flag are here = (
     (let size : length (flags ++ flag ∷ []) ≡ length flags + 1 = length-append flags (flag ∷ []) in let before = are.0 in omega (arith, size, before)),

@@ -1,4 +1,4 @@
--- What holds of a trimmed automaton.
+-- A trimmed automaton is well formed, and accepts the same words.
 use Rattle.std.proofs.Common.{◌≡◌, ◌&&◌, ℕ, Bool, true, List, Contains, length}
 use Rattle.std.proofs.lemmas.Bool.{and_parts}
 use Rattle.aut_base.proofs.lists.Members.{from_filter}
@@ -24,7 +24,7 @@ module _ (a : Automaton) (formed : IsWellFormed a) (flags : List Bool) where
   pub alone_formed : IsWellFormed (renumbered flags (between flags a))
   alone_formed = renumbered_formed (between flags a) flags start_flagged ends_flagged (between_formed a formed flags)
 
-  -- all that a run comes to is reached
+  -- the language is the same, since a run visits reached states alone
   pub trimmed_accepts : AreReachFlags a.states (passable_arcs a) a.starts flags → AcceptTheSame (renumbered flags (between flags a)) a
   trimmed_accepts are u v =
       let new = renumbered_accepts (between flags a) flags start_flagged ends_flagged u v in

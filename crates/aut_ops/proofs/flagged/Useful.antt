@@ -1,4 +1,4 @@
--- Which states are useful, as the searches find them, and the language of a pruned automaton.
+-- The useful states are found by two searches, and a pruned automaton accepts the same words.
 use Rattle.std.proofs.Common.{◌≡◌, ◌∙◌, ◌<◌, ◌&&◌, ◌||◌, ℕ, Bool, true, false, IsTrue, List, [], ◌∷◌, All, Contains, ap, arith, filter, inl, inr, length, map, nat_eq, refl, subst, sym}
 use Rattle.std.proofs.lemmas.Bool.{and_from, and_parts, cases_Bool, eq-eqb, eqb-true, false≢true}
 use Rattle.std.proofs.lemmas.List.{length-map}
@@ -24,7 +24,7 @@ use Rattle.graph_walk.specs.Components.{AreComponents}
 use Rattle.graph_walk.specs.Reach.{AreReachFlags}
 use Rattle.graph_walk.specs.Walk.{IsWalk, Reaches}
 
--- walks gone the other way
+-- walks in the reversed graph
 
 pub turned_reaches : (arcs : List (ℕ × ℕ)) (p q : ℕ) → Reaches arcs p q → Reaches (map reversed_arc arcs) q p
 turned_reaches arcs p q reaches = by_cases p reaches.walk reaches.leads
@@ -41,12 +41,12 @@ turned_twice (a ∷ arcs) = ap (λ rest. a ∷ rest) (turned_twice arcs)
 pub turned_back : (arcs : List (ℕ × ℕ)) (p q : ℕ) → Reaches (map reversed_arc arcs) q p → Reaches arcs p q
 turned_back arcs p q reaches = subst (λ ls. Reaches ls p q) (turned_twice arcs) (turned_reaches (map reversed_arc arcs) q p reaches)
 
--- both ends of the arcs stay nodes
+-- the arcs of the reversed graph are between nodes
 pub turned_nodes : (nodes : ℕ) (arcs : List (ℕ × ℕ)) → All (λ a. (a.0 < nodes) × (a.1 < nodes)) arcs → All (λ a. (a.0 < nodes) × (a.1 < nodes)) (map reversed_arc arcs)
 turned_nodes nodes arcs within = All-map (λ (a : ℕ × ℕ). (a.0 < nodes) × (a.1 < nodes)) reversed_arc arcs
     (All-weaker (λ (a : ℕ × ℕ). (a.0 < nodes) × (a.1 < nodes)) (λ (a : ℕ × ℕ). (a.1 < nodes) × (a.0 < nodes)) (λ a both. (both.1, both.0)) arcs within)
 
--- an edge in set 0 that a path goes
+-- a path has an edge in set 0
 pub record GoesMarked (a : Automaton) (p q : ℕ) : Type 0 where
   pub edge : LabelledEdge
   pub is_edge : Contains (satisfiable_edges a) edge
@@ -91,7 +91,7 @@ module _ (c : SymbolicAutomaton) (core : IsWellFormedSymbolic c) (numbers : List
   abbrev a : Automaton
   a = automaton_of c
 
-  -- the edge of a link that was found to close is on a cycle
+  -- the edge of a link in set 0 inside of a component is on a cycle
   pub closes_on_cycle : (l : Link) → Contains c.links l → link_closes c numbers l ≡ true → IsMarkedOnCycle a (edge_of c.store l)
   closes_on_cycle l there closes =
       let first = and_parts (link_passable c l) (is_in 0 l.marks && nat_eq (new_number numbers l.from) (new_number numbers l.to)) closes in

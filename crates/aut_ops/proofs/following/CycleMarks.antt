@@ -1,4 +1,4 @@
--- What conditions see of the marks of a cycle.
+-- The truth of a condition on a cycle depends on the marks of the sets that it names alone.
 use Rattle.std.proofs.Common.{◌≡◌, ◌≢◌, ◌∙◌, ◌==◌, ℕ, ◌+◌, ◌<◌, ◌≤◌, ◌||◌, true, false, not, List, [], ◌∷◌, ◌++◌, All, ap, arith, get_or, inl, inr, map, refl, sym}
 use Rattle.std.proofs.lemmas.Bool.{cases_eq, eq-eqb, ne_eqb}
 use Rattle.std.proofs.lemmas.List.Folds.{list_any-append, list_any_none}
@@ -14,7 +14,7 @@ use Rattle.aut_base.specs.Marks.{is_in}
 abbrev pub AgreeBelow : ℕ → List ℕ → List ℕ → Type 0
 AgreeBelow n c d = (set : ℕ) → set < n → is_in set c ≡ is_in set d
 
--- a condition sees the sets that it names
+-- a condition over sets below n is the same on cycles whose marks agree on these
 mutual
   pub met_below : (n : ℕ) (cs ds : List (List ℕ)) → AllZip (AgreeBelow n) cs ds → (f : FormulaTree) → SetsBelow n f → met cs f ≡ met ds f
   met_below n cs ds zip FormulaTree.True below = refl
@@ -47,7 +47,7 @@ zip_lowered k n (c ∷ cs) (d ∷ ds) zip = (λ set low. sym (is_in-lowered k se
 pub met_raised : (k n : ℕ) (cs ds : List (List ℕ)) → AllZip (AgreeRaised k n) cs ds → (f : FormulaTree) → SetsBelow n f → met cs (shift k f) ≡ met ds f
 met_raised k n cs ds zip f below = met-shift k cs f ∙ met_below n (lowered k cs) ds (zip_lowered k n cs ds zip) f below
 
--- sets that marks can't be in
+-- a set that isn't among the marks
 pub not_in : (set : ℕ) (marks : List ℕ) → All (λ m. m ≢ set) marks → is_in set marks ≡ false
 not_in set marks other = list_any_none (λ m. m == set) marks (λ k d within. ne_eqb (get_or marks k d) set (other k d within))
 
@@ -72,7 +72,7 @@ pub not_in_raise : (k set : ℕ) (marks : List ℕ) → set < k → is_in set (r
 not_in_raise k set [] low = refl
 not_in_raise k set (m ∷ ms) low = ap (λ b. b || is_in set (raise k ms)) (ne_eqb (m + k) set (λ e. absurd (omega (arith, e, low)))) ∙ not_in_raise k set ms low
 
--- the marks of two edges gone at once, of which the first's are below k
+-- the marks of a product edge, where those of the first edge are below k
 pub joint_first : (k : ℕ) (marks others : List ℕ) → AgreeBelow k (marks ++ raise k others) marks
 joint_first k marks others set low = list_any-append (λ m. m == set) marks (raise k others) ∙ (ap (λ b. is_in set marks || b) (not_in_raise k set others low) ∙ or-false (is_in set marks))
 

@@ -1,4 +1,4 @@
--- Languages of automata in place of others that accept the same.
+-- Intersections and unions of languages, where automata are replaced by others that accept the same.
 use Rattle.std.proofs.Common.{inl, inr}
 use Rattle.aut_base.specs.Automaton.{Automaton}
 use Rattle.aut_core.specs.OtherNames.{AcceptTheSame}

@@ -1,4 +1,4 @@
--- Automata that follow each other edge by edge, between states that stand for one another.
+-- Simulation of one automaton by another, edge by edge, along a relation of their states.
 use Rattle.std.proofs.Common.{◌≡◌, ℕ, true, List, [], ◌∷◌, ◌++◌, Contains, refl, subst}
 use Rattle.std.specs.List.{AllZip}
 use Rattle.aut_base.specs.Acceptance.{IsPath}
@@ -9,7 +9,7 @@ use Rattle.aut_base.proofs.runs.LassoRuns.{marks_of}
 use Rattle.aut_base.specs.Runs.{LassoRun}
 use Rattle.aut_ops.specs.Languages.{begun}
 
--- an edge of the automaton that answers this one: it leaves the state q, and can be gone at the letter
+-- an edge of the automaton b that answers one of the other: it leaves the state q, and its label holds of the letter
 pub record Answer (b : Automaton) (Stands : ℕ → ℕ → Type 0) (Marked : List ℕ → List ℕ → Type 0) (x : NameSet) (q : ℕ) (e : LabelledEdge) : Type 0 where
   pub edge : LabelledEdge
   pub from : q ≡ edge.from
@@ -18,8 +18,8 @@ pub record Answer (b : Automaton) (Stands : ℕ → ℕ → Type 0) (Marked : Li
   pub to : Stands e.to edge.to
   pub marks : Marked e.marks edge.marks
 
--- Where a state of the first stands for one of the second, each edge that can be gone from it is answered from there.
--- A state stands for at most one.
+-- Where a state of the first is related to one of the second, each edge from it whose label holds of a letter is answered from
+-- there. A state is related to at most one.
 pub record Simulates (a b : Automaton) (Stands : ℕ → ℕ → Type 0) (Marked : List ℕ → List ℕ → Type 0) : Type 0 where
   pub one : (p q r : ℕ) → Stands p q → Stands p r → q ≡ r
   pub step : (p q : ℕ) (e : LabelledEdge) (x : NameSet) → Stands p q → p ≡ e.from → Contains a.edges e → truth (holds_at a.names x) e.label ≡ true → Answer b Stands Marked x q e
@@ -72,7 +72,7 @@ run_image a b Stands Marked sim u v turns rounds r start is_start stands =
       marks = cycle.marks;
     }
 
--- whatever state each is begun in
+-- a simulation is one whatever the starts of the two automata are
 pub begun_alike : (a b : Automaton) (p q : ℕ) (Stands : ℕ → ℕ → Type 0) (Marked : List ℕ → List ℕ → Type 0) → Simulates a b Stands Marked → Simulates (begun p a) (begun q b) Stands Marked
 begun_alike a b p q Stands Marked sim = record {
   one = sim.one;

@@ -1,4 +1,4 @@
--- The links of two automata side by side.
+-- The links of a sum are the edges of the definition.
 use Rattle.std.proofs.Common.{◌≡◌, ◌∙◌, ◌+◌, ◌++◌, ℕ, false, List, [], ap, map, subst, sym}
 use Rattle.std.proofs.lemmas.List.Elements.{All-map}
 use Rattle.std.proofs.lemmas.Simd.{map-map}
@@ -24,7 +24,7 @@ stand_moved s states sets fresh links es so_far = record {
   edges = map-map (edge_of s) (moved_link states sets fresh) links ∙ (sym (map-map (moved_edge states sets fresh) (edge_of s) links) ∙ ap (map (moved_edge states sets fresh)) so_far.edges);
 }
 
--- the parts of two automata side by side
+-- the parts of the sum of two automata
 pub record IsSide (a b c : SymbolicAutomaton) : Type 0 where
   pub is : automaton_of c ≡ side_by_side (automaton_of a) (automaton_of b)
   pub parts : AreSymbolicParts c

@@ -1,4 +1,4 @@
--- What holds of two automata side by side: a run is one of the first or one of the second.
+-- A run of a sum is a run of the first automaton or of the second, so the sum accepts the union.
 use Rattle.std.proofs.Common.{◌≡◌, ◌≢◌, ◌∙◌, ◌⊎◌, ◌==◌, ◌+◌, ◌<◌, ◌≤◌, ◌&&◌, ◌||◌, ℕ, true, false, not, List, [], ◌∷◌, ◌++◌, All, Contains, ap, arith, inl, inr, length, map, refl, subst, sym}
 use Rattle.std.proofs.lemmas.Bool.{and_from, eq-eqb, ne_eqb}
 use Rattle.std.proofs.lemmas.List.Elements.{All-append, All-contains, All-head, All-map, All-push, All-tail, All-weaker, Contains-append_cases}

@@ -12,11 +12,11 @@ use Rattle.aut_ops.specs.BreadthFirst.{IsReachedFrom}
 use Rattle.aut_ops.specs.Labels.{both_labels, is_never}
 use Rattle.aut_ops.specs.Products.{ArePairs, JointEdge, joint_edge, joint_edges, next_pairs, numbered, same_pair, start_pairs}
 
--- the two edges as one
+-- the product edge of two edges
 abbrev pub joined : ℕ → ℕ → LabelledEdge → LabelledEdge → JointEdge
 joined names sets d e = record { from = (d.from, e.from); label = both_labels names d.label e.label; to = (d.to, e.to); marks = d.marks ++ map (λ mark. mark + sets) e.marks }
 
--- what a joint edge is made of
+-- the two edges of which a product edge is made
 pub record MadeOf (a b : Automaton) (pair : ℕ × ℕ) (j : JointEdge) : Type 0 where
   pub first : LabelledEdge
   pub second : LabelledEdge
@@ -93,7 +93,7 @@ module _ (a b : Automaton) where
     pub pairs_differ : AllPairs (λ p q. p ≢ q) pairs
     pairs_differ = listed_differ same_pair pair_tells (start_pairs a b) (next_pairs a b) pairs listed
 
-    -- what an edge of the product is made of
+    -- the two edges of which a numbered edge of the product is made
     pub record EdgeOf (e : LabelledEdge) : Type 0 where
       pub first : LabelledEdge
       pub second : LabelledEdge
@@ -127,7 +127,7 @@ module _ (a b : Automaton) where
           marks = ap (λ (d : LabelledEdge). d.marks) whole;
         }
 
-    -- and an edge for each two that meet
+    -- and there is an edge for each two whose labels some letter satisfies
     pub edge_there : (pair : ℕ × ℕ) (d e : LabelledEdge) → Contains pairs pair → Contains a.edges d → Contains b.edges e → d.from ≡ pair.0 → e.from ≡ pair.1
         → is_never (length a.names) (both_labels (length a.names) d.label e.label) ≡ false
         → Contains (map (numbered pairs) (flat_map (joint_edges a b) pairs)) (numbered pairs (joined (length a.names) a.sets d e))

@@ -1,4 +1,4 @@
--- The automaton of what was explored.
+-- The automaton of the explored pairs and links is the product.
 use Rattle.std.proofs.Common.{◌≡◌, ◌≢◌, ◌∙◌, ◌+◌, ◌++◌, ◌∷◌, ℕ, List, [], AllPairs, ap, length, map, refl, subst, sym}
 use Rattle.std.specs.List.{AllZip, position_or_len}
 use Rattle.std.specs.Prelude.{flat_map}
@@ -103,7 +103,7 @@ over_runs a names among formed runs u v endless =
       run = run_wider (over_names names any) (over_names names a) u v refl (λ e there. there) two.turns two.rounds (run_of (over_names names any) u v two) two.is_start;
     }
 
--- and what the product of the automata over their names accepts
+-- and the language of a product of automata over more names
 pub accepts_over : (j : Join) (m a b c d : Automaton) (names : List (List ℕ)) → AreAmong a.names names → AreAmong b.names names → IsWellFormed a → IsWellFormed b → c ≡ over_names names a
     → d ≡ over_names names b → AcceptTheSame c a → AcceptTheSame d b → JoinAccepts j m c d → JoinAccepts j m a b
 accepts_over join.All m a b c d names among others formed also is is_too first second accepts = both_like m c d a b first second accepts

@@ -1,4 +1,4 @@
--- What a product accepts that is begun in one of its states.
+-- The language of a product from one of its states.
 use Rattle.std.proofs.Common.{◌≡◌, ◌∙◌, ◌+◌, ◌*◌, ◌≤◌, ℕ, List, [], ◌∷◌, ◌++◌, Contains, Some, ap, arith, inl, inr, refl, slice_get, subst, sym}
 use Rattle.std.proofs.Math.Nat.{le-mul_of_pos_right, mul_comm}
 use Rattle.std.proofs.lemmas.Bool.{and_from, and_parts}

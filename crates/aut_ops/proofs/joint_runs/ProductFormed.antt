@@ -26,7 +26,7 @@ row qs p = map (λ q. (p, q)) qs
 abbrev Apart : ℕ × ℕ → ℕ × ℕ → Type 0
 Apart x y = x ≢ y
 
--- pairs that are made of different states
+-- pairs of states that differ are different
 rows_differ : (ps qs : List ℕ) → AllPairs (λ p q. p ≢ q) ps → AllPairs (λ p q. p ≢ q) qs → AllPairs Apart (flat_map (row qs) ps)
 rows_differ [] qs first second = λ i j d less within. absurd (omega (arith, within))
 rows_differ (p ∷ ps) qs first second =
@@ -80,7 +80,7 @@ module _ (join : FormulaTree → FormulaTree → FormulaTree) (a b : Automaton) 
             (λ m low. All-map (λ n. m < n) (λ n. n + a.sets) of.second.marks (λ k d within. omega (arith, low))) of.first.marks first.marks));
       }
 
-  -- the edges of a pair leave its place
+  -- the edges of a pair leave its index
   row_from : (x : ℕ × ℕ) → AllFrom (place x) (map (numbered pairs) (joint_edges a b x))
   row_from x = each_there (λ (e : LabelledEdge). e.from ≡ place x) (map (numbered pairs) (joint_edges a b x)) (λ e there.
       let j = from_map (numbered pairs) (joint_edges a b x) e there in

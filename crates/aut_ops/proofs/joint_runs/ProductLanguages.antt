@@ -1,4 +1,4 @@
--- What products accept.
+-- Products accept the intersection, or the union, of the languages.
 use Rattle.std.proofs.Common.{◌≡◌, ◌∙◌, ◌⊎◌, ℕ, List, inl, inr, sym}
 use Rattle.std.proofs.lemmas.Bool.{and_from, and_parts, or_cases, or_left, or_right}
 use Rattle.acc_forms.proofs.JoinLaws.{met-conj, met-disj}
@@ -37,7 +37,7 @@ module _ (a b : Automaton) (names : b.names ≡ a.names) (formed : IsWellFormed 
   pub product_accepts : AcceptsBoth all a b
   product_accepts u v = (from_all u v, λ both. to_all u v both.0 both.1)
 
-  -- under one of the two conditions
+  -- the union, where one of the two conditions has to be met
 
   abbrev any : Automaton
   any = product_on disj pairs a b

@@ -1,4 +1,4 @@
--- A run of a product is a run of each of the two automata.
+-- Runs of a product are pairs of runs of the two automata.
 use Rattle.std.proofs.Common.{◌≡◌, ◌∙◌, ◌&&◌, ◌+◌, ◌*◌, ◌<◌, ◌≤◌, ℕ, true, List, [], ◌∷◌, ◌++◌, Contains, Some, ap, arith, length, refl, slice_get, subst, sym}
 use Rattle.std.proofs.Math.Nat.{le-mul_of_pos_right, mul_comm}
 use Rattle.std.proofs.lemmas.Bool.{and_from, and_parts}
@@ -24,7 +24,7 @@ use Rattle.aut_ops.proofs.following.Simulations.{Simulates, run_image}
 use Rattle.aut_ops.specs.Labels.{both_labels}
 use Rattle.aut_ops.specs.Products.{ArePairs, numbered, product_on, same_pair, start_pairs}
 
--- a run of the product, with runs of both whose cycles it goes round
+-- a run of the product that is made of runs of both, with their cycles
 pub record JointRun (a b p : Automaton) (u v : List NameSet) (turns rounds : ℕ) (firsts seconds : List LabelledEdge) : Type 0 where
   pub run : LassoRun p u v turns rounds
   pub first : (f : FormulaTree) → SetsBelow a.sets f → met (marks_of run.cycle) f ≡ met (marks_of firsts) f
@@ -51,7 +51,7 @@ module _ (join : FormulaTree → FormulaTree → FormulaTree) (a b : Automaton) 
       truth_both (length a.names) (holds_at a.names x) d.label e.label (edge_of_first d one).label (second_below e two)
       ∙ ap (λ ns. truth (holds_at a.names x) d.label && truth (holds_at ns x) e.label) (sym names)
 
-  -- the product follows each of the two
+  -- each of the two simulates the product
 
   abbrev pub FirstOf : ℕ → ℕ → Type 0
   FirstOf k q = (r : ℕ) × (slice_get pairs k ≡ Some (q, r))
@@ -59,7 +59,7 @@ module _ (join : FormulaTree → FormulaTree → FormulaTree) (a b : Automaton) 
   abbrev pub SecondOf : ℕ → ℕ → Type 0
   SecondOf k q = (r : ℕ) × (slice_get pairs k ≡ Some (r, q))
 
-  -- an edge of the product that is gone from a pair is one of each, and both are gone
+  -- an edge of the product whose label holds of a letter is made of an edge of each, whose labels hold of it
   record Gone (e : LabelledEdge) (x : NameSet) (s t : ℕ) : Type 0 where
     of : EdgeOf a b pairs listed e
     first_from : s ≡ of.first.from
@@ -113,7 +113,7 @@ module _ (join : FormulaTree → FormulaTree → FormulaTree) (a b : Automaton) 
         };
   }
 
-  -- and two paths that read the same are one of the product
+  -- and two paths that read the same letters are a path of the product
 
   pub record PairPath (k : ℕ) (xs : List NameSet) (es fs : List LabelledEdge) (s t : ℕ) : Type 0 where
     pub state : ℕ
@@ -179,7 +179,7 @@ module _ (join : FormulaTree → FormulaTree → FormulaTree) (a b : Automaton) 
         second = λ f below. met_raised a.sets b.sets (marks_of cycle.edges) (marks_of s.cycle) cycle.seconds f below;
       }
 
-  -- runs over the same word, whenever they close
+  -- runs of both over the same word give a run of the product, wherever each of them closes
   pub record Joined (u v : List NameSet) (firsts seconds : List LabelledEdge) : Type 0 where
     pub turns : ℕ
     pub rounds : ℕ
@@ -206,7 +206,7 @@ module _ (join : FormulaTree → FormulaTree → FormulaTree) (a b : Automaton) 
         };
       }
 
-  -- the runs of both that a run of the product is
+  -- the runs of both of which a run of the product is made
   pub record Parts (u v : List NameSet) (turns rounds : ℕ) (cycle : List LabelledEdge) : Type 0 where
     pub first_run : LassoRun a u v turns rounds
     pub second_run : LassoRun b u v turns rounds

@@ -1,4 +1,4 @@
--- What labels say that are put together.
+-- The truth of conjunctions and complements of labels.
 use Rattle.std.proofs.Common.{◌≡◌, ◌≢◌, ◌∙◌, ◌↔◌, ◌⊎◌, ◌+◌, ◌++◌, ℕ, zero, suc, Bool, true, false, not, ◌&&◌, ◌||◌, IsTrue, if◌then◌else◌, List}
 use Rattle.std.proofs.Common.{[], ◌∷◌, All, AllPairs, ap, arith, inl, inr, length, map, refl, sym}
 use Rattle.std.proofs.lemmas.Bool.{cases_Bool, false≢true}
@@ -37,7 +37,7 @@ any_on n holds (e ∷ es) below =
 pub truth_none : (n : ℕ) (holds : ℕ → Bool) (es : List LabelledEdge) → All (λ e. AllBelow n e.label) es → truth holds (no_label n es) ≡ not (list_any (λ e. truth holds e.label) es)
 truth_none n holds es below = truth-label_of holds n (λ v. not (list_any (λ (e : LabelledEdge). truth_on e.label v) es)) ∙ ap not (any_on n holds es below)
 
--- labels that no valuation meets
+-- unsatisfiable labels
 
 pub never_false : (n : ℕ) (holds : ℕ → Bool) (t : LabelTree) → AllBelow n t → is_never n t ≡ true → truth holds t ≡ false
 never_false n holds t below never =
@@ -56,7 +56,7 @@ not_never n holds t below holds_now = elim (cases_Bool (is_never n t)) [
 pub never_each : (n : ℕ) (t : LabelTree) → ((v : List Bool) → length v ≡ n → truth_on t v ≡ false) → is_never n t ≡ true
 never_each n t fails = all_valuations n (λ v. not (truth_on t v)) (λ v long. ap not (fails v long))
 
--- a label that isn't so is met by some letter
+-- a label that isn't unsatisfiable holds of some letter
 pub some_letter : (names : List (List ℕ)) (t : LabelTree) → AllPairs (λ a b. a ≢ b) names → AllBelow (length names) t → is_never (length names) t ≡ false
     → (v : List Bool) × (truth (holds_at names (letter_of names v)) t ≡ true)
 some_letter names t differ below some =
@@ -91,7 +91,7 @@ all_cubes i (suc n) =
 pub label_always : (s : Store) (g : Guard) → IsGuardOf s (λ on. true) g → label_in s g ≡ True
 label_always s g is = label_from s g (λ on. true) (λ v. true) is (λ v long. refl) ∙ ap cubes_tree (all_cubes 0 s.names)
 
--- whether a guard is never met, as its label tells
+-- whether a guard is unsatisfiable, by its label
 pub never_is : (s : Store) (g : Guard) (b : Bool) → (IsTrue b ↔ IsNeverMet s g) → b ≡ is_never s.names (label_in s g)
 never_is s g b is = elim (cases_Bool (is_never s.names (label_in s g))) [
   | inl one ↦ is.1 (λ v long. fails v (each_valuation s.names (λ w. not (truth_on (label_in s g) w)) one v long)) ∙ sym one

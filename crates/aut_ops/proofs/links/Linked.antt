@@ -1,4 +1,4 @@
--- Links that stand for edges, and the guards that are made of theirs.
+-- Disjunctions of the guards of links, and their complements.
 use Rattle.std.proofs.Common.{◌≡◌, ◌∙◌, ◌<◌, ◌≤◌, ◌+◌, ◌||◌, ℕ, Bool, true, not, List, [], ◌∷◌, ◌++◌, All, ap, arith, get_or, length, map, subst, sym, take}
 use Rattle.std.proofs.lemmas.List.{map-append, take_all}
 use Rattle.std.proofs.lemmas.List.Folds.{list_any-append}
@@ -20,11 +20,11 @@ use Rattle.label_guards.specs.declared.guard.Guard.{Guard}
 use Rattle.aut_ops.proofs.links.Labels.{label_from}
 use Rattle.aut_ops.specs.Labels.{no_label}
 
--- whether one of the edges is met
+-- whether the label of one of the edges is true
 abbrev pub some_met : List LabelledEdge → (ℕ → Bool) → Bool
 some_met es on = list_any (λ e. truth on e.label) es
 
--- one link more
+-- another link
 pub met_more : (old s t : Store) (row : List Link) (i : ℕ) (x : Link) (met next : Guard) → i < length row → x ≡ get_or row i x → Has old x.guard → Keeps old s
     → IsGuardOf s (some_met (map (edge_of old) (take i row))) met → IsGuardOf t (λ on. truth_in s met on || truth_in s x.guard on) next
     → IsGuardOf t (some_met (map (edge_of old) (take (i + 1) row))) next
@@ -39,7 +39,7 @@ met_more old s t row i x met next within at has keeps so_far is =
           ∙ (sym (list_any-append (λ (e : LabelledEdge). truth on e.label) (map (edge_of old) (take i row)) (edge_of old x ∷ [])) ∙ sym (ap (λ es. some_met es on) whole))));
     }
 
--- the guard that is true where none is
+-- the guard that is true where none of them is
 pub none_met : (old s t : Store) (row : List Link) (i : ℕ) (met none : Guard) → length row ≤ i → s.names ≡ old.names → t.names ≡ s.names
     → IsGuardOf s (some_met (map (edge_of old) (take i row))) met → IsGuardOf t (λ on. not (truth_in s met on)) none → label_in t none ≡ no_label old.names (map (edge_of old) row)
 none_met old s t row i met none end names more so_far is =
@@ -47,7 +47,7 @@ none_met old s t row i met none end names more so_far is =
     (λ v long. ap not (so_far.truth (holds_in v) ∙ ap (λ ls. some_met (map (edge_of old) ls) (holds_in v)) (take_all i row end)))
     ∙ ap (λ n. no_label n (map (edge_of old) row)) (more ∙ names)
 
--- parts that are those of a well-formed automaton
+-- the parts of a well-formed automaton fit together
 pub parts_for : (c : SymbolicAutomaton) (x : Automaton) → automaton_of c ≡ x → IsWellFormed x → length x.names ≤ MOST_NAMES → c.store.names ≡ length x.names
     → All (λ l. Has c.store l.guard) c.links → AreSymbolicParts c
 parts_for c x is formed few names has =

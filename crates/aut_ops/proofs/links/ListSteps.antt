@@ -1,4 +1,4 @@
--- A list that is added to another item by item, each turned into something else.
+-- Appending the images of a list's items to another list, one by one.
 use Rattle.std.proofs.Common.{◌≡◌, ◌∙◌, ◌+◌, ◌<◌, ◌≤◌, ℕ, zero, suc, Bool, true, false, cond, filter, List, [], ◌∷◌, ◌++◌, All, AllPairs, ap}
 use Rattle.std.proofs.Common.{append_assoc, arith, get_or, length, length-take, map, subst, sym, take}
 use Rattle.std.proofs.lemmas.List.{get_or-take, get_or_default, map-append}
@@ -24,7 +24,7 @@ joint_below marks others all by_cases i mark low rise within is so_far = subst (
     let same = get_or_default others k d 0 (omega (arith, early, within)) in
     omega (arith, up, at, same, is))))
 
--- of so many items no more are kept
+-- of the first i items at most i are kept
 pub kept_within : {X : Type 0} (p : X → Bool) (xs : List X) (i : ℕ) → length (filter p (take i xs)) ≤ i
 kept_within p xs zero = omega arith
 kept_within p [] (suc i) = omega arith

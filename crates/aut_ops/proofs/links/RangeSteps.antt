@@ -1,4 +1,4 @@
--- A list of what a function gives at each number below one, made number by number.
+-- The list of a function's values at the numbers below a bound, made number by number.
 use Rattle.std.proofs.Common.{◌≡◌, ◌∙◌, ◌+◌, ℕ, List, [], ◌∷◌, ◌++◌, ap, arith, map, sym}
 use Rattle.std.proofs.lemmas.List.{map-append}
 use Rattle.std.specs.List.{range_with_len}

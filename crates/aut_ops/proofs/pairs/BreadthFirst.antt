@@ -1,4 +1,4 @@
--- What holds of lists in breadth-first order.
+-- Lists in breadth-first order are unique, and have exactly what is reached.
 use Rattle.std.proofs.Common.{◌≡◌, ◌≢◌, ◌∙◌, ◌↔◌, ◌⊎◌, ◌<◌, ◌≤◌, ℕ, zero, suc, Bool, List, [], ◌∷◌, ◌++◌, All, AllPairs, Contains}
 use Rattle.std.proofs.Common.{ap, append_assoc, arith, drop, fold, get_or, inl, inr, length, length-append, refl, subst, sym, take}
 use Rattle.std.proofs.lemmas.Bool.{cases_lt}
@@ -25,7 +25,7 @@ leads_on next x y z (w ∷ way) leads there = (leads.0, leads_on next w y z way 
 pub reached_next : {X : Type 0} (starts : List X) (next : X → List X) (y z : X) → IsReachedFrom starts next y → Contains (next y) z → IsReachedFrom starts next z
 reached_next starts next y z r there = record { start = r.start; is_start = r.is_start; way = r.way ++ z ∷ []; leads = leads_on next r.start y z r.way r.leads there }
 
--- what holds of the starts and is handed on holds of all that is reached
+-- a property of the starts that steps preserve holds of all that is reached
 leads_keeps : {X : Type 0} (P : X → Type 0) (next : X → List X) → ((x y : X) → P x → Contains (next x) y → P y) → (x y : X) (way : List X) → P x → LeadsBy next x way y → P y
 leads_keeps P next step x y [] here leads = subst P leads here
 leads_keeps P next step x y (z ∷ way) here leads = leads_keeps P next step z y way (step x z here leads.0) leads.1
@@ -37,7 +37,7 @@ reached_keeps P starts next first step y r = leads_keeps P next step r.start y r
 -- lists with each item once
 
 module _ {X : Type 0} (same : X → X → Bool) (tells : Tells same) where
-  -- an item that is there, and one that isn't
+  -- adding an item that is there, and one that isn't
   pub with_new_cases : (seen : List X) (x : X) → (Contains seen x × (with_new same seen x ≡ seen)) ⊎ ((Contains seen x → ⊥) × (with_new same seen x ≡ seen ++ x ∷ []))
   with_new_cases seen x = elim (new_cases same seen x) [
     | inl old ↦ inl (found_there same tells x seen old.0, old.1)
@@ -50,7 +50,7 @@ module _ {X : Type 0} (same : X → X → Bool) (tells : Tells same) where
     | inr new ↦ subst (λ ys. Contains ys x) (sym new.1) (Contains-push seen x)
   ]
 
-  -- what is added stands behind the rest
+  -- items are added at the end
   pub added : (seen xs : List X) → (rest : List X) × (fold (with_new same) seen xs ≡ seen ++ rest)
   added seen [] = ([], sym (append-nil seen))
   added seen (x ∷ xs) =
@@ -101,14 +101,14 @@ module _ {X : Type 0} (same : X → X → Bool) (tells : Tells same) where
     next_listed list is x y outer inner = subst (λ ys. Contains ys y) (sym is.in_turn)
         (added_there [] (starts ++ flat_map next list) y (Contains-append_right starts (flat_map next list) y (there_flat_map next list x y outer inner)))
 
-    -- the list has just what is reached
+    -- the list has exactly what is reached
     pub listed_exactly : (list : List X) → Listed list → (y : X) → Contains list y ↔ IsReachedFrom starts next y
     listed_exactly list is y = (
       All-contains (IsReachedFrom starts next) list y is.reached,
       reached_keeps (λ x. Contains list x) starts next (start_listed list is) (next_listed list is) y,
     )
 
-    -- what follows of a front of the list
+    -- the starts and the successors of the first items of the list, each once
     abbrev front : ℕ → List X → List X
     front k list = once same (starts ++ flat_map next (take k list))
 
@@ -120,7 +120,7 @@ module _ {X : Type 0} (same : X → X → Bool) (tells : Tells same) where
         let more = once_append (starts ++ flat_map next (take k list)) (flat_map next (drop k list)) in
         (more.0, is.in_turn ∙ (ap (once same) whole ∙ more.1))
 
-    -- a front that isn't all of the list leads on
+    -- for fewer items than all of the list, these are more than the items
     front_longer : (list : List X) → Listed list → (k : ℕ) → k < length list → k < length (front k list)
     front_longer list is k more = elim (cases_lt k (length (front k list))) [
       | inl less ↦ less
@@ -163,7 +163,7 @@ module _ {X : Type 0} (same : X → X → Bool) (tells : Tells same) where
               ∙ (ap (take (suc k)) same_front ∙ (sym (take-append-le (suc k) (front k other) two.0 long_too) ∙ sym (ap (take (suc k)) two.1)))),
         )
 
-    -- there is one list
+    -- the list is unique
     pub listed_once : (list other : List X) → Listed list → Listed other → list ≡ other
     listed_once list other is also =
         let there = agree list other is also (length list) (omega arith) in

@@ -1,4 +1,4 @@
--- There is a list in breadth-first order, or more is reached than may be.
+-- There is a list in breadth-first order within a limit, or more is reached than that.
 use Rattle.std.proofs.Common.{◌≡◌, ◌≢◌, ◌∙◌, ◌⊎◌, ◌+◌, ◌<◌, ◌≤◌, ℕ, zero, suc, Bool, List, [], ◌∷◌, ◌++◌, All, AllPairs, Some}
 use Rattle.std.proofs.Common.{ap, append-nil, append_assoc, arith, fold, inl, inr, length, refl, slice_get, subst, sym, take}
 use Rattle.std.proofs.lemmas.Bool.{cases_lt}
@@ -17,7 +17,7 @@ use Rattle.aut_ops.specs.Laws.{PairsExist, ProductsExist}
 use Rattle.aut_ops.specs.Products.{next_pairs, product_on, same_pair, start_pairs}
 
 module _ {X : Type 0} (same : X → X → Bool) (tells : Tells same) (starts : List X) (next : X → List X) where
-  -- what is listed once it was gone on from the items before this place
+  -- the list once the first `done` items were expanded
   record IsListing (done : ℕ) (list : List X) : Type 0 where
     in_turn : list ≡ once same (starts ++ flat_map next (take done list))
     differ : AllPairs (λ x y. x ≢ y) list
@@ -30,7 +30,7 @@ module _ {X : Type 0} (same : X → X → Bool) (tells : Tells same) (starts : L
     reached = added_each same tells (IsReachedFrom starts next) [] starts (λ k d within. absurd (omega (arith, within))) (each_there (IsReachedFrom starts next) starts (reached_start starts next));
   }
 
-  -- one item more
+  -- another item is expanded
   listing_more : (done : ℕ) (list : List X) (x : X) → slice_get list done ≡ Some x → done < length list → IsReachedFrom starts next x → IsListing done list
       → IsListing (done + 1) (fold (with_new same) list (next x))
   listing_more done list x at within here so_far =
@@ -53,7 +53,7 @@ module _ {X : Type 0} (same : X → X → Bool) (tells : Tells same) (starts : L
   abbrev IsMore : ℕ → Type 0
   IsMore most = (list : List X) × AllPairs (λ x y. x ≢ y) list × All (IsReachedFrom starts next) list × (most < length list)
 
-  -- it was gone on from all, or there are too many, or one is still to come
+  -- all items were expanded, or there are too many, or one is still to be expanded
   abbrev Unfinished : ℕ → ℕ → List X → Type 0
   Unfinished most done list = (done < length list) × (length list ≤ most)
 

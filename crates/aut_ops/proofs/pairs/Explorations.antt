@@ -1,4 +1,4 @@
--- The pairs that are listed when it was gone on from some of them.
+-- The invariant of exploring pairs, and what holds at the end.
 use Rattle.std.proofs.Common.{◌≡◌, ◌≢◌, ◌∙◌, ◌==◌, ◌+◌, ◌<◌, ◌≤◌, ◌^◌, ℕ, List, [], ◌∷◌, ◌++◌, All, AllPairs, Contains, Some, ap, append-nil}
 use Rattle.std.proofs.Common.{append_assoc, arith, filter, length, length-append, map, refl, slice_get, subst, sym, take}
 use Rattle.std.proofs.lemmas.Grind.{flat_map-append}
@@ -28,7 +28,7 @@ use Rattle.exploration.specs.Turns.{with_new}
 use Rattle.aut_ops.specs.Products.{ArePairs, HasMorePairs, JointEdge, joint_edge, joint_edges, next_pairs, same_pair, start_pairs}
 use Rattle.aut_ops.specs.inner.Pairings.{AddsJointEdges, AreBeyond, AreJointEdges, CanMeet, IsJointEdgeAt, PairingStage, followed, with_pairs}
 
--- It was gone on from the pairs before this place.
+-- The first `done` pairs were expanded.
 pub record IsExplored (most : ℕ) (a b : SymbolicAutomaton) (old now : PairingStage) (done : ℕ) : Type 0 where
   pub first : Keeps a.store now.store
   pub second : Keeps b.store now.store
@@ -70,7 +70,7 @@ module _ (most : ℕ) (a b : SymbolicAutomaton) (core_a : IsWellFormedSymbolic a
     longer = ([], sym (append-nil old.pairs));
   }
 
-  -- the edges of a pair, as the rows of links say them
+  -- the edges of a pair are the product edges of the links of its two states
   pub row_steps : (s : Store) (p q sets : ℕ) (firsts seconds : List Link) → Keeps a.store s → Keeps b.store s → sets ≡ a.sets → firsts ≡ filter (λ l. l.from == p) a.links
       → seconds ≡ filter (λ l. l.from == q) b.links → flat_map (followed s sets seconds) firsts ≡ steps (p, q)
   row_steps s p q sets firsts seconds one two at first_is second_is =
@@ -88,7 +88,7 @@ module _ (most : ℕ) (a b : SymbolicAutomaton) (core_a : IsWellFormedSymbolic a
       by_cases (l ∷ ls) same = ap (λ js. js ++ flat_map (followed s sets seconds) ls) (same l)
           ∙ ap (λ js. flat_map (joint_edge s.names sets (edge_of s l)) (map (edge_of s) seconds) ++ js) (by_cases ls same)
 
-  -- the links of both states of a pair can meet
+  -- the links of both states of a pair can be combined
   pub rows_can : (s : PairingStage) (at p q sets : ℕ) (firsts seconds : List Link) → Keeps a.store s.store → Keeps b.store s.store → sets ≡ a.sets → slice_get s.pairs at ≡ Some (p, q)
       → firsts ≡ filter (λ l. l.from == p) a.links → seconds ≡ filter (λ l. l.from == q) b.links → All (λ l. All (CanMeet s at sets l) seconds) firsts
   rows_can s at p q sets firsts seconds one two same place first_is second_is =
@@ -110,7 +110,7 @@ module _ (most : ℕ) (a b : SymbolicAutomaton) (core_a : IsWellFormedSymbolic a
         others = All-weaker (λ m. m < b.sets) (λ m. m + sets < 2 ^ 32) (λ m low. omega (arith, low, same, fits)) o.marks other.marks;
       }))
 
-  -- one pair more
+  -- another pair is expanded
   pub explored_more : (old s t : PairingStage) (done p q : ℕ) (js : List JointEdge) → IsExplored most a b old s done → slice_get s.pairs done ≡ Some (p, q) → AddsJointEdges s t js → js ≡ steps (p, q)
       → length t.pairs ≤ most → IsExplored most a b old t (done + 1)
   explored_more old s t done p q js so_far at adds same few =
@@ -138,7 +138,7 @@ module _ (most : ℕ) (a b : SymbolicAutomaton) (core_a : IsWellFormedSymbolic a
         longer = (so_far.longer.0 ++ long.0, grown ∙ (ap (λ (xs : List (ℕ × ℕ)). xs ++ long.0) so_far.longer.1 ∙ append_assoc old.pairs so_far.longer.0 long.0));
       }
 
-  -- too many, found from one pair
+  -- more pairs than the limit, found while a pair is expanded
   pub explored_beyond : (old s : PairingStage) (done p q : ℕ) (js : List JointEdge) → IsExplored most a b old s done → slice_get s.pairs done ≡ Some (p, q) → js ≡ steps (p, q)
       → AreBeyond most s.pairs (ends js) → HasMorePairs most first second
   explored_beyond old s done p q js so_far at same beyond =
@@ -154,7 +154,7 @@ module _ (most : ℕ) (a b : SymbolicAutomaton) (core_a : IsWellFormedSymbolic a
         more = beyond.many;
       }
 
-  -- too many starts
+  -- more pairs of starts than the limit
   pub starts_beyond : AreBeyond most [] (start_pairs first second) → HasMorePairs most first second
   starts_beyond beyond = record {
     pairs = with_pairs [] beyond.some;
@@ -164,13 +164,13 @@ module _ (most : ℕ) (a b : SymbolicAutomaton) (core_a : IsWellFormedSymbolic a
     more = beyond.many;
   }
 
-  -- both states of a listed pair
+  -- the two states of a listed pair are in range
   pub pair_within : (old s : PairingStage) (done p q : ℕ) → IsExplored most a b old s done → slice_get s.pairs done ≡ Some (p, q) → (p < a.states) × (q < b.states)
   pair_within old s done p q so_far at =
       let in_old : done < length s.pairs = slice_get_within s.pairs done (p, q) at in
       reached_within first second core_a.well_formed core_b.well_formed (p, q) (subst Reached (get_or_from_slice_get s.pairs done (p, q) (p, q) at) (so_far.reached done (p, q) in_old))
 
-  -- it was gone on from all
+  -- all pairs were expanded
   pub explored_all : (old s : PairingStage) (done : ℕ) → IsExplored most a b old s done → length s.pairs ≤ done → ArePairs first second s.pairs × AreJointEdges s (flat_map steps s.pairs)
   explored_all old s done so_far end =
       let all : take done s.pairs ≡ s.pairs = take_all done s.pairs end in (

@@ -1,4 +1,4 @@
--- What the error of a product tells of that of its exploration.
+-- The error of a product by that of its exploration.
 use Rattle.std.proofs.Common.{◌≡◌, refl}
 use Rattle.aut_ops.specs.declared.fault.ExploreFault.{ExploreFault}
 use Rattle.aut_ops.specs.declared.fault.ExploreFault.TheVariants as explored

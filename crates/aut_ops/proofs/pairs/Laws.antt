@@ -1,4 +1,4 @@
--- The pairs of a product are determined, and are those to which letters lead.
+-- The pairs of a product are unique, and are those to which one list of letters leads in both automata.
 use Rattle.std.proofs.Common.{◌≡◌, ◌∙◌, ◌&&◌, ℕ, true, List, [], ◌∷◌, ◌++◌, Contains, ap, arith, length, refl, subst, sym}
 use Rattle.std.proofs.lemmas.Bool.{and_from, and_parts}
 use Rattle.std.proofs.lemmas.List.Elements.{All-contains}

@@ -1,4 +1,4 @@
--- Pairs that are listed one by one, and their places.
+-- Listing pairs one by one, and their indices.
 use Rattle.std.proofs.Common.{◌≡◌, ◌∙◌, ◌+◌, ◌<◌, ℕ, List, [], ◌∷◌, ◌++◌, Contains, Some, ap, append-nil, append_assoc, drop, get_or, length, map, refl, slice_get, subst, sym, take}
 use Rattle.std.proofs.lemmas.Grind.{flat_map-append}
 use Rattle.std.proofs.lemmas.List.{map-append}
@@ -38,13 +38,13 @@ listed_then r s t ks ls ms xs ys first second = record {
   places = λ before are. subst (ArePlacesOfPairs t ms) (append_assoc before xs ys) (second.places (before ++ xs) (first.places before are));
 }
 
--- more pairs than a front of the list and what follows it
+-- where a prefix of what is listed has more pairs than the limit, the whole has
 pub beyond_front : (most : ℕ) (pairs s front here rest all : List (ℕ × ℕ)) → s ≡ with_pairs pairs front → all ≡ front ++ (here ++ rest) → AreBeyond most s here → AreBeyond most pairs all
 beyond_front most pairs s front here rest all listed whole beyond =
     let first = beyond_then most pairs front here (subst (λ ps. AreBeyond most ps here) listed beyond) in
     beyond_wider most pairs (front ++ here) all (λ x there. subst (λ ys. Contains ys x) (append_assoc front here rest ∙ sym whole) (Contains-append_left (front ++ here) rest x there)) first
 
--- one item more of a row
+-- another item of a row
 
 module _ {X : Type 0} (f : X → ℕ × ℕ) (xs : List X) (i : ℕ) (x : X) (within : i < length xs) (is : x ≡ get_or xs i x) where
   pub row_next : map f (take (i + 1) xs) ≡ map f (take i xs) ++ f x ∷ []
@@ -53,7 +53,7 @@ module _ {X : Type 0} (f : X → ℕ × ℕ) (xs : List X) (i : ℕ) (x : X) (wi
   pub row_whole : map f xs ≡ map f (take i xs) ++ ((f x ∷ []) ++ map f (drop (i + 1) xs))
   row_whole = ap (map f) (split-at xs i x within is) ∙ map-append f (take i xs) (x ∷ drop (i + 1) xs)
 
--- and one row more
+-- and another row
 
 module _ {X : Type 0} (f : X → List (ℕ × ℕ)) (xs : List X) (i : ℕ) (x : X) (within : i < length xs) (is : x ≡ get_or xs i x) where
   pub rows_next : flat_map f (take (i + 1) xs) ≡ flat_map f (take i xs) ++ f x

@@ -1,4 +1,4 @@
--- A product that grows edge by edge.
+-- A product under construction, to which edges are added one by one.
 use Rattle.std.proofs.Common.{◌≡◌, ◌∙◌, ◌↔◌, ◌&&◌, ◌+◌, ◌<◌, ℕ, Bool, true, false, cond, IsTrue, List, [], ◌∷◌, ◌++◌, All, Contains, Some, ap}
 use Rattle.std.proofs.Common.{append-nil, append_assoc, arith, get_or, drop, length, map, refl, slice_get, subst, sym, take}
 use Rattle.std.proofs.lemmas.List.{map-append, take-append-drop}
@@ -31,7 +31,7 @@ use Rattle.aut_ops.specs.inner.Pairings.{AddsJointEdges, AreBeyond, AreJointEdge
 abbrev pub ends : List JointEdge → List (ℕ × ℕ)
 ends = map (λ j. j.to)
 
--- places in a list stay in a longer one
+-- items keep their indices when a list grows
 pub longer_at : (old new : List (ℕ × ℕ)) (rest : List (ℕ × ℕ)) (k : ℕ) (x : ℕ × ℕ) → new ≡ old ++ rest → slice_get old k ≡ Some x → slice_get new k ≡ Some x
 longer_at old new rest k x is at = ap (λ (xs : List (ℕ × ℕ)). slice_get xs k) is ∙ (slice_get-append_left old rest k (slice_get_within old k x at) ∙ at)
 
@@ -44,7 +44,7 @@ numbered_longer old new rest (e ∷ es) (j ∷ js) is zip = (
   numbered_longer old new rest es js is zip.1,
 )
 
--- nothing but the store grows
+-- no edge is added, but the store may grow
 pub adds_nothing : (s t : Store) (pairs : List (ℕ × ℕ)) (links : List Link) → Keeps s t
     → AddsJointEdges (record { store = s; pairs = pairs; links = links }) (record { store = t; pairs = pairs; links = links }) []
 adds_nothing s t pairs links keeps = record {
@@ -57,7 +57,7 @@ adds_nothing s t pairs links keeps = record {
   };
 }
 
--- one edge, whose end is listed now
+-- an edge is added, and the pair to which it leads is listed
 pub adds_one : (s t : Store) (pairs more : List (ℕ × ℕ)) (links new : List Link) (l : Link) (j : JointEdge) → Keeps s t → more ≡ with_new same_pair pairs j.to → new ≡ links ++ l ∷ []
     → Has t l.guard → slice_get pairs l.from ≡ Some j.from → slice_get more l.to ≡ Some j.to → label_in t l.guard ≡ j.label → l.marks ≡ j.marks
     → AddsJointEdges (record { store = s; pairs = pairs; links = links }) (record { store = t; pairs = more; links = new }) (j ∷ [])
@@ -77,7 +77,7 @@ adds_one s t pairs more links new l j keeps listed pushed has from to label mark
       };
     }
 
--- one after the other
+-- edges that are added in two steps
 pub adds_then : (r s t : PairingStage) (js ks : List JointEdge) → AddsJointEdges r s js → AddsJointEdges s t ks → AddsJointEdges r t (js ++ ks)
 adds_then r s t js ks first second = record {
   keeps = keeps_on first.keeps second.keeps;
@@ -86,13 +86,13 @@ adds_then r s t js ks first second = record {
   links = λ before are. subst (AreJointEdges t) (append_assoc before js ks) (second.links (before ++ js) (first.links before are));
 }
 
--- places stay
+-- pairs keep their indices
 pub adds_keeps_place : (s t : PairingStage) (js : List JointEdge) (k : ℕ) (x : ℕ × ℕ) → AddsJointEdges s t js → slice_get s.pairs k ≡ Some x → slice_get t.pairs k ≡ Some x
 adds_keeps_place s t js k x adds at =
     let long = added same_pair pair_tells s.pairs (ends js) in
     longer_at s.pairs t.pairs long.0 k x (adds.pairs ∙ long.1) at
 
--- too many pairs
+-- more pairs than the limit
 
 pub beyond_wider : (most : ℕ) (pairs xs ys : List (ℕ × ℕ)) → ((x : ℕ × ℕ) → Contains xs x → Contains ys x) → AreBeyond most pairs xs → AreBeyond most pairs ys
 beyond_wider most pairs xs ys wider beyond = record { some = beyond.some; among = All-weaker (Contains xs) (Contains ys) wider beyond.some beyond.among; many = beyond.many }
@@ -108,7 +108,7 @@ beyond_then most pairs xs ys beyond = record {
   many = subst (λ (zs : List (ℕ × ℕ)). most < length zs) (sym (fold-append (with_new same_pair) pairs xs beyond.some)) beyond.many;
 }
 
--- the two edges met
+-- the product edge of two links
 
 pub never_met : (s t : Store) (g h k : Guard) (b : Bool) → Keeps s t → IsGuardOf t (λ on. truth_in s g on && truth_in s h on) k → (IsTrue b ↔ IsNeverMet t k)
     → is_never s.names (both_labels s.names (label_in s g) (label_in s h)) ≡ b
@@ -123,7 +123,7 @@ pub met_one : (s : Store) (sets : ℕ) (link other : Link) → is_never s.names 
     → meeting s sets link other ≡ joined s.names sets (edge_of s link) (edge_of s other) ∷ []
 met_one s sets link other some = ap (λ (b : Bool). cond b [] (joined s.names sets (edge_of s link) (edge_of s other) ∷ [])) some
 
--- as the store grows, links mean what they meant
+-- as the store grows, product edges stay the same
 
 pub meeting_kept : (s t : Store) (sets : ℕ) (link other : Link) → Keeps s t → Has s link.guard → Has s other.guard → meeting t sets link other ≡ meeting s sets link other
 meeting_kept s t sets link other keeps first second =

@@ -1,4 +1,4 @@
--- The place of an item in a list of different items.
+-- The index of an item in a list of different items.
 use Rattle.std.proofs.Common.{◌≡◌, ◌≢◌, ◌∙◌, ◌==◌, ℕ, Bool, List, AllPairs, Contains, Some, ap, arith, get_or, slice_get, sym}
 use Rattle.std.proofs.lemmas.Bool.{and_from, and_parts, eq-eqb, eqb-true, false_from_ne_true}
 use Rattle.std.proofs.lemmas.List.Sums.{position_or_len_is}

@@ -1,4 +1,4 @@
--- A complete automaton has a run over each lasso word: of the states at which it stands after each turn of the cycle,
+-- A complete automaton has a run over each lasso word, since of the states of a path after each turn of the cycle
 -- two are the same.
 use Rattle.std.proofs.Common.{◌≡◌, ◌∙◌, ◌⊎◌, ◌+◌, ◌-◌, ◌<◌, ◌≤◌, ℕ, zero, suc, true, false, List, [], ◌∷◌, ◌++◌, All, Contains, ap, arith, eqb, get_or, inl, inr, length, map, refl, subst, sym}
 use Rattle.std.proofs.lemmas.Bool.{cases_Bool, cases_lt, eqb-true}
@@ -16,7 +16,7 @@ use Rattle.aut_base.specs.Word.{NameSet, copies}
 use Rattle.aut_core.specs.Deterministic.{IsComplete}
 use Rattle.aut_base.specs.Runs.{HasRun, HasRuns}
 
--- a number that stands at two places
+-- two indices of a list have the same number
 record Twice (xs : List ℕ) : Type 0 where
   early : ℕ
   late : ℕ
@@ -41,7 +41,7 @@ distinct_or_twice (x ∷ xs) = by_cases (distinct_or_twice xs) (cases_Bool (list
     by_cases (inl distinct) (inr none) = inl (none_equal x xs none, distinct)
     by_cases (inr twice) (inr none) = inr (record { early = suc twice.early; late = suc twice.late; order = omega (arith, twice.order); within = omega (arith, twice.within); same = twice.same })
 
--- more numbers than there are below n
+-- of more than n numbers below n two are the same
 two_same : (n : ℕ) (xs : List ℕ) → All (λ x. x < n) xs → n < length xs → Twice xs
 two_same n xs below long = by_cases (distinct_or_twice xs)
   where
@@ -89,7 +89,7 @@ module _ (a : Automaton) (formed : IsWellFormed a) (complete : IsComplete a) whe
             }
         by_cases (inr past) is = absurd (omega (arith, less, past))
 
-    -- the state after so many turns
+    -- the state after this many turns
     abbrev turns : ℕ → ℕ → ℕ
     turns zero p = p
     turns (suc k) p = turns k (after p)

@@ -1,4 +1,4 @@
--- How many states and sets an automaton has when it was made complete: what a caller of `complete` has to know.
+-- Bounds on the numbers of states and sets of a completion, which a caller of `complete` has to know.
 use Rattle.std.proofs.Common.{◌+◌, ◌≤◌, ℕ, Bool, true, false, cond, arith}
 use Rattle.aut_base.specs.Automaton.{Automaton}
 use Rattle.aut_ops.specs.Completion.{completed, is_met_unmarked, lacks_nothing, with_sink}

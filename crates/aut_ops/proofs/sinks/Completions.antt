@@ -1,4 +1,4 @@
--- What holds of an automaton with a sink.
+-- The edges of an automaton with a sink, and that it is well formed.
 use Rattle.std.proofs.Common.{◌≡◌, ◌≢◌, ◌∙◌, ◌⊎◌, ◌==◌, ◌+◌, ◌<◌, ◌≤◌, ℕ, Bool, true, false, cond, not, List, [], ◌∷◌, ◌++◌, All, AllPairs, Contains, ap, arith, inl, inr, length, refl, subst, sym}
 use Rattle.std.proofs.lemmas.Bool.{eqb-true, eq-eqb}
 use Rattle.std.proofs.lemmas.List.Elements.{All-append, All-contains, All-from_recursion, Contains-append_cases, Contains-append_left, Contains-append_right, filter-append}
@@ -26,7 +26,7 @@ loop a = record { from = a.states; label = True; to = a.states; marks = sink_mar
 abbrev pub gap : Automaton → ℕ → LabelledEdge
 gap a q = record { from = q; label = no_label (length a.names) (edges_from q a.edges); to = a.states; marks = [] }
 
--- rows
+-- the edges of each state
 
 pub edges_own : (q : ℕ) (es : List LabelledEdge) → AllFrom q (edges_from q es)
 edges_own q es = each_there (λ (e : LabelledEdge). e.from ≡ q) (edges_from q es) (λ e there. eqb-true e.from q (from_filter (λ (d : LabelledEdge). d.from == q) es e there).1)

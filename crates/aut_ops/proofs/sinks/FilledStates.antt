@@ -1,4 +1,4 @@
--- The links of a state, and its link to the sink behind them.
+-- The links of a state with its link to the sink are the edges of the definition.
 use Rattle.std.proofs.Common.{◌≡◌, ◌∙◌, ◌↔◌, ◌==◌, ◌+◌, ℕ, Bool, true, false, cond, if◌then◌else◌, IsTrue, List, [], ◌∷◌, ◌++◌, All, ap, append-nil, append_assoc, filter, length, map, subst, sym}
 use Rattle.std.proofs.lemmas.List.Elements.{All-filter, All-weaker}
 use Rattle.std.specs.List.{range_with_len}
@@ -21,7 +21,7 @@ use Rattle.aut_base.proofs.order.Ordered.{filter_map_of}
 use Rattle.aut_ops.specs.Completion.{filled_edges, gap_edges, sink_marks, with_sink}
 use Rattle.aut_ops.specs.Labels.{is_never, no_label}
 
--- whether there are letters that meet no edge, as the guard of these letters tells
+-- whether there are letters that meet no edge, by the guard of these letters
 pub gap_is : (t : Store) (gap : Guard) (n : ℕ) (es : List LabelledEdge) (b : Bool) → (IsTrue b ↔ IsNeverMet t gap) → t.names ≡ n → label_in t gap ≡ no_label n es → is_never n (no_label n es) ≡ b
 gap_is t gap n es b is names label = sym (never_is t gap b is ∙ (ap (λ m. is_never m (label_in t gap)) names ∙ ap (is_never n) label))
 
@@ -62,7 +62,7 @@ pub row_edges : (a : SymbolicAutomaton) (s : Store) (q : ℕ) (row : List Link) 
 row_edges a s q row core keeps is =
     ap (map (edge_of s)) is ∙ (sym (filter_map_of (λ (e : LabelledEdge). e.from == q) (edge_of s) a.links) ∙ ap (edges_from q) (kept_edges a.links keeps (links_have a core)))
 
--- one state more
+-- another state
 pub state_more : (a : SymbolicAutomaton) (s t : Store) (links new row : List Link) (q sink : ℕ) → sink ≡ a.states → IsWellFormedSymbolic a → Keeps a.store s → row ≡ filter (λ l. l.from == q) a.links
     → StandFor s links (flat_map (filled_edges (automaton_of a)) (range_with_len 0 q))
     → StandFor t new (map (edge_of s) links ++ (map (edge_of s) row ++ gap_edges s.names q sink (map (edge_of s) row)))

@@ -1,4 +1,4 @@
--- A run of an automaton with a sink stays outside the sink, or ends there and isn't accepting.
+-- A run of an automaton with a sink stays outside the sink, or is in it from some position on and isn't accepting.
 use Rattle.std.proofs.Common.{◌≡◌, ◌∙◌, ◌⊎◌, ◌==◌, ◌*◌, ◌<◌, ◌≤◌, ◌&&◌, ◌||◌, ℕ, Bool, true, false, cond, not, List, [], ◌∷◌, ◌++◌, All, Contains, ap, arith, inl, inr, length, refl, subst, sym}
 use Rattle.std.proofs.Math.Nat.{le-mul_of_pos_right}
 use Rattle.std.proofs.lemmas.Bool.{and_from, and_parts, eq-eqb, eqb-true, false≢true}
@@ -42,7 +42,7 @@ module _ (a : Automaton) (formed : IsWellFormed a) where
   abbrev c : Automaton
   c = with_sink a
 
-  -- where an edge leads
+  -- an edge leads to a state of the automaton or to the sink
   goes : (e : LabelledEdge) → Kind a e → (e.to < a.states) ⊎ (e.to ≡ a.states)
   goes e (inl old) = inl (All-contains (IsEdgeOf a) a.edges e formed.edges old).to
   goes e (inr (inl new)) = inr (sym (ap (λ (d : LabelledEdge). d.to) new.2))
@@ -53,7 +53,7 @@ module _ (a : Automaton) (formed : IsWellFormed a) where
   stays e (inr (inl new)) from = let same = ap (λ (d : LabelledEdge). d.from) new.2 in absurd (omega (arith, new.1, same, from))
   stays e (inr (inr last)) from = last
 
-  -- from the sink only the loop is gone
+  -- from the sink a path has nothing but the loop
   in_sink : (p q : ℕ) (xs : List NameSet) (es : List LabelledEdge) → p ≡ a.states → IsPath c p xs es q → (q ≡ a.states) × All (λ marks. marks ≡ sink_marks a) (marks_of es)
   in_sink p q [] [] at path = (sym path ∙ at, λ k d within. absurd (omega (arith, within)))
   in_sink p q [] (e ∷ es) at path = absurd path
@@ -63,7 +63,7 @@ module _ (a : Automaton) (formed : IsWellFormed a) where
       let rest = in_sink e.to q xs es (sym (ap (λ (d : LabelledEdge). d.to) is)) path.3 in
       (rest.0, All-cons (λ marks. marks ≡ sink_marks a) e.marks (marks_of es) (sym (ap (λ (d : LabelledEdge). d.marks) is)) rest.1)
 
-  -- a path to another state doesn't touch the sink
+  -- a path to another state doesn't visit the sink
   outside : (p q : ℕ) (xs : List NameSet) (es : List LabelledEdge) → p < a.states → q < a.states → IsPath c p xs es q → IsPath a p xs es q
   outside p q [] [] first last path = path
   outside p q [] (e ∷ es) first last path = absurd path

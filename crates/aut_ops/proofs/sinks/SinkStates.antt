@@ -133,7 +133,7 @@ module _ (a : Automaton) (formed : IsWellFormed a) where
   with_sink_deterministic is =
       (deterministic_if (with_sink a) true (λ k d within. ((with_sink_formed a formed).edges k d within).from) (few_starts (length a.starts == 0) is.start) ((λ _. state_apart is), λ _. refl)).0 refl
 
-  -- the automaton made complete
+  -- the completion
 
   -- it is the automaton itself, or the one with a sink
   pub completed_cases : (lacks_nothing a ≡ true) × (completed a ≡ a) ⊎ ((lacks_nothing a ≡ false) × (completed a ≡ with_sink a))

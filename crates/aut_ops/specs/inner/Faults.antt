@@ -1,4 +1,4 @@
--- Faults of names, and of pairs that are explored, as those of a product.
+-- The error of a product by that of joining names, and by that of exploring pairs.
 use Rattle.aut_core.specs.declared.join.NameFault.{NameFault}
 use Rattle.aut_core.specs.declared.join.NameFault.TheVariants as name_fault
 use Rattle.aut_ops.specs.declared.fault.ExploreFault.{ExploreFault}

@@ -1,4 +1,4 @@
--- The two ways in which the conditions of a product are joined.
+-- The connective by which a product joins the conditions, and the language of the product.
 use Rattle.std.specs.Prelude.{◌≡◌, ℕ, List}
 use Rattle.acc_forms.specs.Joined.{conj, disj}
 use Rattle.aut_base.specs.Automaton.{Automaton}
@@ -14,12 +14,12 @@ abbrev pub join_of : Join → FormulaTree → FormulaTree → FormulaTree
 join_of All = conj
 join_of Any = disj
 
--- What a product accepts under the join. Under one of the two conditions each automaton has to have a run over each word.
+-- The language of a product: the intersection under And; the union under Or, if each of the automata has a run over each word.
 abbrev pub JoinAccepts : Join → Automaton → Automaton → Automaton → Type 0
 JoinAccepts All made a b = AcceptsBoth made a b
 JoinAccepts Any made a b = HasRuns a → HasRuns b → AcceptsEither made a b
 
--- the parts are those of the product on these pairs
+-- the parts make the product on these pairs
 pub record IsProductCore (j : Join) (a b : SymbolicAutomaton) (pairs : List (ℕ × ℕ)) (c : SymbolicAutomaton) : Type 0 where
   pub shape : automaton_of c ≡ product_on (join_of j) pairs (automaton_of a) (automaton_of b)
   pub accepts : JoinAccepts j (automaton_of c) (automaton_of a) (automaton_of b)

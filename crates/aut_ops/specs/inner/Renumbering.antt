@@ -1,4 +1,4 @@
--- Links of an automaton that stay, links whose states have other numbers, and what finds useful states.
+-- Links that are kept, links with renumbered states, and the parts of the search for useful states.
 use Rattle.std.specs.Prelude.{ℕ, Bool, ◌&&◌, List, length, map, nat_eq}
 use Rattle.std.specs.List.{range_with_len, slice_index_or}
 use Rattle.aut_base.specs.Marks.{is_in}
@@ -13,7 +13,7 @@ link_passable c l = is_satisfiable (length c.names) (edge_of c.store l)
 abbrev pub link_stays : SymbolicAutomaton → List Bool → Link → Bool
 link_stays c flags l = is_kept_edge (length c.names) flags (edge_of c.store l)
 
--- the ends of a link
+-- a link as an arc
 abbrev pub link_arc : Link → ℕ × ℕ
 link_arc l = (l.from, l.to)
 
@@ -24,11 +24,11 @@ new_number numbers q = slice_index_or numbers q 0
 abbrev pub new_link : List ℕ → Link → Link
 new_link numbers l = record { from = new_number numbers l.from; guard = l.guard; to = new_number numbers l.to; marks = l.marks }
 
--- the link is in set 0, its label isn't false, and its ends have one number
+-- the link is in set 0, its label is satisfiable, and both of its states are in one component
 abbrev pub link_closes : SymbolicAutomaton → List ℕ → Link → Bool
 link_closes c numbers l = link_passable c l && (is_in 0 l.marks && nat_eq (new_number numbers l.from) (new_number numbers l.to))
 
--- the arc turned around
+-- the arc reversed
 abbrev pub reversed_arc : ℕ × ℕ → ℕ × ℕ
 reversed_arc arc = (arc.1, arc.0)
 

@@ -1,4 +1,4 @@
--- What is known of each node in a pass in depth.
+-- The states of nodes in the depth-first search, and the components that are closed.
 use Rattle.std.specs.Prelude.{◌≡◌, ℕ, ◌+◌, ◌^◌, ◌<◌, ◌≤◌, ◌↔◌, List, length}
 use Rattle.std.specs.List.{slice_index_or, sum_by}
 use Rattle.graph_walk.specs.Walk.{Reaches}
@@ -7,7 +7,7 @@ use Rattle.graph_walk.specs.inner.Places.{At}
 use Rattle.graph_walk.specs.declared.pass.Mark.{Mark}
 use Rattle.graph_walk.specs.declared.pass.Mark.TheVariants.{Fresh, Open, Closed}
 
--- the mark of a node
+-- the state of a node
 abbrev pub node_mark : List Mark → ℕ → Mark
 node_mark marks x = slice_index_or marks x Fresh
 
@@ -29,7 +29,7 @@ one_if_fresh Fresh = 1
 one_if_fresh (Open place) = 0
 one_if_fresh (Closed number) = 0
 
--- how many nodes were not entered
+-- the number of nodes that were not entered
 abbrev pub fresh_count : List Mark → ℕ
 fresh_count marks = sum_by one_if_fresh marks
 
@@ -40,7 +40,7 @@ pub record AreNumbered (arcs : List (ℕ × ℕ)) (numbered : ℕ → ℕ → Ty
   pub same : (x y m n : ℕ) → numbered x m → numbered y n → (m ≡ n) ↔ (Reaches arcs x y × Reaches arcs y x)
   pub all : (number : ℕ) → number < count → (x : ℕ) × numbered x number
 
--- the marks, the list of the open nodes and the count of closed components belong together
+-- the states of the nodes, the list of the open nodes and the count of closed components agree
 pub record AreConsistent (arcs : List (ℕ × ℕ)) (marks : List Mark) (order : List ℕ) (count : ℕ) : Type 0 where
   pub stands : (x i : ℕ) → node_mark marks x ≡ Open i → At order i x
   pub opened : (x i : ℕ) → At order i x → node_mark marks x ≡ Open i
@@ -48,7 +48,7 @@ pub record AreConsistent (arcs : List (ℕ × ℕ)) (marks : List Mark) (order :
   pub room : count + fresh_count marks + length order ≤ length marks
   pub few : length marks < 2 ^ 32
 
--- of the open nodes, those from the place `from` on and before `to` are closed under the number
+-- of the open nodes, those from the index `from` on and before `to` are closed under the number
 pub record ClosesFrom (order : List ℕ) (from to number : ℕ) (old new : List Mark) : Type 0 where
   pub size : length new ≡ length old
   pub chosen : (i x : ℕ) → from ≤ i → i < to → At order i x → node_mark new x ≡ Closed number

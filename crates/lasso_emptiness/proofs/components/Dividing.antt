@@ -1,4 +1,4 @@
--- Groups taken one after the other from a list: divided by a side, and judged.
+-- The loops that take groups one after the other from a list: one divides them by a set literal, the other judges them.
 use Rattle.std.proofs.Common.{◌≡◌, ◌∙◌, ◌⊎◌, ℕ, ◌<◌, Bool, true, false, List, [], ◌∷◌, ◌++◌, length, map, Option, None, Some, inl, inr, arith, subst, sym}
 use Rattle.std.specs.Prelude.{MatchOption}
 use Rattle.std.specs.List.{All, Contains}
@@ -15,7 +15,7 @@ use Rattle.lasso_emptiness.specs.inner.Splits.{AddsOff, AreLeft, Crosses, IsMetG
 use Rattle.lasso_emptiness.specs.inner.Trails.{InSome, IsTrail, NoneAccepting, NoneInAny}
 use Rattle.lasso_emptiness.proofs.trails.Trails.{trail_kind}
 
--- what `pop` leaves
+-- the members of a list after `pop`
 popped_rest : {A : Type 0} (all rest : List A) (x y : A) → all ≡ rest ++ x ∷ [] → Contains rest y → Contains all y
 popped_rest all rest x y is here = subst (λ xs. Contains xs y) (sym is) (Contains-append_left rest (x ∷ []) y here)
 
@@ -32,7 +32,7 @@ pub record IsDivided (links : List Link) (set : ℕ) (neg : Bool) (group off : L
   pub to_off : (e : EdgeRef) → Contains group e → on_side set neg (marks_of links e) ≡ false → Contains off e
   pub to_crossed : (e : EdgeRef) → Contains group e → on_side set neg (marks_of links e) ≡ true → Contains crossed group
 
--- these groups of all are still to be divided
+-- the invariant of dividing: the groups `rest` are still to be divided
 pub record DividedSoFar (links : List Link) (set : ℕ) (neg : Bool) (all rest : List (List EdgeRef)) (off : List EdgeRef) (crossed : List (List EdgeRef)) : Type 0 where
   pub rest_inside : (group : List EdgeRef) → Contains rest group → Contains all group
   pub off_some : (e : EdgeRef) → Contains off e → InSome all e
@@ -102,7 +102,7 @@ module _ (links : List Link) (set : ℕ) (neg : Bool) (all : List (List EdgeRef)
     ];
   }
 
--- these groups of all are still to be judged, and those are left
+-- the invariant of judging: the groups `rest` are still to be judged, and `left` are open
 pub record JudgedSoFar (links : List Link) (f : FormulaTree) (all rest left : List (List EdgeRef)) (undecided : Option SetLiteral) : Type 0 where
   pub rest_inside : (group : List EdgeRef) → Contains rest group → Contains all group
   pub left_inside : (group : List EdgeRef) → Contains left group → Contains all group

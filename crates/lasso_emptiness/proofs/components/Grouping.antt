@@ -1,4 +1,4 @@
--- Edges by the numbers of the components that they lie in.
+-- Grouping edges by the numbers of their components: each closed path is within one group.
 use Rattle.std.proofs.Common.{if◌then◌else◌, ◌≡◌, ◌≢◌, ◌∙◌, ℕ, ◌+◌, ◌<◌, Bool, true, false, List, [], ◌∷◌, ◌++◌, length, get_or, map, nat_eq, take, inl, inr, refl, ap, arith, subst, sym}
 use Rattle.std.specs.List.{All, Contains, filter}
 use Rattle.std.proofs.lemmas.Bool.{and_from, and_parts, cases_lt, eq-eqb, eqb-true}
@@ -85,7 +85,7 @@ module _ (states : ℕ) (numbers : List ℕ) (edges : List EdgeRef) (groups : Li
   group_at : (group : List EdgeRef) (h : Contains groups group) → group ≡ filter (is_inside numbers h.0) edges
   group_at group h = sym h.2 ∙ sym (get_or_default groups h.0 [] group h.1) ∙ made h.0
 
-  -- a walk whose end leads back stays in its component
+  -- a walk whose end reaches its start stays in its component
   stays : (k p q : ℕ) (walk : List (ℕ × ℕ)) → p < states → get_or numbers p 0 ≡ k → IsWalk arcs p walk q → Reaches arcs q p → IsWalk (map arc_of (filter (is_inside numbers k) edges)) p walk q
   stays k p q [] at number leads back = leads
   stays k p q (a ∷ walk) at number leads back =
@@ -118,7 +118,7 @@ module _ (states : ℕ) (numbers : List ℕ) (edges : List EdgeRef) (groups : Li
       let both = (are.same d.to e.from ends_d.1 ends_e.0).0 (from.1 ∙ sym to.0) in
       record { walk = both.0.walk; leads = stays k d.to e.from both.0.walk ends_d.1 from.1 both.0.leads both.1 }
 
-  -- the edges of a closed path lie in one component
+  -- the edges of a closed path are in one component
   one_component : (k p q : ℕ) (es : List EdgeRef) → p < states → get_or numbers p 0 ≡ k → IsTrail (Contains edges) p es q → Reaches arcs q p
       → IsTrail (Contains (filter (is_inside numbers k) edges)) p es q
   one_component k p q [] at number trail back = trail

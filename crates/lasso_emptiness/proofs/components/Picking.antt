@@ -1,4 +1,4 @@
--- Edges picked one after the other.
+-- Adding edges of some kind, one after the other.
 use Rattle.std.proofs.Common.{◌≡◌, ◌∙◌, ℕ, ◌+◌, ◌<◌, Bool, true, false, List, [], ◌∷◌, ◌++◌, length, get_or, map, take, inl, inr, ap, subst, sym}
 use Rattle.std.specs.List.{All, Contains}
 use Rattle.std.proofs.lemmas.List.{get_or_default}
@@ -49,7 +49,7 @@ module _ (Kind : EdgeRef → Type 0) (edges old : List EdgeRef) (i : ℕ) (withi
         ];
       })
 
--- the same edges, said to be of another kind
+-- the same, by an equivalent kind
 pub picks_alike : (K L : EdgeRef → Type 0) (edges old new : List EdgeRef) → ((e : EdgeRef) → Contains edges e → K e → L e) → ((e : EdgeRef) → Contains edges e → L e → K e)
     → Picks K edges old new → Picks L edges old new
 picks_alike K L edges old new there back picks = record {
@@ -61,7 +61,7 @@ picks_alike K L edges old new there back picks = record {
   ];
 }
 
--- the edges of flagged states, where exactly what is reached is flagged
+-- the edges of flagged states, where exactly the reached states are flagged
 pub flagged_are_reached : (nodes states : ℕ) (arcs : List (ℕ × ℕ)) (starts from : List ℕ) (flags slice : List Bool) (edges : List EdgeRef) → AreReachFlags nodes arcs from flags → slice ≡ flags
     → nodes ≡ states → arcs ≡ map arc_of edges → from ≡ starts → All (λ (e : EdgeRef). (e.from < states) × (e.to < states)) edges → (new : List EdgeRef)
     → Picks (λ (e : EdgeRef). get_or slice e.from false ≡ true) edges [] new → AreReachedEdges starts edges new

@@ -1,4 +1,4 @@
--- What is found, or not, in parts of the edges, is found, or not, in all of them.
+-- The search is exact: what it finds, or doesn't, in components and with a `Fin` decided, is right for all edges.
 use Rattle.std.proofs.Common.{◌≡◌, ◌∙◌, ℕ, Bool, true, false, List, map, Option, None, Some, inl, inr, ap, refl, sym}
 use Rattle.std.specs.List.{All, Contains, list_any}
 use Rattle.std.proofs.lemmas.List.Elements.{All-contains}
@@ -18,7 +18,7 @@ use Rattle.lasso_emptiness.proofs.conditions.Conditions.{met-denied, met-taken}
 use Rattle.lasso_emptiness.proofs.conditions.Marked.{none_on}
 use Rattle.lasso_emptiness.proofs.trails.Trails.{trail_kind, trail_weaker, trail_with}
 
--- the same closed path, along edges of another kind
+-- an accepting closed path, along edges of a wider kind
 pub accepting_weaker : (links : List Link) (K L : EdgeRef → Type 0) (f : FormulaTree) (cycle : List EdgeRef) → ((e : EdgeRef) → K e → L e) → IsAccepting links K f cycle
     → IsAccepting links L f cycle
 accepting_weaker links K L f cycle weaker accepting = record {
@@ -28,7 +28,7 @@ accepting_weaker links K L f cycle weaker accepting = record {
   meets = accepting.meets;
 }
 
--- the same edges, of another kind
+-- an accepting component, of edges of a wider kind
 pub carrier_weaker : (links : List Link) (K L : EdgeRef → Type 0) (f : FormulaTree) (group : List EdgeRef) → ((e : EdgeRef) → K e → L e) → IsAcceptingComponent links K f group
     → IsAcceptingComponent links L f group
 carrier_weaker links K L f group weaker carrier = record {
@@ -38,7 +38,7 @@ carrier_weaker links K L f group weaker carrier = record {
   meets = carrier.meets;
 }
 
--- what the groups of components answer for all edges
+-- an answer for the groups is one for all edges
 pub finds_of_groups : (links : List Link) (edges : List EdgeRef) (groups : List (List EdgeRef)) (f : FormulaTree) → AreGroups edges groups → (found : Option (List EdgeRef))
     → FindsInAny links groups f found → Finds links (Contains edges) f found
 finds_of_groups links edges groups f are None none = λ cycle accepting.
@@ -47,7 +47,7 @@ finds_of_groups links edges groups f are None none = λ cycle accepting.
 finds_of_groups links edges groups f are (Some group) carrier =
     carrier_weaker links (InSome groups) (Contains edges) f group (λ e some. (are.each some.group some.listed).inside e some.here) carrier
 
--- a closed path through the edges that are needed
+-- a closed path through the needed edges is accepting
 pub accepting_tour : (links : List Link) (edges needed cycle : List EdgeRef) (f : FormulaTree) → AreNeeded links edges f needed → IsTour edges needed cycle
     → IsAccepting links (Contains edges) f cycle
 accepting_tour links edges needed cycle f are tour = record {
@@ -57,10 +57,10 @@ accepting_tour links edges needed cycle f are tour = record {
   meets = are.enough cycle (each_there (Contains edges) cycle (λ e here. trail_kind (Contains edges) tour.state tour.state cycle e tour.closed here)) tour.passes;
 }
 
--- Groups are left after others have no such path, and are divided by the side of a `Fin`.
+-- The groups that are left open, while no other has an accepting path, divided by a `Fin`.
 module _ (links : List Link) (set : ℕ) (neg : Bool) (f : FormulaTree) (groups left crossed : List (List EdgeRef)) (off : List EdgeRef) (are : AreLeft links groups f left)
     (split : AreGroupsSplit links set neg left off crossed) where
-  -- edges off the side meet the condition as they do with the `Fin` taken as true
+  -- a component of edges that meet the `Fin`, accepting with the `Fin` taken as true, is accepting
   pub found_off : (group : List EdgeRef) → IsAcceptingComponent links (Contains off) (substituted set neg true f) group → IsAcceptingComponent links (InSome groups) f group
   found_off group carrier = record {
     some = carrier.some;
@@ -70,7 +70,7 @@ module _ (links : List Link) (set : ℕ) (neg : Bool) (f : FormulaTree) (groups 
         (none_on links group set neg (each_there (λ (e : EdgeRef). on_side set neg (marks_of links e) ≡ false) group (λ e here. split.off_side e (carrier.kind e here))))) ∙ carrier.meets;
   }
 
-  -- edges that meet the condition with the `Fin` taken as false meet it
+  -- a component that is accepting with the `Fin` taken as false is accepting
   pub found_crossed : (group : List EdgeRef) → IsAcceptingComponent links (InSome crossed) (substituted set neg false f) group → IsAcceptingComponent links (InSome groups) f group
   found_crossed group carrier = record {
     some = carrier.some;
@@ -79,7 +79,7 @@ module _ (links : List Link) (set : ℕ) (neg : Bool) (f : FormulaTree) (groups 
     meets = met-denied (map (marks_of links) group) set neg f carrier.meets;
   }
 
-  -- each path is off the side, or passes an edge on it
+  -- nothing else is: each closed path meets the `Fin`, or has an edge that violates it
   pub none_found : NoneAccepting links (Contains off) (substituted set neg true f) → NoneInAny links crossed (substituted set neg false f) → NoneInAny links groups f
   none_found none_off none_crossed group listed cycle accepting = elim (are.others group listed) [
     | inl there ↦ go there (list_any (on_side set neg) (map (marks_of links) cycle)) refl
@@ -106,7 +106,7 @@ module _ (links : List Link) (set : ℕ) (neg : Bool) (f : FormulaTree) (groups 
             meets = met-taken (map (marks_of links) cycle) set neg false f is ∙ accepting.meets;
           })
 
-  -- what is found in the groups that have an edge on the side, once nothing is found off it
+  -- the answer of the second search, in groups with an edge that violates the `Fin`, once the first found nothing
   pub finds_of_split : NoneAccepting links (Contains off) (substituted set neg true f) → (found : Option (List EdgeRef)) → FindsInAny links crossed (substituted set neg false f) found
       → FindsInAny links groups f found
   finds_of_split none_off None none = none_found none_off none

@@ -1,4 +1,4 @@
--- What conditions say of cycles, with a `Fin` decided and on fewer edges.
+-- Conditions on cycles with a truth value substituted for a `Fin`, and on cycles with fewer edges.
 use Rattle.std.proofs.Common.{if◌then◌else◌, ◌≡◌, ◌∙◌, ℕ, ◌+◌, ◌<◌, ◌≤◌, Bool, true, false, not, ◌&&◌, ◌||◌, List, [], ◌∷◌, nat_eq, inl, inr, refl, sym, ap, subst, arith, ⊎_elim}
 use Rattle.std.proofs.lemmas.Bool.{true≢false, and_from, and_parts, eq-eqb, eqb-true, or_cases, or_left, or_right}
 use Rattle.std.specs.List.{list_all, list_any}
@@ -9,7 +9,7 @@ use Rattle.lasso_emptiness.specs.inner.Edges.{on_side}
 use Rattle.lasso_emptiness.specs.inner.Judged.{all_fins, fin_count, has_side, is_same_side, some_has_side}
 use Rattle.lasso_emptiness.specs.inner.Taken.{all_taken, substituted}
 
--- `Inf` and `Fin` by their side
+-- `Inf` and `Fin` by their set literal
 pub met-Inf : (cycle : List (List ℕ)) (set : ℕ) (neg : Bool) → met cycle (Inf set neg) ≡ list_any (on_side set neg) cycle
 met-Inf cycle set true = refl
 met-Inf cycle set false = refl
@@ -33,7 +33,7 @@ same_set a b true false is = let both = and_parts (nat_eq a b) false is in absur
 same_set a b false true is = let both = and_parts (nat_eq a b) false is in absurd (true≢false (sym both.1))
 
 module _ (cycle : List (List ℕ)) (set : ℕ) (neg value : Bool) where
-  -- the truth of a `Fin` that is decided as the cycle does
+  -- substituting the truth that a `Fin` has on the cycle changes no truth
   met-taken_fin : (other : ℕ) (neg' : Bool) → list_any (on_side set neg) cycle ≡ not value → met cycle (substituted set neg value (Fin other neg')) ≡ met cycle (Fin other neg')
   met-taken_fin other neg' decided = go (is_same_side set neg other neg') refl
     where
@@ -117,7 +117,7 @@ less_of_three x y z x' y' z' false true r a b c first second third some = let le
 less_of_three x y z x' y' z' false false true a b c first second third some = let less = third refl in omega arith
 less_of_three x y z x' y' z' false false false a b c first second third some = absurd (true≢false (sym some))
 
--- a decided `Fin` is one less
+-- substitution leaves fewer `Fin`
 module _ (set : ℕ) (neg value : Bool) where
   fins-value : (v : Bool) → fin_count (if v then True else False) ≡ 0
   fins-value true = refl

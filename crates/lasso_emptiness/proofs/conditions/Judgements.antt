@@ -1,4 +1,4 @@
--- The parts of a conjunction or disjunction, judged one after the other.
+-- Verdicts on conjunctions and disjunctions, part after part.
 use Rattle.std.proofs.Common.{◌≡◌, ℕ, ◌+◌, true, false, List, drop, Some, None, Option, slice_get, refl}
 use Rattle.std.specs.Prelude.{MatchOption}
 use Rattle.std.specs.List.{All, Contains, list_all, list_any}
@@ -54,7 +54,7 @@ one_so_far_open cycle fs place part undecided side is so_far has fails = record 
   by_open = any_at (has_side side.set side.neg) fs place part is has;
 }
 
--- what is not judged as met is not met
+-- a condition that isn't judged as met isn't met
 pub not_met : (cycle : List (List ℕ)) (f : FormulaTree) (v : Verdict) → IsJudged cycle f v → (v ≡ Met → ⊥) → met cycle f ≡ false
 not_met cycle f Met judged other = absurd (other refl)
 not_met cycle f Never judged other = judged cycle (All-contains_itself cycle)

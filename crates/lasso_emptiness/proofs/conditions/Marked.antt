@@ -1,4 +1,4 @@
--- Edges by their marks.
+-- The marks of edges, and the set literals that they satisfy.
 use Rattle.std.proofs.Common.{◌≡◌, ◌∙◌, ℕ, Bool, true, false, List, map, not, ap}
 use Rattle.std.specs.List.{All, Contains, list_any}
 use Rattle.std.proofs.lemmas.List.Elements.{All-map}

@@ -1,4 +1,4 @@
--- What a condition's parts say of it, for each way to go down a condition.
+-- What holds of a condition by what holds of its parts, for each recursive function over conditions.
 use Rattle.std.proofs.Common.{◌≡◌, ◌∙◌, ℕ, Bool, ◌||◌, List, [], ◌∷◌, map, refl, sym, ap}
 use Rattle.std.specs.List.{list_any}
 use Rattle.aut_base.specs.Formula.{FormulaTree, more, formula_tree, formula_parts, formula_list, trees}
@@ -39,7 +39,7 @@ all_taken-trees : (set : ℕ) (neg value : Bool) (fs : List FormulaTree) → all
 all_taken-trees set neg value [] = refl
 all_taken-trees set neg value (f ∷ fs) = ap (λ rest. more (substituted set neg value f) rest) (all_taken-trees set neg value fs)
 
--- the condition whose parts have the `Fin` decided
+-- substitution in a conjunction and a disjunction, by their parts
 pub taken-And : (set : ℕ) (neg value : Bool) (p q : Formulas) → formula_list q ≡ map (substituted set neg value) (formula_list p)
     → formula_tree (And q) ≡ substituted set neg value (formula_tree (And p))
 taken-And set neg value p q parts =

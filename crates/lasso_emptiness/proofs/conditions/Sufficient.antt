@@ -1,4 +1,4 @@
--- Edges that serve a condition: none are added, some for each part, or those of one part.
+-- The needed edges suffice for a condition, by cases: none is added, one for an `Inf`, those of each part, or those of one part.
 use Rattle.std.proofs.Common.{◌≡◌, ◌∙◌, ℕ, ◌+◌, ◌≤◌, Bool, true, false, not, List, [], ◌∷◌, ◌++◌, map, take, Some, slice_get, refl, sym, ap, subst}
 use Rattle.std.specs.List.{All, Contains, list_all, list_any}
 use Rattle.std.proofs.lemmas.Bool.{true≢false}
@@ -19,7 +19,7 @@ module _ (links : List Link) (edges : List EdgeRef) where
   abbrev marked : List EdgeRef → List (List ℕ)
   marked es = map (marks_of links) es
 
-  -- no edge is on the side of a `Fin` that all of them meet, so none of fewer edges is
+  -- a `Fin` that all edges together meet is met by any cycle of them
   pub fin_fewer : (set : ℕ) (neg : Bool) (cycle : List EdgeRef) → All (Contains edges) cycle → met_along links edges (Fin set neg) ≡ true → met_along links cycle (Fin set neg) ≡ true
   fin_fewer set neg cycle within holds = met-Fin (marked cycle) set neg ∙ ap not (none (list_any (on_side set neg) (marked cycle)) refl)
     where
@@ -37,13 +37,13 @@ module _ (links : List Link) (edges : List EdgeRef) where
       → ((cycle : List EdgeRef) → All (Contains edges) cycle → All (Contains cycle) old → test (marked cycle)) → Suits links edges test old old
   suits_same test old inside enough = record { kept = All-contains_itself old; inside = inside; enough = enough }
 
-  -- an edge on the side of an `Inf` is there
+  -- an edge that meets an `Inf` was chosen before
   pub inf_there : (set : ℕ) (neg : Bool) (old : List EdgeRef) (e : EdgeRef) → All (Contains edges) old → Contains old e → on_side set neg (marks_of links e) ≡ true
       → Serves links edges (Inf set neg) old old
   inf_there set neg old e inside there on =
       suits_same (λ marks. met marks (Inf set neg) ≡ true) old inside (λ cycle within has. inf_met links cycle set neg e (All-contains (Contains cycle) old e has there) on)
 
-  -- one is added
+  -- such an edge is added
   pub inf_added : (set : ℕ) (neg : Bool) (old new : List EdgeRef) (e : EdgeRef) → new ≡ old ++ e ∷ [] → All (Contains edges) old → Contains edges e
       → on_side set neg (marks_of links e) ≡ true → Serves links edges (Inf set neg) old new
   inf_added set neg old new e made inside here on = subst (Serves links edges (Inf set neg) old) (sym made) (record {
@@ -52,7 +52,7 @@ module _ (links : List Link) (edges : List EdgeRef) where
     enough = λ cycle within has. inf_met links cycle set neg e (All-contains (Contains cycle) (old ++ e ∷ []) e has (Contains-push old e)) on;
   })
 
-  -- what is needed for two tests, one after the other
+  -- edges chosen for two tests, one after the other, suffice for both
   pub suits_then : (P Q R : List (List ℕ) → Type 0) (old mid new : List EdgeRef) → ((marks : List (List ℕ)) → P marks → Q marks → R marks) → Suits links edges P old mid
       → Suits links edges Q mid new → Suits links edges R old new
   suits_then P Q R old mid new both first second = record {
@@ -69,7 +69,7 @@ module _ (links : List Link) (edges : List EdgeRef) where
       suits_then (λ marks. list_all (met marks) (take place fs) ≡ true) (λ marks. met marks part ≡ true) (λ marks. list_all (met marks) (take (place + 1) fs) ≡ true) old mid new
       (λ marks so_far holds. all_take_more (met marks) fs place part is so_far holds) before here
 
-  -- what passes a test passes any that holds where that one does
+  -- edges that suffice for a test suffice for each weaker one
   suits_weaker : (P Q : List (List ℕ) → Type 0) (old new : List EdgeRef) → ((marks : List (List ℕ)) → P marks → Q marks) → Suits links edges P old new → Suits links edges Q old new
   suits_weaker P Q old new weaker suits = record {
     kept = suits.kept;

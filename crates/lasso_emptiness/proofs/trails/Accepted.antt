@@ -1,4 +1,4 @@
--- A closed path that is reached and accepting makes an accepted word, and an accepted word such a path.
+-- A reached accepting closed path gives an accepted word, and an accepted word such a path.
 use Rattle.std.proofs.Common.{◌≡◌, ◌∙◌, ◌↔◌, ℕ, zero, suc, ◌+◌, ◌*◌, ◌<◌, ◌≤◌, List, [], ◌∷◌, ◌++◌, length, get_or, map, Option, None, Some, slice_get, inl, inr, ap, arith, refl, subst, sym}
 use Rattle.std.specs.List.{All, Contains}
 use Rattle.std.specs.Prelude.{MatchOption}
@@ -104,7 +104,7 @@ accepts_nothing c is passable reached are picked none u v accepts =
     some_copies zero v positive endless = absurd (omega arith)
     some_copies (suc k) v positive endless = let long = length-append v (copies k v) in omega arith
 
--- what holds of each letter of a word holds of those of each word that spells the same
+-- what holds of each letter of a lasso word holds of each letter of any that spells the same infinite word
 copies_all : (P : NameSet → Type 0) (k : ℕ) (y : List NameSet) → All P y → All P (copies k y)
 copies_all P zero y all = All-nil P
 copies_all P (suc k) y all = All-append P y (copies k y) all (copies_all P k y all)
@@ -144,13 +144,13 @@ reduced_word c w new endless endless' own same reduced accepts = record {
     back : (xs ys : List NameSet) → All (HoldsOnly c.names) (xs ++ ys) → All (HoldsOnly c.names) ys
     back xs ys all = each_there (HoldsOnly c.names) ys (λ x here. All-contains (HoldsOnly c.names) (xs ++ ys) x all (Contains-append_right xs ys x here))
 
--- the answer of a search, said of the automaton's own parts
+-- the answer of a search, for equal arguments
 pub finds_in : (links own : List Link) (slice edges : List EdgeRef) (f g : FormulaTree) (found : Option (List EdgeRef)) → links ≡ own → slice ≡ edges → f ≡ g
     → Finds links (Contains slice) f found → Finds own (Contains edges) g found
 finds_in links own slice edges f g found links_are edges_are f_is finds =
     subst (λ h. Finds own (Contains edges) h found) f_is (subst (λ es. Finds own (Contains es) f found) edges_are (subst (λ (ls : List Link). Finds ls (Contains slice) f found) links_are finds))
 
--- an edge that is reached is one of the edges, and leaves a reached state
+-- a reached edge is one of the edges, and leaves a reached state
 pub leaves_reached : (starts : List ℕ) (edges reached : List EdgeRef) → AreReachedEdges starts edges reached → (e : EdgeRef) → Contains reached e
     → Contains edges e × ReachedFrom (map arc_of edges) starts e.from
 leaves_reached starts edges reached picked e here = elim (picked.nothing_else e here) [
@@ -158,7 +158,7 @@ leaves_reached starts edges reached picked e here = elim (picked.nothing_else e 
   | inr found ↦ found
 ]
 
--- what a search among reached edges answers, said of the automaton
+-- the answer of a search among the reached edges of an automaton
 pub component_said : (c : SymbolicAutomaton) → IsWellFormedSymbolic c → (passable reached : List EdgeRef) → ArePassable c passable → AreReachedEdges c.starts passable reached
     → (found : Option (List EdgeRef))
     → Finds c.links (Contains reached) c.formula found → MatchOption found (AcceptsNothing (automaton_of c)) (IsAcceptingComponent c.links (IsReachedEdge c passable) c.formula)

@@ -1,4 +1,4 @@
--- Walks gone the other way.
+-- Walks in the reversed graph.
 use Rattle.std.proofs.Common.{◌≡◌, ◌∙◌, ◌↔◌, ℕ, ◌<◌, Bool, false, List, [], ◌∷◌, get_or, map, inl, inr, ap, refl, subst, sym}
 use Rattle.std.specs.Prelude.{IsTrue}
 use Rattle.std.specs.List.{All, Contains}
@@ -31,7 +31,7 @@ has_nodes_back nodes states arcs edges same made ends =
     (All-map (λ (a : ℕ × ℕ). (a.0 < states) × (a.1 < states)) back_arc_of edges
     (All-weaker (λ (e : EdgeRef). (e.from < states) × (e.to < states)) (λ (e : EdgeRef). (e.to < states) × (e.from < states)) (λ e both. (both.1, both.0)) edges ends)))
 
--- what is reached backwards from a state reaches it
+-- a state that is reached from another in the reversed graph reaches it
 pub reaching_exact : (nodes states : ℕ) (arcs : List (ℕ × ℕ)) (from : List ℕ) (edges : List EdgeRef) (state : ℕ) → nodes ≡ states → arcs ≡ map back_arc_of edges → from ≡ state ∷ []
     → (flags : List Bool) → AreReachFlags nodes arcs from flags → (p : ℕ) → p < states → IsTrue (get_or flags p false) ↔ Reaches (map arc_of edges) p state
 reaching_exact nodes states arcs from edges state nodes_are arcs_are from_is flags are p below = (there, back)

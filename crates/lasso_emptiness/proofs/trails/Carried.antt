@@ -1,4 +1,4 @@
--- Joined edges that together meet a condition carry an accepting closed path, and where they are reached an accepted word.
+-- An accepting component has an accepting closed path, and, where it is reached, the automaton accepts a word.
 use Rattle.std.proofs.Common.{◌≡◌, ◌∙◌, ◌↔◌, ℕ, zero, suc, ◌+◌, ◌<◌, ◌≤◌, Bool, List, [], ◌∷◌, ◌++◌, length, map, take, Option, None, Some, is_some, ap, arith, refl, subst, sym}
 use Rattle.std.specs.List.{All, Contains, list_all, list_any}
 use Rattle.std.specs.Prelude.{IsTrue, MatchOption}
@@ -26,7 +26,7 @@ use Rattle.lasso_emptiness.proofs.trails.Lettered.{letter_for, letters_long}
 use Rattle.lasso_emptiness.proofs.trails.Touring.{ToursSoFar, tours_all, tours_more, tours_none, tours_reaches}
 use Rattle.lasso_emptiness.proofs.trails.Trails.{trail_kind, trail_weaker}
 
--- where a walk leads a path does
+-- for a walk there is a path between the same states
 path_along : (edges : List EdgeRef) (p q : ℕ) (walk : List (ℕ × ℕ)) → IsWalk (map arc_of edges) p walk q → (way : List EdgeRef) × IsTrail (Contains edges) p way q
 path_along edges p q [] leads = ([], leads)
 path_along edges p q (arc ∷ walk) leads =
@@ -37,13 +37,13 @@ path_along edges p q (arc ∷ walk) leads =
 path_to : (edges : List EdgeRef) (p q : ℕ) → Reaches (map arc_of edges) p q → (way : List EdgeRef) × IsTrail (Contains edges) p way q
 path_to edges p q reaches = path_along edges p q reaches.walk reaches.leads
 
--- a path that passes the first of the edges, as many as this
+-- a path that has the first i of the edges
 record PassesFirst (edges : List EdgeRef) (i first : ℕ) : Type 0 where
   cycle : List EdgeRef
   at : ℕ
   so_far : ToursSoFar edges (take i edges) cycle first at
 
--- a closed path that passes all of them
+-- a closed path that has all of them
 tour_of_all : (edges : List EdgeRef) → 0 < length edges → IsStronglyConnected edges → (cycle : List EdgeRef) × IsTour edges edges cycle
 tour_of_all edges some joined =
     let whole = passes (length edges) (omega arith) in
@@ -77,7 +77,7 @@ tour_of_all edges some joined =
               (record { way = way.0; added = refl; leads = way.1 }) refl);
         }
 
--- no test tells two lists apart that have the same items
+-- lists with the same members pass the same tests
 alike_items : {A : Type 0} (xs ys : List A) → ((x : A) → Contains xs x → Contains ys x) → ((y : A) → Contains ys y → Contains xs y) → Alike xs ys
 alike_items xs ys to from = record {
   some = λ p. same_truth (list_any p xs) (list_any p ys)
@@ -87,7 +87,7 @@ alike_items xs ys to from = record {
       (λ is. each_from p xs (λ x here. each_is p ys x is (to x here)));
 }
 
--- the closed path through all edges of a carrier is accepting
+-- the closed path through all edges of an accepting component is accepting
 carried_path : (links : List Link) (Kind : EdgeRef → Type 0) (f : FormulaTree) (group : List EdgeRef) → IsAcceptingComponent links Kind f group
     → (cycle : List EdgeRef) × IsAccepting links Kind f cycle
 carried_path links Kind f group carrier =
@@ -111,7 +111,7 @@ carried_path links Kind f group carrier =
         let edge = from_map (marks_of links) es marks here in
         subst (Contains (map (marks_of links) ds)) edge.2 (there_map (marks_of links) ds edge.0 (inside edge.0 edge.1))
 
--- letters for edges whose labels are not false
+-- letters for edges whose labels are satisfiable
 letters_for : (c : SymbolicAutomaton) → IsWellFormedSymbolic c → (es : List EdgeRef) → ((e : EdgeRef) → Contains es e → IsPassable c e) → (letters : List NameSet) × AreLettersOf c es letters
 letters_for c is [] passable = ([], _)
 letters_for c is (e ∷ es) passable =
@@ -119,7 +119,7 @@ letters_for c is (e ∷ es) passable =
     let rest = letters_for c is es (λ d here. passable d (later_there e es d here)) in
     (letter.0 ∷ rest.0, (letter.1, rest.1))
 
--- where such edges are reached some word is accepted
+-- where an accepting component is reached, some word is accepted
 pub carrier_accepts : (c : SymbolicAutomaton) → IsWellFormedSymbolic c → (edges group : List EdgeRef) → ArePassable c edges → IsAcceptingComponent c.links (IsReachedEdge c edges) c.formula group
     → AcceptsSome (automaton_of c)
 carrier_accepts c is edges group are carrier =
@@ -143,7 +143,7 @@ carrier_accepts c is edges group are carrier =
     }) stem.1 loop.1 in
     record { stem = stem.0; cycle = loop.0; accepts = own.accepts }
 
--- what the test for such edges says
+-- some word is accepted exactly where the search finds an accepting component
 pub some_accepted : (c : SymbolicAutomaton) → IsWellFormedSymbolic c → (edges : List EdgeRef) (found : Option (List EdgeRef)) (some : Bool) → ArePassable c edges → some ≡ is_some found
     → MatchOption found (AcceptsNothing (automaton_of c)) (IsAcceptingComponent c.links (IsReachedEdge c edges) c.formula) → IsTrue some ↔ AcceptsSome (automaton_of c)
 some_accepted c is edges None some are tells none = ((λ holds. absurd (true≢false (sym holds ∙ tells))), (λ word. absurd (none word.stem word.cycle word.accepts)))

@@ -1,4 +1,4 @@
--- Letters that labels allow, and paths that read them.
+-- Letters that satisfy labels, and paths that read them.
 use Rattle.std.proofs.Common.{◌≡◌, ◌∙◌, ◌⊎◌, ℕ, zero, suc, ◌<◌, Bool, true, false, List, [], ◌∷◌, ◌++◌, length, get_or, map, Some, slice_get, inl, inr, ap, arith, refl, subst, sym}
 use Rattle.std.specs.List.{Contains}
 use Rattle.std.proofs.lemmas.Bool.{true≢false}
@@ -38,7 +38,7 @@ own_names (n ∷ names) (true ∷ v) name here = elim (there_cases n (names_on n
   | inr rest ↦ later_there n names name (own_names names v name rest)
 ]
 
--- the letter of a valuation that meets a link's label is one for its edge
+-- the letter of a valuation that satisfies a link's label is one for its edge
 letter_of_valuation : (c : SymbolicAutomaton) → IsWellFormedSymbolic c → (e : EdgeRef) (l : Link) → IsEdgeAt c e l → (v : List Bool) → length v ≡ c.store.names
     → truth_on (label_in c.store l.guard) v ≡ true
     → IsLetterOf c e (letter_of c.names v)
@@ -57,7 +57,7 @@ pub least_letter_of : (c : SymbolicAutomaton) → IsWellFormedSymbolic c → (e 
 least_letter_of c is e l letter at least =
     subst (IsLetterOf c e) (sym least.letter_of) (letter_of_valuation c is e l at least.valuation least.least.size least.least.is_true)
 
--- a valuation that passes a test, or none does
+-- some valuation passes a test, or none does
 some_valuation : (n : ℕ) (p : List Bool → Bool) → ((v : List Bool) × (length v ≡ n) × (p v ≡ true)) ⊎ ((v : List Bool) → length v ≡ n → p v ≡ false)
 some_valuation zero p = go (p []) refl
   where
@@ -81,7 +81,7 @@ some_valuation (suc n) p = elim (some_valuation n (λ v. p (true ∷ v))) [
     each on off (true ∷ v) size = on v (omega (arith, size))
     each on off (false ∷ v) size = off v (omega (arith, size))
 
--- a letter for an edge whose label is not false
+-- a letter for an edge whose label is satisfiable
 pub letter_for : (c : SymbolicAutomaton) → IsWellFormedSymbolic c → (e : EdgeRef) → IsPassable c e → (letter : NameSet) × IsLetterOf c e letter
 letter_for c is e passable =
     let l = passable.link in
@@ -90,7 +90,7 @@ letter_for c is e passable =
       | inr none ↦ absurd (passable.some none)
     ]
 
--- a label that some letter meets is not false
+-- a label that some letter satisfies is satisfiable
 pub met_by_letter : (c : SymbolicAutomaton) → IsWellFormedSymbolic c → (l : Link) (letter : NameSet) → truth (holds_at c.names letter) (label_in c.store l.guard) ≡ true
     → IsNeverMet c.store l.guard → ⊥
 met_by_letter c is l letter meets never =
@@ -106,7 +106,7 @@ marks_at c e l at =
     sym (get_or_default (map (λ (m : Link). m.marks) c.links) e.link [] l.marks inside ∙ get_or-map (λ (m : Link). m.marks) c.links e.link l _ within
     ∙ ap (λ (m : Link). m.marks) (get_or_from_slice_get c.links e.link l l at.stands))
 
--- one letter more
+-- another letter
 pub letters_push : (c : SymbolicAutomaton) (es : List EdgeRef) (xs : List NameSet) (e : EdgeRef) (x : NameSet) → AreLettersOf c es xs → IsLetterOf c e x → AreLettersOf c (es ++ e ∷ []) (xs ++ x ∷ [])
 letters_push c [] [] e x all one = (one, tt)
 letters_push c [] (y ∷ ys) e x all one = absurd all
@@ -183,7 +183,7 @@ trail_of c is p q (x ∷ xs) (t ∷ ts) path =
       long = ap suc rest.long;
     }
 
--- the edge of a link is one between states
+-- the edge of a link is in range
 pub passable_within : (c : SymbolicAutomaton) → IsWellFormedSymbolic c → (e : EdgeRef) → IsPassable c e → IsEdgeInRange (length c.links) c.states e
 passable_within c is e passable =
     let l = passable.link in
@@ -200,7 +200,7 @@ link_read : (c : SymbolicAutomaton) (e : EdgeRef) (passable : IsPassable c e) (l
 link_read c e passable links l links_are read =
     read ∙ ap (λ (ls : List Link). get_or ls e.link l) links_are ∙ get_or_from_slice_get c.links e.link passable.link l passable.at.stands
 
--- what was picked for the guard of an edge's link, from a store and names that are the automaton's
+-- the letter that was found for the guard of an edge's link, in the automaton's store and over its names, is one for the edge
 pub picked_letter : (c : SymbolicAutomaton) → IsWellFormedSymbolic c → (e : EdgeRef) → IsPassable c e
     → (links : List Link) (l : Link) (store : Store) (names : List (List ℕ)) (letter : NameSet) → links ≡ c.links
     → l ≡ get_or links e.link l → store ≡ c.store → names ≡ c.names → IsLeastLetter store names l.guard letter → IsLetterOf c e letter

@@ -1,4 +1,4 @@
--- The edges of links whose label is not false, link by link.
+-- The edges with satisfiable labels, collected link by link.
 use Rattle.std.proofs.Common.{◌≡◌, ◌∙◌, ℕ, ◌+◌, ◌<◌, ◌≤◌, List, [], ◌∷◌, ◌++◌, length, Some, slice_get, inl, inr, ap, arith, refl, subst, sym}
 use Rattle.std.specs.List.{Contains}
 use Rattle.std.proofs.lemmas.Bool.{cases_lt}
@@ -10,7 +10,7 @@ use Rattle.label_guards.specs.Guards.{IsNeverMet}
 use Rattle.lasso_emptiness.specs.declared.live.EdgeRef.{EdgeRef}
 use Rattle.lasso_emptiness.specs.inner.Live.{ArePassable, IsPassable}
 
--- these are the edges of the links before a place whose label is not false
+-- these are the edges with satisfiable labels of the links before an index
 pub record PassableBelow (c : SymbolicAutomaton) (place : ℕ) (edges : List EdgeRef) : Type 0 where
   pub each : (e : EdgeRef) → Contains edges e → IsPassable c e
   pub whole : (e : EdgeRef) → IsPassable c e → e.link < place → Contains edges e
@@ -26,7 +26,7 @@ abbrev pub edge_from : Link → ℕ → EdgeRef
 edge_from l place = record { from = l.from; to = l.to; link = place }
 
 module _ (c : SymbolicAutomaton) (place : ℕ) (edges new : List EdgeRef) (l : Link) (is : slice_get c.links place ≡ Some l) (before : PassableBelow c place edges) where
-  -- an edge of the link at the place
+  -- an edge of the link at the index
   is_here : (e : EdgeRef) (passable : IsPassable c e) → e.link ≡ place → passable.link ≡ l
   is_here e passable same = same_Some _ _ (sym passable.at.stands ∙ ap (slice_get c.links) same ∙ is)
 

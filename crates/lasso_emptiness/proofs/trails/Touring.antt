@@ -1,4 +1,4 @@
--- Closed paths put together from shortest ones.
+-- Closed paths through given edges, made of shortest paths between them.
 use Rattle.std.proofs.Common.{◌≡◌, ◌∙◌, ℕ, ◌+◌, ◌<◌, ◌≤◌, List, [], ◌∷◌, ◌++◌, length, map, take, ap, arith, refl, subst, sym}
 use Rattle.std.specs.List.{All, Contains}
 use Rattle.std.proofs.lemmas.List.{get_or-map, get_or_default, length-map, take_all}
@@ -14,14 +14,14 @@ use Rattle.lasso_emptiness.specs.inner.Tours.{ExtendsPath, IsTour, listed_edge}
 use Rattle.lasso_emptiness.specs.inner.Trails.{IsTrail}
 use Rattle.lasso_emptiness.proofs.trails.Trails.{trail_then}
 
--- the arc at a place is that of the edge there
+-- the arc at an index is that of the edge there
 arc_there : (edges : List EdgeRef) (place : ℕ) → place < length edges → arc_at (map arc_of edges) place ≡ arc_of (listed_edge edges place)
 arc_there edges place within =
     let inside : place < length (map arc_of edges) = omega (arith, within, length-map edges arc_of) in
     get_or_default (map arc_of edges) place (0, 0) (arc_of (listed_edge edges place)) inside ∙ get_or-map arc_of edges place (listed_edge edges place) _ within
     ∙ ap arc_of (sym (get_or_default edges place _ (listed_edge edges place) within))
 
--- a walk by places is a path
+-- a walk given by indices of arcs is a path
 trail_at : (edges : List EdgeRef) (p q : ℕ) (places : List ℕ) → All (λ place. place < length edges) places → IsWalk (map arc_of edges) p (map (arc_at (map arc_of edges)) places) q
     → IsTrail (Contains edges) p (map (listed_edge edges) places) q
 trail_at edges p q [] within walk = walk
@@ -45,7 +45,7 @@ way_added edges arcs found places p q old new arcs_are same shortest made =
     let walk = subst (λ ps. IsWalk (map arc_of edges) p (map (arc_at (map arc_of edges)) ps) q) (sym same) (subst (λ arcs. IsWalk arcs p (map (arc_at arcs) found) q) arcs_are shortest.walks) in
     record { way = map (listed_edge edges) places; added = made; leads = trail_at edges p q places inside walk }
 
--- Some of the edges are passed in order, from where the first begins on.
+-- The path so far: it begins in `first`, the state that the first edge leaves, ends in `at`, and has the edges `done`.
 pub record ToursSoFar (edges done cycle : List EdgeRef) (first at : ℕ) : Type 0 where
   pub leads : IsTrail (Contains edges) first cycle at
   pub passes : All (Contains cycle) done

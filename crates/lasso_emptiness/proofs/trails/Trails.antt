@@ -1,4 +1,4 @@
--- Paths along edges: joined, along fewer kinds of edges, and as walks of a graph.
+-- Paths along edges: concatenation, edges of other kinds, and paths as walks of a graph.
 use Rattle.std.proofs.Common.{◌≡◌, ℕ, ◌<◌, List, [], ◌∷◌, ◌++◌, map, inl, inr, sym, subst, arith}
 use Rattle.std.specs.List.{All, Contains}
 use Rattle.std.proofs.lemmas.List.Elements.{All-map}
@@ -12,7 +12,7 @@ pub trail_weaker : (K L : EdgeRef → Type 0) → ((e : EdgeRef) → K e → L e
 trail_weaker K L weaker p q [] trail = trail
 trail_weaker K L weaker p q (e ∷ es) trail = (weaker e trail.0, trail.1, trail_weaker K L weaker e.to q es trail.2)
 
--- the same path, of whose own edges more is known
+-- the same path, of whose edges more is known
 pub trail_with : (K L : EdgeRef → Type 0) (p q : ℕ) (es : List EdgeRef) → IsTrail K p es q → ((e : EdgeRef) → Contains es e → K e → L e) → IsTrail L p es q
 trail_with K L p q [] trail with_more = trail
 trail_with K L p q (e ∷ es) trail with_more =
@@ -37,7 +37,7 @@ trail_reaches edges p q es trail = record { walk = map arc_of es; leads = walk_o
     walk_of p q [] trail = trail
     walk_of p q (e ∷ es) trail = (there_map arc_of edges e trail.0, trail.1, walk_of e.to q es trail.2)
 
--- the graph of the edges has their ends as nodes
+-- the states of the edges are nodes of their graph
 pub has_nodes : (nodes states : ℕ) (arcs : List (ℕ × ℕ)) (edges : List EdgeRef) → nodes ≡ states → arcs ≡ map arc_of edges
     → All (λ (e : EdgeRef). (e.from < states) × (e.to < states)) edges → All (λ (a : ℕ × ℕ). (a.0 < nodes) × (a.1 < nodes)) arcs
 has_nodes nodes states arcs edges same made ends =

@@ -1,4 +1,4 @@
--- Edges by their ends and the place of their link, and the sides of acceptance sets that they are on.
+-- Edges by their states and the index of their link, their marks, and the set literals that they satisfy.
 use Rattle.std.specs.Prelude.{ℕ, ◌<◌, Bool, true, false, not, List, [], map}
 use Rattle.std.specs.List.{slice_index_or}
 use Rattle.aut_base.specs.Formula.{FormulaTree, met}
@@ -6,8 +6,8 @@ use Rattle.aut_base.specs.Marks.{is_in}
 use Rattle.aut_core.specs.declared.link.Link.{Link}
 use Rattle.lasso_emptiness.specs.declared.live.EdgeRef.{EdgeRef}
 
--- Whether an edge with these marks is in the set, or where the set is negated outside of it. `Inf` asks that some edge
--- of a cycle be on its side, `Fin` that none be.
+-- Whether an edge with these marks satisfies a set literal: it is in the set, or, negated, outside of it. `Inf` requires that some edge
+-- of a cycle satisfies its literal, `Fin` that none does.
 abbrev pub on_side : ℕ → Bool → List ℕ → Bool
 on_side set false marks = is_in set marks
 on_side set true marks = not (is_in set marks)
@@ -20,7 +20,7 @@ marks_of links e = slice_index_or (map (λ l. l.marks) links) e.link []
 abbrev pub met_along : List Link → List EdgeRef → FormulaTree → Bool
 met_along links edges f = met (map (marks_of links) edges) f
 
--- the edge has a link, and states for its ends
+-- the edge's link and its two states are in range
 pub record IsEdgeInRange (links : ℕ) (states : ℕ) (e : EdgeRef) : Type 0 where
   pub link : e.link < links
   pub from : e.from < states
@@ -30,11 +30,11 @@ pub record IsEdgeInRange (links : ℕ) (states : ℕ) (e : EdgeRef) : Type 0 whe
 abbrev pub arc_of : EdgeRef → ℕ × ℕ
 arc_of e = (e.from, e.to)
 
--- the same turned around
+-- the same, reversed
 abbrev pub back_arc_of : EdgeRef → ℕ × ℕ
 back_arc_of e = (e.to, e.from)
 
--- the one or the other
+-- the arc, reversed or as it is
 abbrev pub arc_in_direction : Bool → EdgeRef → ℕ × ℕ
 arc_in_direction false = arc_of
 arc_in_direction true = back_arc_of

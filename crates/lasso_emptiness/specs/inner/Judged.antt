@@ -1,4 +1,4 @@
--- What all edges of a component together say of a condition.
+-- The verdicts on a condition by all edges of a component together.
 use Rattle.std.specs.Prelude.{◌≡◌, ℕ, Bool, true, false, ◌&&◌, ◌||◌, ◌+◌, List, All, Contains, nat_eq}
 use Rattle.std.specs.Bool.{beq}
 use Rattle.std.specs.List.{list_all, list_any}
@@ -9,7 +9,7 @@ use Rattle.lasso_emptiness.specs.declared.verdict.Verdict.TheVariants.{Met, Neve
 abbrev pub is_same_side : ℕ → Bool → ℕ → Bool → Bool
 is_same_side set neg other neg' = nat_eq set other && beq neg neg'
 
--- whether a `Fin` of this side stands in the condition
+-- whether a `Fin` of this set literal occurs in the condition
 abbrev mutual
   pub has_side : ℕ → Bool → FormulaTree → Bool
   has_side set neg True = false
@@ -23,7 +23,7 @@ abbrev mutual
   some_has_side set neg none = false
   some_has_side set neg (more f fs) = has_side set neg f || some_has_side set neg fs
 
--- the number of `Fin` in a condition, by which the search ends
+-- the number of `Fin` in a condition, a measure by which the search ends
 abbrev mutual
   pub fin_count : FormulaTree → ℕ
   fin_count True = 0
@@ -41,8 +41,8 @@ abbrev mutual
 abbrev pub IsNever : List (List ℕ) → FormulaTree → Type 0
 IsNever cycle f = (some : List (List ℕ)) → All (Contains cycle) some → met some f ≡ false
 
--- All edges together meet the condition; or no cycle of some of them does; or all together don't, and it depends on
--- whether a cycle passes an edge on a side of which a `Fin` of the condition speaks.
+-- All edges together meet the condition; or no cycle of some of them does; or all together don't, and a `Fin` of the set literal
+-- `side` occurs in the condition, so that fewer edges may.
 abbrev pub IsJudged : List (List ℕ) → FormulaTree → Verdict → Type 0
 IsJudged cycle f Met = met cycle f ≡ true
 IsJudged cycle f Never = IsNever cycle f

@@ -1,4 +1,4 @@
--- Letters that the edges of a path read, and the words that they make.
+-- Letters that satisfy the labels of edges, and accepted words over the automaton's names.
 use Rattle.std.specs.Prelude.{◌≡◌, ◌++◌, true, List, [], ◌∷◌, All}
 use Rattle.aut_base.specs.Acceptance.{Accepts}
 use Rattle.aut_base.specs.Automaton.{Automaton}
@@ -12,7 +12,7 @@ use Rattle.lasso_emptiness.specs.declared.live.EdgeRef.{EdgeRef}
 use Rattle.lasso_emptiness.specs.inner.Live.{IsEdgeAt}
 use Rattle.word_syntax.specs.Printing.{HoldsOnly}
 
--- the letter meets the label of the edge, and holds no other names than the automaton's
+-- the letter satisfies the label of the edge, and has no other names than the automaton's
 pub record IsLetterOf (c : SymbolicAutomaton) (e : EdgeRef) (letter : NameSet) : Type 0 where
   pub link : Link
   pub at : IsEdgeAt c e link

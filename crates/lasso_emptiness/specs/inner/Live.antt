@@ -1,4 +1,4 @@
--- The edges of an automaton whose labels are not false.
+-- The edges of an automaton whose labels are satisfiable, and those of them that are reached.
 use Rattle.std.specs.Prelude.{◌≡◌, ℕ, List, [], Some, Contains, map, slice_get}
 use Rattle.aut_core.specs.SymbolicAutomata.{SymbolicAutomaton}
 use Rattle.aut_core.specs.declared.link.Link.{Link}
@@ -14,7 +14,7 @@ pub record IsEdgeAt (c : SymbolicAutomaton) (e : EdgeRef) (l : Link) : Type 0 wh
   pub from : e.from ≡ l.from
   pub to : e.to ≡ l.to
 
--- the edge is that of a link whose label is not false
+-- the edge is that of a link whose label is satisfiable
 pub record IsPassable (c : SymbolicAutomaton) (e : EdgeRef) : Type 0 where
   pub link : Link
   pub at : IsEdgeAt c e link
@@ -29,7 +29,7 @@ pub record ArePassable (c : SymbolicAutomaton) (edges : List EdgeRef) : Type 0 w
 abbrev pub AreReachedEdges : List ℕ → List EdgeRef → List EdgeRef → Type 0
 AreReachedEdges starts edges reached = Picks (λ e. ReachedFrom (map arc_of edges) starts e.from) edges [] reached
 
--- the edge's label is not false, and it leaves a state that is reached along these edges from a start
+-- the edge's label is satisfiable, and it leaves a state that is reached along these edges from a start
 pub record IsReachedEdge (c : SymbolicAutomaton) (edges : List EdgeRef) (e : EdgeRef) : Type 0 where
   pub passable : IsPassable c e
   pub reached : ReachedFrom (map arc_of edges) c.starts e.from

@@ -1,10 +1,10 @@
--- A condition in which one `Fin` is decided.
+-- A condition with a truth value substituted for a `Fin`.
 use Rattle.std.specs.Prelude.{ℕ, Bool, if◌then◌else◌}
 use Rattle.aut_base.specs.Formula.{FormulaTree, FormulaTrees, True, False, Inf, Fin, And, Or, none, more}
 use Rattle.lasso_emptiness.specs.inner.Judged.{is_same_side}
 
--- Each `Fin` of this side substituted as true, or as false. Laws: on a cycle where it has this truth the condition keeps its
--- own, and a cycle that meets it with the `Fin` taken as false meets it.
+-- The condition with a truth value substituted for each `Fin` of this set literal. Laws: on a cycle where the `Fin` has that truth, the
+-- condition keeps its own; and a cycle that meets the condition with false substituted meets the condition.
 abbrev mutual
   pub substituted : ℕ → Bool → Bool → FormulaTree → FormulaTree
   substituted set neg value True = True

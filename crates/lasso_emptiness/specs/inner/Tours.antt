@@ -1,20 +1,20 @@
--- Closed paths that pass some edges.
+-- Closed paths through given edges, and paths from starts.
 use Rattle.std.specs.Prelude.{◌≡◌, ◌++◌, ℕ, ◌<◌, List, All, Contains, length}
 use Rattle.std.specs.List.{slice_index_or}
 use Rattle.lasso_emptiness.specs.declared.live.EdgeRef.{EdgeRef}
 use Rattle.lasso_emptiness.specs.inner.Trails.{IsTrail}
 
--- the edge at a place
+-- the edge at an index
 abbrev pub listed_edge : List EdgeRef → ℕ → EdgeRef
 listed_edge edges place = slice_index_or edges place (record { from = 0; to = 0; link = 0 })
 
--- the list goes on with a path
+-- a path was appended to the list
 pub record ExtendsPath (Kind : EdgeRef → Type 0) (p q : ℕ) (old new : List EdgeRef) : Type 0 where
   pub way : List EdgeRef
   pub added : new ≡ old ++ way
   pub leads : IsTrail Kind p way q
 
--- a closed path along the edges that has each of some of them
+-- a closed path along the edges that has all needed ones
 pub record IsTour (edges needed cycle : List EdgeRef) : Type 0 where
   pub some : 0 < length cycle
   pub state : ℕ

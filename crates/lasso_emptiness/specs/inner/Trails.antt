@@ -1,4 +1,4 @@
--- Paths along edges, and closed ones that meet a condition.
+-- Paths along edges, and accepting closed paths.
 use Rattle.std.specs.Prelude.{◌≡◌, ℕ, ◌<◌, true, List, [], ◌∷◌, length, Contains}
 use Rattle.aut_base.specs.Formula.{FormulaTree}
 use Rattle.aut_core.specs.declared.link.Link.{Link}
@@ -10,7 +10,7 @@ abbrev pub IsTrail : (EdgeRef → Type 0) → ℕ → List EdgeRef → ℕ → T
 IsTrail Kind p [] q = p ≡ q
 IsTrail Kind p (e ∷ es) q = Kind e × (e.from ≡ p) × IsTrail Kind e.to es q
 
--- a closed path along edges of this kind, of one edge or more, that meets the condition
+-- an accepting closed path: of one edge or more, all of this kind, whose marks meet the condition
 pub record IsAccepting (links : List Link) (Kind : EdgeRef → Type 0) (f : FormulaTree) (cycle : List EdgeRef) : Type 0 where
   pub some : 0 < length cycle
   pub state : ℕ

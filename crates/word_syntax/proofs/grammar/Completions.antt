@@ -1,4 +1,4 @@
--- However far a word is read, it can be ended.
+-- Each state of the parser can be completed to a whole word.
 use Rattle.std.proofs.Common.{◌≡◌, ◌∙◌, ◌∷◌, ◌++◌, Bool, List, None, Some, [], ap, cond, false, refl, true, ℕ}
 use Rattle.std.proofs.lemmas.Option.{none-some}
 use Rattle.aut_base.specs.Label as label
@@ -34,19 +34,19 @@ of_letter place s next token.Cycle e = absurd (none_anyway s.ready next e)
 of_letter place s next token.LeftBrace e = absurd (none_anyway s.ready next e)
 of_letter place s next token.RightBrace e = absurd (none_anyway s.ready next e)
 
--- what a letter's reader does, a word's reader does within its letter
+-- a run of the letter's parser is one of the word's parser, within its letter
 pub lifted : (place : List ℕ → ℕ) (s : WordState) (a b : LetterState) (w : List Token) → has_letters s.stage ≡ true → RunsTokens (letter_step place) a w b
     → RunsTokens (word_step place) (with_letter s a) w (with_letter s b)
 lifted place s a b [] has runs = ap (with_letter s) runs
 lifted place s a b (t ∷ w) has runs =
     (with_letter s runs.0, letter_taken place (with_letter s a) t (Some runs.0) (of_letter place a runs.0 t runs.1) has runs.1, lifted place s runs.0 b w has runs.2)
 
--- a `)` for each level around
+-- a `)` for each outer level
 abbrev parens : List LevelTree → List Token
 parens [] = []
 parens (l ∷ ls) = token.RightParen ∷ parens ls
 
--- the rest of a letter
+-- tokens that complete a letter
 pub record LetterEnd (place : List ℕ → ℕ) (s : LetterState) : Type 0 where
   pub more : List Token
   pub inner : LevelTree
@@ -68,7 +68,7 @@ letter_end_at place o l false =
 letter_end : (place : List ℕ → ℕ) (s : LetterState) → LetterEnd place s
 letter_end place s = letter_end_at place s.outer s.level s.ready
 
--- the rest of a word
+-- tokens that complete a word
 pub record WordEnd (place : List ℕ → ℕ) (s : WordState) : Type 0 where
   pub more : List Token
   pub last : WordState

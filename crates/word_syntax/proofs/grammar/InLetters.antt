@@ -1,4 +1,4 @@
--- A token of a letter is one for the letter's reader.
+-- The word's parser passes tokens of letters to the letter's parser.
 use Rattle.std.proofs.Common.{◌≡◌, ◌∙◌, List, None, Option, ap, cond, refl, true, ℕ}
 use Rattle.std.proofs.lemmas.Bool.{cond-true}
 use Rattle.std.specs.Option.{option_map}
@@ -6,7 +6,7 @@ use Rattle.word_syntax.specs.inner.Machine.{LetterState, WordState, has_letters,
 use Rattle.word_syntax.specs.declared.token.Token.{Token}
 use Rattle.word_syntax.specs.declared.token.Token.TheVariants as token
 
--- what the word's reader does with a token of a letter
+-- the step of the word's parser for a token of a letter
 pub in_letter : (place : List ℕ → ℕ) (s : WordState) (t : Token) → is_of_letter t ≡ true
     → word_step place s t ≡ cond (has_letters s.stage) (option_map (with_letter s) (letter_step place s.letter t)) None
 in_letter place s token.True e = refl

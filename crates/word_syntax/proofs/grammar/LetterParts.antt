@@ -1,4 +1,4 @@
--- What a letter's reader has read is a part of a letter, as the grammar has it.
+-- The tokens that the letter's parser has read are the beginning of a letter, by the grammar.
 use Rattle.std.proofs.Common.{◌≡◌, ◌∙◌, ◌∷◌, ◌++◌, ◌+◌, ◌-◌, ◌<◌, ◌≤◌, Bool, List, Some, [], ap, arith, false, refl, slice_get, subst, suc, sym, true, zero, ℕ}
 use Rattle.std.proofs.lemmas.Bool.{ltb-true}
 use Rattle.std.proofs.lemmas.List.{append_assoc, append-nil}
@@ -22,7 +22,7 @@ in_ands a b c d = ap (λ (x : List Token). a ++ x) (sym (append-nil (b ++ (c ++ 
 in_ors : (a b c d : List Token) → a ++ (b ++ (c ++ d)) ≡ (a ++ ((b ++ c) ++ d)) ++ ([] ++ [])
 in_ors a b c d = ap (λ (x : List Token). a ++ x) (sym (append_assoc b c d)) ∙ sym (append-nil (a ++ ((b ++ c) ++ d)))
 
--- so many `!`
+-- n times `!`
 abbrev pub nots : ℕ → List Token
 nots zero = []
 nots (suc n) = token.Not ∷ nots n
@@ -37,7 +37,7 @@ nots_wrap names zero room all w t e h = let same : room ≡ all = omega arith in
 nots_wrap names (suc n) room all w t e h =
     subst (λ (x : List Token). IsOperand names all x (nots_on n (label.Not t))) (nots_last n w) (nots_wrap names n (suc room) all (token.Not ∷ w) (label.Not t) (omega arith) (negated h))
 
--- the tokens of a level at which an operand is to come
+-- the tokens of a level where an operand has to follow
 pub record IsBegun (names : List (List ℕ)) (l : LevelTree) (w : List Token) : Type 0 where
   pub room : ℕ
   pub ors_tokens : List Token
@@ -48,7 +48,7 @@ pub record IsBegun (names : List (List ℕ)) (l : LevelTree) (w : List Token) : 
   pub ands : AreConjuncts names room ands_tokens l.ands
   pub spelled : w ≡ ors_tokens ++ (ands_tokens ++ nots l.nots)
 
--- the tokens of a level at which an operand has just ended
+-- the tokens of a level where an operand has just ended
 pub record IsEnded (names : List (List ℕ)) (l : LevelTree) (w : List Token) : Type 0 where
   pub room : ℕ
   pub ors_tokens : List Token
@@ -64,7 +64,7 @@ pub record IsEnded (names : List (List ℕ)) (l : LevelTree) (w : List Token) : 
   pub all : l.ands ≡ parts ++ last ∷ []
   pub spelled : w ≡ ors_tokens ++ (ands_tokens ++ last_tokens)
 
--- the tokens before a level's first, where these levels are around it
+-- the tokens before those of a level, where these are its outer levels
 abbrev pub Surrounds : List (List ℕ) → List LevelTree → ℕ → List Token → Type 0
 Surrounds names [] around w = (w ≡ []) × (around ≡ 0)
 Surrounds names (l ∷ ls) around w =
@@ -83,7 +83,7 @@ pub record IsPart (names : List (List ℕ)) (s : LetterState) (w : List Token) :
   pub inner : IsLevel names s.ready s.level level_tokens
   pub spelled : w ≡ outer_tokens ++ level_tokens
 
--- the function gives a place in the list to the name that the token is
+-- the function has the index in the list of the name that the token is
 abbrev pub Knows : (List ℕ → ℕ) → List (List ℕ) → Token → Type 0
 Knows place names (token.Name name) = slice_get names (place name) ≡ Some name
 Knows place names _ = Unit {0}
@@ -91,7 +91,7 @@ Knows place names _ = Unit {0}
 pub fresh_begun : (names : List (List ℕ)) (around room : ℕ) → around + room ≡ MOST_DEPTH → IsBegun names (fresh_level around) []
 fresh_begun names around room e = record { room = room; ors_tokens = []; ands_tokens = []; room_is = e; fits = omega arith; ors = no_conjunction; ands = no_operand; spelled = refl }
 
--- an operand ends at a level
+-- an operand ends in a level
 level_complete : (names : List (List ℕ)) (l : LevelTree) (u w : List Token) (t : LabelTree) → IsBegun names l u
     → ((room : ℕ) → l.around + l.nots + room ≡ MOST_DEPTH → IsOperand names room w t) → IsEnded names (complete_level l t) (u ++ w)
 level_complete names l u w t begun one = record {
@@ -128,7 +128,7 @@ level_negated names l u may begun =
           ∙ ap (λ (x : List Token). begun.ors_tokens ++ (begun.ands_tokens ++ x)) (nots_last l.nots [] ∙ (ap (λ (x : List Token). token.Not ∷ x) (append-nil (nots l.nots)) ∙ ap nots (sym one))));
     }
 
--- a whole conjunction
+-- a complete conjunction
 level_conjunction : (names : List (List ℕ)) (l : LevelTree) (u : List Token) (e : IsEnded names l u) → IsConjunction names e.room (e.ands_tokens ++ e.last_tokens) (all_of l.ands)
 level_conjunction names l u e = joined e.ands e.operand refl (ap all_of e.all)
 
@@ -162,11 +162,11 @@ level_ored names l u e = record {
       ∙ (in_ors e.ors_tokens e.ands_tokens e.last_tokens (token.Or ∷ []) ∙ ap (λ (n : ℕ). (e.ors_tokens ++ ((e.ands_tokens ++ e.last_tokens) ++ token.Or ∷ [])) ++ ([] ++ nots n)) (sym e.no_nots)));
 }
 
--- a whole level
+-- a complete level
 pub level_letter : (names : List (List ℕ)) (l : LevelTree) (u : List Token) (e : IsEnded names l u) → IsLetter names e.room u (level_label l)
 level_letter names l u e = either e.ors (level_conjunction names l u e) e.spelled refl
 
--- the letter's reader goes on
+-- the steps of the letter's parser
 part_operand : (names : List (List ℕ)) (o : List LevelTree) (l : LevelTree) (v w u : List Token) (t : LabelTree) → Surrounds names o l.around v → IsBegun names l u
     → ((room : ℕ) → l.around + l.nots + room ≡ MOST_DEPTH → IsOperand names room w t) → IsPart names (ended o (complete_level l t)) ((v ++ u) ++ w)
 part_operand names o l v w u t outer begun one = record { outer_tokens = v; level_tokens = u ++ w; outer = outer; inner = level_complete names l u w t begun one; spelled = append_assoc v u w }
@@ -249,7 +249,7 @@ step_part : (place : List ℕ → ℕ) (names : List (List ℕ)) (o : List Level
 step_part place names o l false s t v u knows outer inner step = begin_part place names o l s t v u knows outer inner step
 step_part place names o l true s t v u knows outer inner step = after_part names o l s t v u outer inner step
 
--- one token more
+-- another token
 pub part_step : (place : List ℕ → ℕ) (names : List (List ℕ)) (s next : LetterState) (t : Token) (w : List Token) → Knows place names t → IsPart names s w → letter_step place s t ≡ Some next
     → IsPart names next (w ++ t ∷ [])
 part_step place names s next t w knows part step =

@@ -1,4 +1,4 @@
--- What is written as the grammar has it, the reader of a letter reads.
+-- The letter's parser accepts what the grammar derives.
 use Rattle.std.proofs.Common.{◌≡◌, ◌∙◌, ◌∷◌, ◌++◌, ◌+◌, ◌≤◌, List, Option, Some, [], ap, arith, false, refl, suc, sym, true, ℕ}
 use Rattle.std.proofs.lemmas.Bool.{cond-true, lt-ltb}
 use Rattle.aut_base.specs.declared.limit.TheConstants.{MOST_DEPTH}
@@ -14,18 +14,18 @@ use Rattle.word_syntax.specs.inner.Machine.{LetterState, LevelTree, complete_lev
 use Rattle.word_syntax.specs.declared.token.Token.{Token}
 use Rattle.word_syntax.specs.declared.token.Token.TheVariants as token
 
--- an operand is to come
+-- the state where an operand has to follow
 abbrev pub awaiting : List LevelTree → LevelTree → LetterState
 awaiting o l = record { outer = o; level = l; ready = false }
 
--- an operand has just ended
+-- the state where an operand has just ended
 abbrev pub ended : List LevelTree → LevelTree → LetterState
 ended o l = record { outer = o; level = l; ready = true }
 
 abbrev pub level : ℕ → List LabelTree → List LabelTree → ℕ → LevelTree
 level around ors ands nots = record { around = around; ors = ors; ands = ands; nots = nots }
 
--- a conjunction is read at a level with these whole parts of its disjunction
+-- a conjunction is read in a level with these complete parts of its disjunction
 pub record ReadsConjunction (step : LetterState → Token → Option LetterState) (o : List LevelTree) (around : ℕ) (ors : List LabelTree) (w : List Token) (t : LabelTree) : Type 0 where
   pub ands : List LabelTree
   pub runs : RunsTokens step (awaiting o (level around ors [] 0)) w (ended o (level around ors ands 0))

@@ -1,4 +1,4 @@
--- Names, each where it first stands, and the places that they have there.
+-- Lists of names by first occurrence, and the indices of names in them.
 use Rattle.aut_base.proofs.lists.Lists.{slice_get-append_left}
 use Rattle.aut_base.proofs.words.Texts as texts
 use Rattle.aut_base.proofs.words.Texts.{differ_texts}
@@ -59,7 +59,7 @@ has_distinct n [] has = has
 has_distinct n (m ∷ ms) (inl e) = inl e
 has_distinct n (m ∷ ms) (inr later) = elim (cases_same m n) [ inl e ↦ inl e | inr f ↦ inr (has_others m n (distinct ms) f (has_distinct n ms later)) ]
 
--- no name stands twice
+-- no name occurs twice
 abbrev pub Differ : List (List ℕ) → Type 0
 Differ [] = Unit {0}
 Differ (n ∷ ns) = (Has n ns → ⊥) × Differ ns
@@ -75,7 +75,7 @@ pub distinct_differ : (ns : List (List ℕ)) → Differ (distinct ns)
 distinct_differ [] = tt
 distinct_differ (n ∷ ns) = (λ has. (others_has n n (distinct ns) has).0 refl, differ_others n (distinct ns) (distinct_differ ns))
 
--- the place of a name
+-- the index of a name
 abbrev pub place_in : List (List ℕ) → List ℕ → ℕ
 place_in [] n = 0
 place_in (m ∷ ms) n = cond (same_text m n) 0 (suc (place_in ms n))
@@ -179,7 +179,7 @@ names_go tokens old new token.Cycle is go = plain_go tokens old new token.Cycle 
 names_go tokens old new token.LeftBrace is go = plain_go tokens old new token.LeftBrace refl is go
 names_go tokens old new token.RightBrace is go = plain_go tokens old new token.RightBrace refl is go
 
--- with more names, those so far keep their places
+-- when more names follow, those so far keep their indices
 pub distinct_front : (ns more : List (List ℕ)) → (others : List (List ℕ)) × (distinct (ns ++ more) ≡ distinct ns ++ others)
 distinct_front ns [] = ([], ap distinct (append-nil ns) ∙ sym (append-nil (distinct ns)))
 distinct_front ns (n ∷ more) =
@@ -193,7 +193,7 @@ distinct_front ns (n ∷ more) =
 pub agrees_front : (place : List ℕ → ℕ) (ns more : List (List ℕ)) → Agrees place (ns ++ more) → Agrees place ns
 agrees_front place ns more agrees i n e = agrees i n (slice_get-append_left ns more i (slice_get_within ns i n e) ∙ e)
 
--- the names of tokens have places among the distinct ones
+-- the names of tokens have indices among the distinct ones
 pub knows_all : (v w : List Token) (t : Token) (all : List Token) → all ≡ v ++ (t ∷ w) → Knows (place_in (distinct (token_names all))) (distinct (token_names all)) t
 knows_all v w (token.Name n) all e =
     let there : Has n (token_names all) = subst (λ (x : List Token). Has n (token_names x)) (sym e)

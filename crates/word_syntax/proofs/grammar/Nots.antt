@@ -1,4 +1,4 @@
--- Negations that are put before a label one by one.
+-- Repeated negation of a label.
 use Rattle.std.proofs.Common.{◌≡◌, ◌∙◌, ◌+◌, ◌-◌, ◌<◌, ap, arith, suc, sym, ℕ}
 use Rattle.std.specs.Global.{Global}
 use Rattle.std.specs.declared.boxed.Box.{Box}

@@ -1,4 +1,4 @@
--- Steps over a list of tokens, one after the other.
+-- Runs of a parser over lists of tokens: how they join and split.
 use Rattle.std.proofs.Common.{◌≡◌, ◌∙◌, ◌∷◌, ◌++◌, List, None, Option, Some, [], ap, refl, subst, sym}
 use Rattle.std.proofs.lemmas.Option.{none-some, same_Some}
 use Rattle.word_syntax.specs.inner.Runs.{RunsTokens}
@@ -8,7 +8,7 @@ pub runs_then : {S : Type 0} (step : S → Token → Option S) (s m end : S) (v 
 runs_then {S = S} step s m end [] w first second = let P : S → Type 0 = λ x. RunsTokens step x w end in subst P (sym first) second
 runs_then step s m end (t ∷ v) w first second = (first.0, first.1, runs_then step first.0 m end v w first.2 second)
 
--- one token more
+-- another token
 pub runs_push : {S : Type 0} (step : S → Token → Option S) (s m end : S) (v : List Token) (t : Token) → RunsTokens step s v m → step m t ≡ Some end → RunsTokens step s (v ++ t ∷ []) end
 runs_push step s m end v t first last = runs_then step s m end v (t ∷ []) first (end, last, refl)
 
@@ -18,7 +18,7 @@ runs_to {S = S} step s m end v runs e = let P : S → Type 0 = λ x. RunsTokens 
 pub runs_over : {S : Type 0} (step : S → Token → Option S) (s end : S) (v w : List Token) → v ≡ w → RunsTokens step s v end → RunsTokens step s w end
 runs_over step s end v w e runs = let P : List Token → Type 0 = λ x. RunsTokens step s x end in subst P e runs
 
--- where the front of the tokens leads
+-- the state to which a prefix of the tokens leads
 pub record Front {S : Type 0} (step : S → Token → Option S) (s : S) (v w : List Token) (end : S) : Type 0 where
   pub mid : S
   pub front : RunsTokens step s v mid
@@ -34,7 +34,7 @@ runs_once {S = S} step s a b (t ∷ v) one two =
     let P : S → Type 0 = λ x. RunsTokens step x v b in
     runs_once step one.0 a b v one.2 (subst P (same_Some two.0 one.0 (sym two.1 ∙ one.1)) two.2)
 
--- no run goes past a token that can't stand there
+-- no run goes past a token that is rejected
 pub runs_stuck : {S : Type 0} (step : S → Token → Option S) (s m end : S) (v : List Token) (t : Token) (w : List Token) → RunsTokens step s v m → step m t ≡ None
     → RunsTokens step s ((v ++ t ∷ []) ++ w) end → ⊥
 runs_stuck {S = S} step s m end v t w front stuck runs =

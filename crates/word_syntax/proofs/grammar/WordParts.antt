@@ -1,4 +1,4 @@
--- What a word's reader has read is a part of a word, as the grammar has it.
+-- The tokens that the word's parser has read are the beginning of a word, by the grammar.
 use Rattle.std.proofs.Common.{◌≡◌, ◌∙◌, ◌∷◌, ◌++◌, ◌&&◌, ◌==◌, Bool, List, None, Option, Some, [], ap, arith, cond, false, not, refl, subst, sym, true, ℕ}
 use Rattle.std.proofs.lemmas.Bool.{and_parts}
 use Rattle.std.proofs.lemmas.Bool.Decides.{nat_tests}
@@ -78,7 +78,7 @@ pub record StemPart (names : List (List ℕ)) (s : WordState) (tokens : List Tok
   pub cycle : s.cycle ≡ []
   pub spelled : tokens ≡ stem_tokens ++ letter_tokens
 
--- behind `cycle`
+-- after `cycle`
 pub record BracePart (names : List (List ℕ)) (s : WordState) (tokens : List Token) : Type 0 where
   pub stem_tokens : List Token
   pub stem : AreLetters names MOST_DEPTH stem_tokens s.stem
@@ -96,7 +96,7 @@ pub record CyclePart (names : List (List ℕ)) (s : WordState) (tokens : List To
   pub part : IsPart names s.letter letter_tokens
   pub spelled : tokens ≡ stem_tokens ++ (token.Cycle ∷ token.LeftBrace ∷ (cycle_tokens ++ letter_tokens))
 
--- behind the closing brace: a word, where the names are those of its tokens
+-- after the closing brace: a word, where the names are those of its tokens
 abbrev pub EndPart : List (List ℕ) → WordState → List Token → Type 0
 EndPart names s tokens = names ≡ distinct (token_names tokens) → IsWord tokens (record { names = names; stem = s.stem; cycle = s.cycle })
 
@@ -113,7 +113,7 @@ IsWordPart names s tokens = PartAt s.stage names s tokens
 abbrev pub word : List LabelTree → List LabelTree → Stage → LetterState → WordState
 word stem cycle stage l = record { stem = stem; cycle = cycle; stage = stage; letter = l }
 
--- the part that a known next state is
+-- the same of a next state that is known
 part_at : (names : List (List ℕ)) (s next : WordState) (tokens : List Token) → Some s ≡ Some next → IsWordPart names s tokens → IsWordPart names next tokens
 part_at names s next tokens e part = let P : WordState → Type 0 = λ x. IsWordPart names x tokens in subst P (same_Some s next e) part
 
@@ -201,7 +201,7 @@ opened_part names stem cycle Stem l next tokens p step = absurd (none-some next 
 opened_part names stem cycle Cycle l next tokens p step = absurd (none-some next step)
 opened_part names stem cycle End l next tokens p step = absurd (none-some next step)
 
--- the letter goes on
+-- a token that the letter's parser takes
 mapped : (f : LetterState → WordState) (o : Option LetterState) (next : WordState) → option_map f o ≡ Some next → (l : LetterState) × (o ≡ Some l) × (f l ≡ next)
 mapped f None next e = absurd (none-some next e)
 mapped f (Some l) next e = (l, refl, same_Some _ _ e)
@@ -233,7 +233,7 @@ lettered_part place names stem cycle Cycle l next t tokens knows p step =
 lettered_part place names stem cycle Brace l next t tokens knows p step = absurd (none-some next step)
 lettered_part place names stem cycle End l next t tokens knows p step = absurd (none-some next step)
 
--- one token more
+-- another token
 pub word_part_step : (place : List ℕ → ℕ) (names : List (List ℕ)) (s next : WordState) (t : Token) (tokens : List Token) → Knows place names t → IsWordPart names s tokens
     → word_step place s t ≡ Some next → IsWordPart names next (tokens ++ t ∷ [])
 word_part_step place names s next token.Semicolon tokens knows p step = option_and_then_some (machine.letter_ended s.stage s) (whole_letter s.letter) next step

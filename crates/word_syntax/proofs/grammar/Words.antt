@@ -1,4 +1,4 @@
--- A word's reader and the grammar agree: on what is a word, on what a word can begin with, and on the pattern.
+-- The word's parser and the grammar agree: on which tokens are a word, which begin one, and on the pattern.
 use Rattle.std.proofs.Common.{◌≡◌, ◌≢◌, ◌∙◌, ◌∷◌, ◌++◌, List, None, Some, [], ap, arith, refl, subst, sym, ℕ}
 use Rattle.std.proofs.lemmas.List.{append_assoc, append-nil}
 use Rattle.std.specs.List.{AllByRecursion}
@@ -48,7 +48,7 @@ cycle_runs place stem agrees (letter {v = v} {w = w} {u = u} {ts = ts} {us = us}
     (runs_then (word_step place) (word stem [] Cycle fresh) here (word stem (ts ++ t ∷ []) Cycle fresh) v (w ++ token.Semicolon ∷ []) first third))
     (ap (λ (x : List LabelTree). word stem x Cycle fresh) (sym parts))
 
--- what is written as a word is read to its end
+-- the parser accepts what the grammar derives as a word
 pub word_runs : (place : List ℕ → ℕ) (tokens : List Token) (p : WordPattern) → Agrees place p.names → IsWord tokens p → RunsTokens (word_step place) word_start tokens (word p.stem p.cycle End fresh)
 word_runs place tokens p agrees w =
     let stem = stem_runs place agrees w.stem in
@@ -64,7 +64,7 @@ word_runs place tokens p agrees w =
     runs_to (word_step place) word_start last (word p.stem p.cycle End fresh) tokens (runs_over (word_step place) word_start last _ tokens (sym w.spelled) all)
     (ap (λ (x : List LabelTree). word p.stem x End fresh) (sym w.cycle))
 
--- what is read is a part of a word
+-- tokens that were read are the beginning of a word
 run_part : (place : List ℕ → ℕ) (names : List (List ℕ)) (s last : WordState) (v w : List Token) → AllByRecursion (Knows place names) w → IsWordPart names s v
     → RunsTokens (word_step place) s w last → IsWordPart names last (v ++ w)
 run_part place names s last v [] known part runs =
@@ -101,7 +101,7 @@ no_word tokens s p read not_end w =
     (word_runs place tokens p (subst P (sym w.names) (own_places tokens)) w) in
     not_end (ap (λ (x : WordState). x.stage) same)
 
--- a word can begin with what is read
+-- some word begins with the tokens that were read
 pub begins : (tokens : List Token) (s : WordState) → HasReadTokens tokens s → IsPrefixOfWord tokens
 begins tokens s read =
     let rest = word_end (place_in (distinct (token_names tokens))) s in
@@ -116,7 +116,7 @@ begins tokens s read =
           rest.runs)) rest.stage;
     }
 
--- and not with a token more that the reader can't take
+-- and none with a further token that the parser rejects
 pub begins_not : (tokens : List Token) (s : WordState) (t : Token) → HasReadTokens tokens s → ((place : List ℕ → ℕ) → word_step place s t ≡ None) → IsPrefixOfWord (tokens ++ t ∷ []) → ⊥
 begins_not tokens s t read stuck b =
     let all : List Token = (tokens ++ t ∷ []) ++ b.more in

@@ -1,4 +1,4 @@
--- Places in a list that comes again and again.
+-- Elements of a list that is repeated for ever, by index.
 use Rattle.std.proofs.Common.{◌≡◌, ◌∙◌, ◌∷◌, ◌++◌, ◌+◌, ◌-◌, ◌*◌, ◌/◌, ◌%◌, ◌<◌, ◌≤◌, List, [], ap, arith, drop, inl, inr, length, length-append}
 use Rattle.std.proofs.Common.{length-drop, refl, slice_get, suc, sym, take, zero, if◌then◌else◌, ℕ}
 use Rattle.std.proofs.Math.Nat.{add-mod-mod, add-mod_right, add-mul-mod_self_left, mod-add-div, mod-eq_of_lt, mod-lt}
@@ -21,14 +21,14 @@ slice_get-take (suc n) [] i within = refl
 slice_get-take (suc n) (x ∷ xs) zero within = refl
 slice_get-take (suc n) (x ∷ xs) (suc i) within = slice_get-take n xs i (omega arith)
 
--- a remainder by a multiple, and then by the number
+-- the remainder by a multiple of a number, and then by the number
 pub mod_of_multiple : (x whole turns size : ℕ) → whole ≡ turns * size → (x % whole) % size ≡ x % size
 mod_of_multiple x whole turns size e =
     let product : turns * size * (x / whole) ≡ size * (turns * (x / whole)) = omega arith in
     let split : x ≡ x % whole + size * (turns * (x / whole)) = sym (mod-add-div x whole) ∙ ap (λ (n : ℕ). x % whole + n) (ap (λ (w : ℕ). w * (x / whole)) e ∙ product) in
     sym (ap (λ (n : ℕ). n % size) split ∙ add-mul-mod_self_left (x % whole) size (turns * (x / whole)))
 
--- the list turned so that it begins at this place
+-- the list rotated to begin at this index
 pub turned_at : (root : List NameSet) (from x : ℕ) → from < length root → slice_get (drop from root ++ take from root) (x % length root) ≡ cyclic root (from + x)
 turned_at root from x inside =
     let size = length root in
@@ -51,7 +51,7 @@ turned_at root from x inside =
 pub length-turned : (root : List NameSet) (from : ℕ) → from < length root → length (drop from root ++ take from root) ≡ length root
 length-turned root from inside = omega (arith, length-append (drop from root) (take from root), length-drop from root, length-take-le from root (omega arith))
 
--- what stands in copies of a list
+-- the elements of copies of a list
 pub copies_at : {A : Type 0} (k : ℕ) (w : List A) (i : ℕ) → i < k * length w → slice_get (copies k w) i ≡ slice_get w (i % length w)
 copies_at k w i within =
     let some : 0 < length w = positive k (length w) i within in

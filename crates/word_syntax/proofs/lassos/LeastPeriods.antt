@@ -1,4 +1,4 @@
--- Least periods of the fronts of a list, each from those before it (Knuth, Morris and Pratt 1977).
+-- Least periods of the prefixes of a list, each from those of shorter prefixes (Knuth, Morris and Pratt 1977).
 use Rattle.std.proofs.Common.{◌≡◌, ◌≢◌, ◌∙◌, ◌+◌, ◌-◌, ◌*◌, ◌/◌, ◌%◌, ◌<◌, ◌≤◌, List, ap, arith, inl, inr, length, slice_get, suc, sym, zero, ℕ}
 use Rattle.std.proofs.Math.Nat.{add-mod_right, mod-eq_of_lt, mod_self, mul-le-mul_right, mul-mod_right}
 use Rattle.std.proofs.lemmas.Bool.{cases_lt, cases_eq}
@@ -7,7 +7,7 @@ use Rattle.aut_base.specs.Word.{NameSet}
 use Rattle.word_syntax.proofs.lassos.Cyclic.{at_same}
 use Rattle.word_syntax.specs.inner.Periods.{IsCandidate, IsLeastPeriod, IsPeriod, IsRoot}
 
--- a least period is no longer than its front, if that isn't empty
+-- a least period is no longer than its prefix, if that isn't empty
 pub least_within : (v : List NameSet) (front p : ℕ) → 0 < front → IsLeastPeriod v front p → p ≤ front
 least_within v front p some l = l.least front some (λ k h. absurd (omega arith))
 
@@ -23,7 +23,7 @@ candidate_start v front p some l = record {
   least = λ q pos per. l.least q pos (λ k h. per k (omega arith));
 }
 
--- the next longer period of the front
+-- the next longer period of the prefix
 pub candidate_next : (v : List NameSet) (front p b : ℕ) → p ≤ front → IsCandidate v front p → IsLeastPeriod v (front - p) b → slice_get v front ≢ slice_get v (front - p) → IsCandidate v front (p + b)
 candidate_next v front p b within c l differ = record {
   some = omega (arith, c.some);
@@ -51,7 +51,7 @@ candidate_agrees v front p within c same = record {
   least = c.least;
 }
 
--- by a period, each element is one of the first
+-- each element is that of the first period at its remainder
 first_ones : (v : List NameSet) (n p : ℕ) → IsPeriod v n p → (t r : ℕ) → t * p + r < n → slice_get v (t * p + r) ≡ slice_get v r
 first_ones v n p per zero r h = let e : 0 * p + r ≡ r = omega arith in at_same v (0 * p + r) r e
 first_ones v n p per (suc t) r h =
@@ -63,7 +63,7 @@ by_remainder v n p per i h =
     let split : i / p * p + i % p ≡ i = div-add-mod' i p in
     at_same v i (i / p * p + i % p) (sym split) ∙ first_ones v n p per (i / p) (i % p) (omega arith)
 
--- the least period divides each other one that leaves it room
+-- the least period divides each other period with which together it isn't longer than the list
 divides : (fuel : ℕ) (v : List NameSet) (n p e : ℕ) → e ≤ fuel → IsLeastPeriod v n p → 0 < e → IsPeriod v n e → p + e ≤ n → e % p ≡ 0
 divides zero v n p e small l some per room = absurd (omega arith)
 divides (suc fuel) v n p e small l some per room =
@@ -80,7 +80,7 @@ divides (suc fuel) v n p e small l some per room =
           ap (λ (x : ℕ). x % p) back ∙ (add-mod_right (e - p) p ∙ divides fuel v n p (e - p) (omega (arith, l.some)) l more shorter (omega arith)))
     ]
 
--- a turn that changes nothing is a period
+-- a rotation that changes nothing is a period
 turn_period : (v : List NameSet) (size e : ℕ) → ((i : ℕ) → i < length v → slice_get v i ≡ slice_get v (i % size)) → ((i : ℕ) → slice_get v ((i + e) % size) ≡ slice_get v (i % size))
     → IsPeriod v (length v) e
 turn_period v size e same turn k h = same k (omega arith) ∙ (sym (turn k) ∙ sym (same (k + e) h))

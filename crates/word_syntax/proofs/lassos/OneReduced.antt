@@ -30,7 +30,7 @@ turn_times : (v : List NameSet) (e : ℕ) → ((i : ℕ) → cyclic v (i + e) �
 turn_times v e turn zero r = let f : 0 * e + r ≡ r = omega arith in same_at (cyclic v) (0 * e + r) r f
 turn_times v e turn (suc t) r = let f : suc t * e + r ≡ t * e + r + e = omega arith in same_at (cyclic v) (suc t * e + r) (t * e + r + e) f ∙ (turn (t * e + r) ∙ turn_times v e turn t r)
 
--- what a turn doesn't change is copies of its front
+-- a list that a rotation doesn't change is copies of a prefix
 copies_of_turn : (v : List NameSet) (e k : ℕ) → 0 < e → e ≤ length v → length v ≡ k * e → ((i : ℕ) → cyclic v (i + e) ≡ cyclic v i) → v ≡ copies k (take e v)
 copies_of_turn v e k some within long turn =
     let front : length (take e v) ≡ e = length-take-le e v within in
@@ -44,14 +44,14 @@ copies_of_turn v e k some within long turn =
     ap (slice_get v) (sym (mod-eq_of_lt h)) ∙ (same_at (cyclic v) i (i / e * e + i % e) (sym parts) ∙ (turn_times v e turn (i / e) (i % e) ∙ (ap (slice_get v) (mod-eq_of_lt inner)
     ∙ (sym (slice_get-take e v (i % e) below) ∙ (ap (λ (n : ℕ). slice_get (take e v) (i % n)) (sym front) ∙ sym (copies_at k (take e v) i inside)))))))
 
--- from some moment on, the word comes again after so many letters
+-- from some position on, the word has this period
 abbrev pub Repeats : (ℕ → Option NameSet) → ℕ → ℕ → Type 0
 Repeats w from e = (n : ℕ) → from ≤ n → w (n + e) ≡ w n
 
 repeats_later : (w : ℕ → Option NameSet) (from later e : ℕ) → from ≤ later → Repeats w from e → Repeats w later e
 repeats_later w from later e h r n k = r n (omega arith)
 
--- a number that divides both, after which it comes again too
+-- a common divisor of two periods that is a period too
 record Common (w : ℕ → Option NameSet) (from a b : ℕ) : Type 0 where
   size : ℕ
   some : 0 < size
@@ -78,7 +78,7 @@ cycle_repeats w u v spells n h =
     let e : n + length v - length u ≡ 1 * length v + (n - length u) = omega arith in
     spells (n + length v) ∙ (at_cycle u v (n + length v) (omega arith) ∙ (cyclic_again v (n + length v - length u) (n - length u) 1 e ∙ (sym (at_cycle u v n h) ∙ sym (spells n))))
 
--- far out, the word is the cycle
+-- after the stem, the word is the cycle repeated
 far_out : (w : ℕ → Option NameSet) (u v : List NameSet) → ((n : ℕ) → w n ≡ letter_at u v n) → (i t : ℕ) → w (length u + (t * length v + i)) ≡ cyclic v i
 far_out w u v spells i t =
     let e : length u + (t * length v + i) - length u ≡ t * length v + i = omega arith in
@@ -127,7 +127,7 @@ last_stands xs l =
     let size : length xs - 1 ≡ length l.front = let e : length xs ≡ length (l.front ++ l.last ∷ []) = ap (λ (z : List NameSet). length z) l.is in omega (arith, length-append l.front (l.last ∷ [])) in
     ap (λ (z : List NameSet). slice_get z (length xs - 1)) l.is ∙ (ap (slice_get (l.front ++ l.last ∷ [])) size ∙ slice_get-push_last l.front l.last (length l.front) refl)
 
--- no stem is longer
+-- of two reduced lasso words of an infinite word, neither has the longer stem
 no_longer : (w : ℕ → Option NameSet) (u v x y : List NameSet) → ((n : ℕ) → w n ≡ letter_at u v n) → ((n : ℕ) → w n ≡ letter_at x y n) → 0 < length v → length v ≡ length y → IsReduced u v
     → length x < length u → ⊥
 no_longer w u v x y one two some same reduced longer =

@@ -1,4 +1,4 @@
--- The stem that is left and the turned root are the reduced lasso of the same infinite word.
+-- The kept stem and the rotated root of the cycle are the reduced lasso word of the same infinite word.
 use Rattle.std.proofs.Common.{◌↔◌, ◌≡◌, ◌≢◌, ◌∙◌, ◌∷◌, ◌++◌, ◌+◌, ◌-◌, ◌*◌, ◌%◌, ◌<◌, ◌≤◌, ◌⊎◌, List, Some, [], ap, arith, drop, inl, inr, length}
 use Rattle.std.proofs.Common.{length-append, refl, slice_get, subst, suc, sym, take, zero, ℕ}
 use Rattle.std.proofs.Math.Nat.{add-mod_right, mod-eq_of_lt}
@@ -20,7 +20,7 @@ cyclic_same v i j e = ap (cyclic v) e
 cyclic_within : (v : List NameSet) (i : ℕ) → i < length v → cyclic v i ≡ slice_get v i
 cyclic_within v i h = ap (slice_get v) (mod-eq_of_lt h)
 
--- a letter of the stem more is left out, where the root begins inside
+-- another letter of the stem is dropped, where the rotated root doesn't begin at its first letter
 pub shared_more : (stem root : List NameSet) (kept from : ℕ) → 0 < kept → 0 < from → IsMidShared stem root kept from → slice_get stem (kept - 1) ≡ slice_get root (from - 1)
     → IsMidShared stem root (kept - 1) (from - 1)
 shared_more stem root kept from some begun m same = record {
@@ -52,7 +52,7 @@ shared_around stem root kept some m same = record {
   whole = omega (arith, m.whole, m.within, m.inside);
 }
 
--- the last letter of the turned root
+-- the last letter of the rotated root
 pub last_inside : (root : List NameSet) (from : ℕ) → 0 < from → from < length root → cyclic root (from + (length root - 1)) ≡ slice_get root (from - 1)
 last_inside root from begun inside =
     let e : from + (length root - 1) ≡ 1 * length root + (from - 1) = omega arith in
@@ -62,7 +62,7 @@ pub last_around : (root : List NameSet) → 0 < length root → cyclic root (0 +
 last_around root some = let e : 0 + (length root - 1) ≡ length root - 1 = omega arith in cyclic_same root (0 + (length root - 1)) (length root - 1) e
     ∙ cyclic_within root (length root - 1) (omega arith)
 
--- the root of a cycle, again and again
+-- the cycle repeated for ever is its root repeated for ever
 root_cyclic : (cycle : List NameSet) (size x : ℕ) → (r : IsRoot cycle size) → cyclic cycle x ≡ slice_get cycle (x % size)
 root_cyclic cycle size x r =
     r.same (x % length cycle) (mod_below_some x (length cycle) (omega (arith, r.some, r.within))) ∙ ap (slice_get cycle) (mod_of_multiple x (length cycle) r.turns size r.whole)
@@ -76,7 +76,7 @@ front_cyclic cycle size x r =
     let below : x % size < size = omega (arith, r.some) in
     ap (λ (n : ℕ). slice_get (take size cycle) (x % n)) long ∙ slice_get-take size cycle (x % size) below
 
--- the lasso that is made
+-- the lasso word that is made
 pub record Made (stem cycle new_stem new_cycle : List NameSet) : Type 0 where
   pub size : ℕ
   pub kept : ℕ

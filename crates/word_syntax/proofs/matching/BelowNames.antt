@@ -1,4 +1,4 @@
--- The propositions of what is written are places in the list of names.
+-- The propositions of the formulas of a word are indices of the list of names.
 use Rattle.std.proofs.Common.{◌≡◌, ◌∷◌, ◌++◌, ◌<◌, List, [], arith, length, length-append, ap, subst, sym, ℕ}
 use Rattle.std.proofs.lemmas.Option.{slice_get_within}
 use Rattle.std.specs.List.{AllByRecursion}

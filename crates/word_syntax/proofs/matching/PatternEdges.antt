@@ -1,4 +1,4 @@
--- The edges of a pattern's automaton, put together one by one.
+-- The edges of a pattern's automaton, made one by one.
 use Rattle.std.proofs.Common.{◌≡◌, ◌↔◌, ◌∙◌, ◌∷◌, ◌++◌, ◌+◌, ◌<◌, ◌≤◌, AllPairs, List, [], ap, arith, get_or, inl, inr, length, length-append, map, refl, subst, suc, sym, take, zero, ℕ}
 use Rattle.std.proofs.lemmas.Bool.{cases_eq}
 use Rattle.std.proofs.lemmas.List.{append_assoc, length-map, length-take-le, map-append}
@@ -25,7 +25,7 @@ edges_then back total place (t ∷ ts) us =
     let z : place + 1 + length ts ≡ place + length (t ∷ ts) = omega arith in
     ap (λ (es : List LabelledEdge). edge_at back total place t ∷ es) (edges_then back total (place + 1) ts us ∙ ap (λ (n : ℕ). edges_along back total (place + 1) ts ++ edges_along back total n us) z)
 
--- one edge more
+-- another edge
 pub edge_more : (back total place i : ℕ) (start before now : List Edge) (labels : List Label) (label : Label) (e : Edge) → i < length labels → label ≡ get_or labels i label
     → length start ≡ place → map labelled_edge before ≡ map labelled_edge start ++ edges_along back total place (map label_tree (take i labels))
     → labelled_edge e ≡ edge_at back total (place + i) (label_tree label) → now ≡ before ++ e ∷ []
@@ -95,7 +95,7 @@ made_edge back total place from to t u marks e f g h =
         ∙ (ap (λ (l : LabelTree). record { from = place; label = l; to = to; marks = marks }) f
         ∙ (ap (λ (n : ℕ). record { from = place; label = u; to = n; marks = marks }) goes ∙ ap (λ (ms : List ℕ). record { from = place; label = u; to = next_state back total place; marks = ms }) h))
 
--- how many edges there are then
+-- the number of edges that were added
 pub edges_number : (back total place : ℕ) (old new : List Edge) (ts : List LabelTree) → map labelled_edge new ≡ map labelled_edge old ++ edges_along back total place ts
     → length new ≡ length old + length ts
 edges_number back total place old new ts e =
@@ -151,6 +151,6 @@ together p a c b some same is =
       λ m. (let t = law.1 m in record { stem = t.stem; cycle = t.cycle; first = (like t.stem t.cycle).1 t.first; second = t.second }),
     )
 
--- one edge more in number
+-- another edge raises the number of edges by one
 pub one_more_edge : (before now : List Edge) (e : Edge) (n : ℕ) → now ≡ before ++ e ∷ [] → length before ≡ n → length now ≡ n + 1
 one_more_edge before now e n added is = let sizes : length now ≡ length (before ++ e ∷ []) = ap (λ (es : List Edge). length es) added in omega (arith, length-append before (e ∷ []))

@@ -1,4 +1,4 @@
--- The automaton of a pattern goes from one letter to the next.
+-- Paths of a pattern's automaton: it reads letters that satisfy the formulas, in order.
 use Rattle.std.proofs.Common.{◌≡◌, ◌∙◌, ◌∷◌, ◌++◌, ◌+◌, ◌-◌, ◌%◌, ◌<◌, ◌≤◌, ◌⊎◌, Contains, List, Some, [], ap, arith, cond, eq-eqb, get_or, inl, inr}
 use Rattle.std.proofs.Common.{length, length-append, nat_lt, ne_eqb, refl, slice_get, subst, suc, sym, true, zero, ℕ}
 use Rattle.std.proofs.Math.Nat.{mod-add-mod, mod-eq_of_lt, mod-lt, mod_self}
@@ -14,7 +14,7 @@ use Rattle.word_syntax.specs.Matching.{edges_along, next_state, word_automaton}
 abbrev pub labels : WordPattern → List LabelTree
 labels p = p.stem ++ p.cycle
 
--- the state after so many letters
+-- the state after k letters
 abbrev pub state_at : WordPattern → ℕ → ℕ
 state_at p k = cond (nat_lt k (length p.stem)) k (length p.stem + (k - length p.stem) % length p.cycle)
 
@@ -39,7 +39,7 @@ next_last back total place e = cond-true _ _ _ (eq-eqb (place + 1) total e)
 pub next_other : (back total place : ℕ) → (place + 1 ≡ total → ⊥) → next_state back total place ≡ place + 1
 next_other back total place e = cond-false _ _ _ (ne_eqb (place + 1) total e)
 
--- one more than a remainder
+-- the remainder of x + 1
 mod_more : (x d : ℕ) → 0 < d → ((x % d + 1 ≡ d) × ((x + 1) % d ≡ 0)) ⊎ ((x % d + 1 < d) × ((x + 1) % d ≡ x % d + 1))
 mod_more x d some =
     let below : x % d < d = mod-lt x some in
@@ -49,7 +49,7 @@ mod_more x d some =
       | inr past ↦ (let full : x % d + 1 ≡ d = omega arith in inl (full, sym same ∙ (ap (λ (n : ℕ). n % d) full ∙ mod_self d)))
     ]
 
--- one letter more
+-- another letter
 pub state_next : (p : WordPattern) → 0 < length p.cycle → (k : ℕ) → next_state (length p.stem) (length (labels p)) (state_at p k) ≡ state_at p (k + 1)
 state_next p some k = elim (cases_lt (k + 1) (length p.stem)) [
   | inl h ↦ (let here = state_in_stem p k (omega arith) in
@@ -72,7 +72,7 @@ state_next p some k = elim (cases_lt (k + 1) (length p.stem)) [
   ])
 ]
 
--- the edge that leaves a place
+-- the edge that leaves a state
 abbrev pub edge_at : ℕ → ℕ → ℕ → LabelTree → LabelledEdge
 edge_at back total place t = record { from = place; label = t; to = next_state back total place; marks = [] }
 
@@ -104,12 +104,12 @@ contains_get es e c = (c.0, get_is es c.0 e c.1 c.2)
 get_contains : (es : List LabelledEdge) (i : ℕ) (e : LabelledEdge) → slice_get es i ≡ Some e → Contains es e
 get_contains es i e h = (i, slice_get_within es i e h, get_or_from_slice_get es i e e h)
 
--- the letters meet the formulas from the k-th on
+-- the letters satisfy the formulas from the k-th on
 abbrev pub MeetsFrom : WordPattern → ℕ → List NameSet → Type 0
 MeetsFrom p k [] = Unit {0}
 MeetsFrom p k (x ∷ xs) = ((t : LabelTree) → slice_get (labels p) (state_at p k) ≡ Some t → truth (holds_at p.names x) t ≡ true) × MeetsFrom p (k + 1) xs
 
--- a path reads letters that meet the formulas, and ends after them
+-- a path reads letters that satisfy the formulas, and ends in the state after them
 pub walked : (p : WordPattern) → 0 < length p.cycle → (k q : ℕ) (xs : List NameSet) (es : List LabelledEdge) → IsPath (word_automaton p) (state_at p k) xs es q
     → MeetsFrom p k xs × (q ≡ state_at p (k + length xs))
 walked p some k q [] [] path = let z : k ≡ k + 0 = omega arith in (tt, sym path ∙ ap (state_at p) z)
@@ -129,7 +129,7 @@ walked p some k q (x ∷ xs) (e ∷ es) path =
     let far : k + 1 + length xs ≡ k + length (x ∷ xs) = omega arith in
     ((λ t h. ap (truth (holds_at p.names x)) (same_Some t edge.0 (sym h ∙ stands) ∙ sym label) ∙ path.2, rest.0), rest.1 ∙ ap (state_at p) far)
 
--- and letters that meet the formulas are read by a path
+-- and letters that satisfy the formulas are read by a path
 pub record Walk (p : WordPattern) (k : ℕ) (xs : List NameSet) : Type 0 where
   pub way : List LabelledEdge
   pub path : IsPath (word_automaton p) (state_at p k) xs way (state_at p (k + length xs))

@@ -1,4 +1,5 @@
--- The automaton of a pattern accepts the words that match it, and each word that it accepts has a spelling that matches.
+-- The automaton of a pattern accepts the words that match, and for each word that it accepts, a lasso word of the same infinite word
+-- matches.
 use Rattle.std.proofs.Common.{◌≡◌, ◌∙◌, ◌∷◌, ◌++◌, ◌+◌, ◌-◌, ◌*◌, ◌/◌, ◌%◌, ◌<◌, ◌≤◌, ◌↔◌, Contains, List, Option, Some, [], ap, arith, drop, inl}
 use Rattle.std.proofs.Common.{inr, length, length-append, length-drop, refl, slice_get, subst, suc, sym, take, true, zero, ℕ}
 use Rattle.std.proofs.Math.Nat.{add-mul-mod_self_left, mod-eq_of_lt, mod-lt, mul-pos}
@@ -22,7 +23,7 @@ use Rattle.word_syntax.specs.Grammar.{WordPattern}
 use Rattle.word_syntax.specs.Matching.{AcceptTogether, AcceptsPattern, AllMeet, Matches, word_automaton}
 use Rattle.word_syntax.specs.inner.Periods.{cyclic}
 
--- meeting, place by place
+-- letters that satisfy formulas, by index
 pub all_meet_length : (names : List (List ℕ)) (xs : List NameSet) (ts : List LabelTree) → AllMeet names xs ts → length xs ≡ length ts
 all_meet_length names [] [] m = refl
 all_meet_length names [] (t ∷ ts) m = absurd m
@@ -63,7 +64,7 @@ meets_from p k (x ∷ xs) each =
       meets_from p (k + 1) xs (λ i y t h s. let f : k + suc i ≡ k + 1 + i = omega arith in each (suc i) y t h (ap (λ (n : ℕ). slice_get (labels p) (state_at p n)) f ∙ s)),
     )
 
--- the formula after so many letters
+-- the formula after k letters
 label_in_stem : (p : WordPattern) (k : ℕ) → k < length p.stem → slice_get (labels p) (state_at p k) ≡ slice_get p.stem k
 label_in_stem p k h = ap (slice_get (labels p)) (state_in_stem p k h) ∙ slice_get-append_left p.stem p.cycle k h
 
@@ -78,7 +79,7 @@ label_at p turns k h = elim (cases_lt k (length p.stem)) [
       label_in_cycle p k past ∙ (sym (copies_at turns p.cycle (k - length p.stem) (omega arith)) ∙ sym (slice_get-append_right p.stem (copies turns p.cycle) (k - length p.stem) k e)))
 ]
 
--- behind the stem and some copies
+-- after the stem and some copies of the cycle
 label_behind : (p : WordPattern) (turns rounds i : ℕ) → i < rounds * length p.cycle
     → slice_get (labels p) (state_at p (length p.stem + turns * length p.cycle + i)) ≡ slice_get (copies rounds p.cycle) i
 label_behind p turns rounds i h =
@@ -139,7 +140,7 @@ matching_accepted p some u v m =
       meets = refl;
     }
 
--- as many letters as one likes meet the formulas
+-- any number of letters of an accepted word satisfy the formulas
 meets_far : (p : WordPattern) → 0 < length p.cycle → (u v : List NameSet) (a : Accepts (word_automaton p) u v) (n : ℕ) → MeetsFrom p 0 (u ++ copies (a.turns + n * a.rounds) v)
 meets_far p some u v a n =
     let A = word_automaton p in
@@ -165,7 +166,7 @@ repeats_times w from e r zero k h = let z : k + 0 * e ≡ k = omega arith in sam
 repeats_times w from e r (suc t) k h = let z : k + suc t * e ≡ k + t * e + e = omega arith in same_at w (k + suc t * e) (k + t * e + e) z
     ∙ (r (k + t * e) (omega arith) ∙ repeats_times w from e r t k h)
 
--- a spelling of an accepted word that matches
+-- a lasso word of the same infinite word that matches
 pub record Respelled (p : WordPattern) (u v : List NameSet) : Type 0 where
   pub stem : List NameSet
   pub cycle : List NameSet
@@ -173,7 +174,7 @@ pub record Respelled (p : WordPattern) (u v : List NameSet) : Type 0 where
   pub matches : Matches p stem cycle
   pub same : SpellsSame u v stem cycle
 
--- a word whose letters meet the formulas, as far as it has to be read for that
+-- there is one where enough letters of the word satisfy the formulas
 pub respelled : (p : WordPattern) → 0 < length p.cycle → (u v : List NameSet) (turns : ℕ) → 0 < length v
     → length p.stem + length u * length p.cycle + length v * length p.cycle ≤ length u + turns * length v → MeetsFrom p 0 (u ++ copies turns v) → Respelled p u v
 respelled p some u v turns endless room meets =
@@ -237,7 +238,7 @@ respelled p some u v turns endless room meets =
       ];
     }
 
--- an accepted word has a spelling that matches
+-- for an accepted word there is one
 pub accepted_matching : (p : WordPattern) → 0 < length p.cycle → (u v : List NameSet) → Accepts (word_automaton p) u v → Respelled p u v
 accepted_matching p some u v a =
     let n : ℕ = length p.stem + length u * length p.cycle + length v * length p.cycle in

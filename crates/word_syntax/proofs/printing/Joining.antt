@@ -1,10 +1,10 @@
--- Texts that are put together piece by piece.
+-- Joining texts with separators.
 use Rattle.std.proofs.Common.{◌≡◌, ◌∙◌, ◌∷◌, ◌++◌, ◌+◌, ◌<◌, List, [], ap, arith, get_or, length, map, refl, sym, take, ℕ}
 use Rattle.std.proofs.lemmas.List.{append_assoc, length-map, length-take-le, map-append}
 use Rattle.aut_base.proofs.lists.Lists.{take-push}
 use Rattle.aut_base.specs.LabelText.{joined}
 
--- one piece more behind a separator
+-- another text after a separator
 pub joined_push : (separator : List ℕ) (p : List ℕ) (ps : List (List ℕ)) (q : List ℕ) → joined separator ((p ∷ ps) ++ q ∷ []) ≡ joined separator (p ∷ ps) ++ (separator ++ q)
 joined_push separator p [] q = refl
 joined_push separator p (r ∷ ps) q = ap (λ (y : List ℕ). p ++ (separator ++ y)) (joined_push separator r ps q)

@@ -1,4 +1,4 @@
--- Whether a letter holds only some names, name by name.
+-- Whether a letter has given names alone, tested name by name.
 use Rattle.std.proofs.Common.{◌≡◌, ◌≢◌, ◌∷◌, ◌+◌, ◌<◌, ◌≤◌, ◌↔◌, All, Contains, IsTrue, List, [], arith, get_or, length, refl, subst, suc, sym, take, zero, ℕ}
 use Rattle.std.proofs.lemmas.List.{take_all}
 use Rattle.std.proofs.lemmas.List.Elements.{All-contains}

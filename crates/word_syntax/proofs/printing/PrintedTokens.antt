@@ -19,7 +19,7 @@ use Rattle.word_syntax.specs.declared.token.Token.TheVariants as token
 abbrev pub literal_tokens : NameSet → List ℕ → List Token
 literal_tokens x n = cond (contains x n) (token.Name n ∷ []) (token.Not ∷ token.Name n ∷ [])
 
--- the tokens of each, and this one between each two
+-- the tokens of each item, with this token between each two items
 abbrev pub separated : {A : Type 0} → Token → (A → List Token) → List A → List Token
 separated sign tokens [] = []
 separated sign tokens (x ∷ []) = tokens x
@@ -42,11 +42,11 @@ cycle_tokens names xs = separated token.Semicolon (letter_tokens names) xs
 abbrev pub word_tokens : List (List ℕ) → List NameSet → List NameSet → List Token
 word_tokens names u v = stem_tokens names u ++ (token.Cycle ∷ token.LeftBrace ∷ (cycle_tokens names v ++ token.RightBrace ∷ []))
 
--- a token more in front
+-- another token in front
 lex_cons : (t : Token) (word rest : List ℕ) (ts : List Token) (end : List ℕ) → SpellsWordToken t word → EndsWord word rest → LexesWord rest ts end → LexesWord (word ++ rest) (t ∷ ts) end
 lex_cons t word rest ts end spells ends lexes = (word ++ rest, rest, record { before = []; split = refl; blank = refl }, record { word = word; split = refl; spells = spells; ends = ends }, lexes)
 
--- a space more in front
+-- another space in front
 lex_space : (text : List ℕ) (t : Token) (ts : List Token) (end : List ℕ) → LexesWord text (t ∷ ts) end → LexesWord (32 ∷ text) (t ∷ ts) end
 lex_space text t ts end l = (l.0, l.1, record { before = 32 ∷ l.2.before; split = ap (λ (x : List ℕ). 32 ∷ x) l.2.split; blank = l.2.blank }, l.3, l.4)
 
@@ -105,7 +105,7 @@ lex_literal x n rest ts end stop lexes = elim (cases_Bool (contains x n)) [
       (lex_cons token.Not (codes "!") (name_text n ++ rest) (token.Name n ∷ ts) end refl (ends_anyhow (codes "!") (name_text n ++ rest) (λ c. refl)) (lex_name n rest ts end stop lexes)))
 ]
 
--- spaces in front of what begins with a token
+-- a text that begins with a token, with spaces in front
 record Begun (text : List ℕ) (ts : List Token) (end : List ℕ) : Type 0 where
   first : Token
   others : List Token
@@ -121,16 +121,16 @@ begun text first others ts end is l = record { first = first; others = others; i
 abbrev Starts : List Token → Type 0
 Starts ts = (first : Token) × (others : List Token) × (ts ≡ first ∷ others)
 
--- with a token and more behind
+-- with a token and more after it
 starts_more : (v w ts : List Token) (t : Token) → ((us : List Token) → Starts (v ++ us)) → Starts ((v ++ t ∷ w) ++ ts)
 starts_more v w ts t starts = let b = starts (t ∷ w ++ ts) in (b.0, b.1, append_assoc v (t ∷ w) ts ∙ b.2)
 
--- a text of each item, which ends where no word goes on, and its tokens
+-- an item's text, which ends where no token goes on, and its tokens
 record Item {A : Type 0} (text : A → List ℕ) (tokens : A → List Token) (x : A) : Type 0 where
   starts : (ts : List Token) → Starts (tokens x ++ ts)
   lexes : (rest : List ℕ) (ts : List Token) (end : List ℕ) → StopsAtHead is_alphanumeric rest → LexesWord rest ts end → LexesWord (text x ++ rest) (tokens x ++ ts) end
 
--- a sign between items, with a space behind it
+-- a sign between items, with a space after it
 record Between (text : List ℕ) (sign : Token) : Type 0 where
   stops : (more : List ℕ) → StopsAtHead is_alphanumeric (text ++ more)
   lexes : (more : List ℕ) (ts : List Token) (end : List ℕ) → Begun more ts end → LexesWord (text ++ more) (sign ∷ ts) end

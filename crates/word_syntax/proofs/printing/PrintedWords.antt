@@ -1,4 +1,4 @@
--- A printed word is a word of the grammar, and says what was printed.
+-- A printed word is a word of the grammar, and its pattern is matched by what was printed.
 use Rattle.std.proofs.Common.{◌≡◌, ◌∙◌, ◌∷◌, ◌++◌, ◌+◌, ◌-◌, ◌*◌, ◌%◌, ◌<◌, ◌↔◌, Bool, List, Option, Some, [], ap, arith, cond, false, inl, inr}
 use Rattle.std.proofs.Common.{length, length-append, map, not, refl, slice_get, subst, suc, sym, true, zero, ℕ}
 use Rattle.std.proofs.Math.Nat.{add-mul-mod_self_left}
@@ -30,7 +30,7 @@ use Rattle.word_syntax.specs.ReadBack.{AgreesOn, AgreesUnrolled, AllAgree, Print
 use Rattle.word_syntax.specs.declared.token.Token.{Token}
 use Rattle.word_syntax.specs.declared.token.Token.TheVariants as token
 
--- what a literal and a letter say
+-- the formulas of a literal and of a letter
 abbrev literal_tree : NameSet → ℕ → List ℕ → LabelTree
 literal_tree x i n = cond (contains x n) (label.Prop i) (label.Not (label.Prop i))
 
@@ -159,7 +159,7 @@ cycle_within names x [] ts all = letter_within names x ts all
 cycle_within names x (y ∷ ys) ts all = subst (λ (w : List Token). Within names (token_names w)) (sym (append_assoc (letter_tokens names x) (token.Semicolon ∷ cycle_tokens names (y ∷ ys)) ts))
     (letter_within names x (token.Semicolon ∷ (cycle_tokens names (y ∷ ys) ++ ts)) (cycle_within names y ys ts all))
 
--- names that differ, each where it first stands
+-- names that differ are their own list of first occurrences
 others_all : (n : List ℕ) (ns : List (List ℕ)) → (Has n ns → ⊥) → others n ns ≡ ns
 others_all n ns lacks = all_kept (λ m. not (same_text n m)) ns (each ns (λ m h e. lacks (subst (λ (z : List ℕ). Has z ns) (sym e) h)))
   where

@@ -1,4 +1,4 @@
--- The token that is found at the front of bytes is the one that stands there.
+-- The lexer finds the token at the front of bytes, and there is at most one.
 use Rattle.std.proofs.Common.{◌≡◌, ◌∙◌, ◌∷◌, ◌++◌, ◌+◌, ◌<◌, ◌≤◌, ◌&&◌, ◌==◌, Bool, List, None, Option, Some, [], ap, arith, codes, cond, drop, false}
 use Rattle.std.proofs.Common.{inl, inr, length, length-append, nat_lt, ne_eqb, refl, subst, suc, sym, take, true, ℕ}
 use Rattle.std.proofs.lemmas.Bool.{and_from, and_left, and_right, cases_Bool, cond-false, cond-true, eqb-false, eqb-true, lt-ltb, or_from, or_left, or_parts}
@@ -18,7 +18,7 @@ use Rattle.word_syntax.specs.inner.Fronts.{bare_token, sign_count, front_token, 
 use Rattle.word_syntax.specs.declared.token.Token.{Token}
 use Rattle.word_syntax.specs.declared.token.Token.TheVariants as token
 
--- so many bytes spell the token at the front
+-- the first `size` bytes spell a token that isn't longer
 pub record HasFront (bytes : List ℕ) (t : Token) (size : ℕ) : Type 0 where
   pub some : 0 < size
   pub within : size ≤ length bytes
@@ -145,7 +145,7 @@ and_holds = sign_holds 38 token.And (inl refl) (inr refl) (λ c e. or_from _ _ e
 or_holds : (bs : List ℕ) → HasFront (124 ∷ bs) token.Or (sign_count 124 (124 ∷ bs))
 or_holds = sign_holds 124 token.Or (inl refl) (inr refl) (λ c e. e) (λ c. refl)
 
--- what stands up to the closing quote
+-- a string up to its closing quote
 pub record IsUnquoted (bs text : List ℕ) (size : ℕ) : Type 0 where
   pub inner : List ℕ
   pub quotes : Quotes inner text
@@ -237,7 +237,7 @@ fronts_hold (b ∷ bs) = subst (λ (o : Option (Token × ℕ)). HasFound (b ∷ 
 pub front_found : (bytes : List ℕ) (t : Token) (size : ℕ) → front_token bytes ≡ Some (t, size) → HasFront bytes t size
 front_found bytes t size e = let P : Option (Token × ℕ) → Type 0 = λ o. HasFound bytes o in subst P e (fronts_hold bytes)
 
--- what is found where a token stands
+-- the lexer finds this token
 pub record Finds (bytes : List ℕ) (t : Token) (rest : List ℕ) : Type 0 where
   pub size : ℕ
   pub found : front_token bytes ≡ Some (t, size)
@@ -262,7 +262,7 @@ bare_found (b ∷ bs) rest bare ends =
 finds_along : (bytes word rest : List ℕ) (t : Token) → bytes ≡ word ++ rest → Finds (word ++ rest) t rest → Finds bytes t rest
 finds_along bytes word rest t e f = subst (λ (x : List ℕ). Finds x t rest) (sym e) f
 
--- how a string is found
+-- a string is found
 quoted_found : (inner text rest : List ℕ) → Quotes inner text → unquoted (inner ++ (34 ∷ rest)) ≡ Some (text, 1 + length inner)
 quoted_found inner text rest nothing = unquoted_close 34 rest refl
 quoted_found inner text rest (escaped {b = b} {inner = more} {text = t} quotes) =
@@ -283,7 +283,7 @@ string_found name word rest q =
       behind = sym (ap (λ (n : ℕ). drop n ((34 ∷ (q.inner ++ 34 ∷ [])) ++ rest)) (size ∙ ap suc (sym long)) ∙ dropped (34 ∷ (q.inner ++ 34 ∷ [])) rest);
     })
 
--- how a sign is found
+-- a sign is found
 one_found : (b : ℕ) (rest : List ℕ) (t : Token) → token_from b (b ∷ rest) ≡ Some (t, 1) → Finds (b ∷ rest) t rest
 one_found b rest t e = record { size = 1; found = front_cons b rest ∙ e; behind = refl }
 
@@ -336,7 +336,7 @@ front_stands bytes t rest f = finds_along bytes f.word rest t f.split (word_foun
     word_found token.LeftBrace word rest e ends = at_word token.LeftBrace word (codes "{") rest e (λ _. one_found 123 rest token.LeftBrace refl) ends
     word_found token.RightBrace word rest e ends = at_word token.RightBrace word (codes "}") rest e (λ _. one_found 125 rest token.RightBrace refl) ends
 
--- at most one token stands at the front
+-- at most one token is at the front
 pub one_front : (bytes : List ℕ) (t u : Token) (rest rest' : List ℕ) → IsWordFront bytes t rest → IsWordFront bytes u rest' → (t ≡ u) × (rest ≡ rest')
 one_front bytes t u rest rest' f g =
     let x = front_stands bytes t rest f in

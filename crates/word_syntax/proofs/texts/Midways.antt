@@ -1,4 +1,4 @@
--- A text is read token by token.
+-- The loop that reads a text token by token: its invariant, and its ends.
 use Rattle.std.proofs.Common.{Bool, cond, true, false, ◌≡◌, ◌≢◌, ◌∙◌, ◌∷◌, ◌++◌, ◌+◌, ◌<◌, ◌≤◌, ◌^◌, List, None, Option, Some, [], ap, arith, drop}
 use Rattle.std.proofs.Common.{inl, inr, length, length-append, length-drop, map, refl, subst, sym, ℕ}
 use Rattle.std.proofs.lemmas.List.{append-nil, drop_all, length-map}
@@ -29,7 +29,7 @@ lexes_push : (text : List ℕ) (ts : List Token) (rest bytes next : List ℕ) (t
 lexes_push text [] rest bytes next t l a f = subst (λ (x : List ℕ). LexesWord x (t ∷ []) next) (sym l) (bytes, next, a, f, refl)
 lexes_push text (u ∷ ts) rest bytes next t l a f = (l.0, l.1, l.2, l.3, lexes_push l.1 ts rest bytes next t l.4 a f)
 
--- one token more, whatever the places
+-- another token, whatever the indices of names are
 read_push : (tokens : List Token) (s next : WordState) (t : Token) (old new : List (List ℕ)) → old ≡ distinct (token_names tokens) → NamesGo t old new → HasReadTokens tokens s
     → ((place : List ℕ → ℕ) → Agrees place new → word_step place s t ≡ Some next) → HasReadTokens (tokens ++ t ∷ []) next
 read_push tokens s next t old new is go read step place agrees =
@@ -39,7 +39,7 @@ read_push tokens s next t old new is go read step place agrees =
     let before : Agrees place (distinct (token_names tokens)) = agrees_front place (distinct (token_names tokens)) more.0 (subst P (ap distinct (names_of-append tokens (t ∷ [])) ∙ more.1) agrees) in
     runs_push (word_step place) word_start s next tokens t (read place before) (step place here)
 
--- a token adds one name at most, and one letter
+-- a token adds at most one name, and at most one letter
 grown : (t : Token) (old new : List (List ℕ)) → NamesGo t old new → length new ≤ length old + 1
 grown (token.Name n) old new (inl (has, same)) = let e : length new ≡ length old = ap (λ (x : List (List ℕ)). length x) same in omega arith
 grown (token.Name n) old new (inr (none, same)) = let e : length new ≡ length (old ++ n ∷ []) = ap (λ (x : List (List ℕ)). length x) same in omega (arith, length-append old (n ∷ []))
@@ -108,7 +108,7 @@ one_letter place s next token.Or e = inner_letters (machine.has_letters s.stage)
 one_letter place s next token.LeftParen e = inner_letters (machine.has_letters s.stage) s next (letter_step place s.letter token.LeftParen) e
 one_letter place s next token.RightParen e = inner_letters (machine.has_letters s.stage) s next (letter_step place s.letter token.RightParen) e
 
--- one token more
+-- another token
 pub midway_more : (text : List ℕ) (at start end : ℕ) (before after : WordReader) (t : Token) → HasReadTo text at before → IsTokenNext text at t start end → HasTaken before t after
     → HasReadTo text end after
 midway_more text at start end before after t m n taken =
@@ -132,7 +132,7 @@ midway_more text at start end before after t m n taken =
       few_letters = omega (arith, longer, m.few_letters, n.later, n.some);
     }
 
--- it goes no further behind these blanks
+-- the parser stops after these blanks
 stopped : (text : List ℕ) (at start : ℕ) (before : WordReader) → (m : HasReadTo text at before) → FollowsBlanks (drop at text) (drop start text) → start ≤ length text
     → StopsWord m.tokens (drop start text) → IsStoppedAt text start
 stopped text at start before m blanks within stops = record {
@@ -146,7 +146,7 @@ stopped text at start before m blanks within stops = record {
   stops = stops;
 }
 
--- a token that can't stand there
+-- at a token that is rejected
 pub stopped_at_token : (text : List ℕ) (at start end : ℕ) (before : WordReader) (t : Token) → HasReadTo text at before → IsTokenNext text at t start end
     → ((place : List ℕ → ℕ) → word_step place (word_state before) t ≡ None) → IsStoppedAt text start
 stopped_at_token text at start end before t m n stuck =
@@ -156,12 +156,12 @@ some_bytes : (bytes : List ℕ) (tokens : List Token) → 0 < length bytes → N
 some_bytes [] tokens some first none = absurd (omega arith)
 some_bytes (b ∷ bs) tokens some first none = no_token first none
 
--- bytes that are no token
+-- at bytes that are no token
 pub stopped_at_bytes : (text : List ℕ) (at start : ℕ) (before : WordReader) → HasReadTo text at before → IsNothing text at start → start < length text → IsStoppedAt text start
 stopped_at_bytes text at start before m n some =
     stopped text at start before m n.blanks n.within (some_bytes (drop start text) m.tokens (omega (arith, length-drop start text)) n.first n.none)
 
--- the end of the text
+-- at the end of the text
 pub through : (text : List ℕ) (at start : ℕ) (r : WordReader) → HasReadTo text at r → IsNothing text at start → length text ≤ start → IsThrough text r
 through text at start r m n all =
     let none : drop start text ≡ [] = drop_all start text all in

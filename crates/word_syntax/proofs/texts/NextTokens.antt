@@ -1,4 +1,4 @@
--- What is found behind blanks is what stands next.
+-- The lexer, after blanks, finds the next token.
 use Rattle.std.proofs.Common.{◌≡◌, ◌∙◌, ◌++◌, ◌+◌, ◌≤◌, List, None, Option, Some, ap, arith, drop, length, length-drop, subst, sym, take, ℕ}
 use Rattle.std.proofs.lemmas.List.{drop-drop, take-append-drop}
 use Rattle.std.proofs.lemmas.List.Sums.{prefix_len-le-length}

@@ -1,4 +1,4 @@
--- The elements from the front on that pass a test.
+-- The longest prefix of a list whose elements pass a test.
 use Rattle.std.proofs.Common.{◌≡◌, ◌∙◌, ◌∷◌, ◌++◌, ◌+◌, Bool, List, [], ap, arith, drop, inl, inr, length, refl, subst, suc, sym, take, true, ℕ}
 use Rattle.std.proofs.lemmas.Bool.{and_from, and_parts, cases_Bool, cond-false, cond-true}
 use Rattle.std.specs.List.{list_all, prefix_len}

@@ -1,4 +1,4 @@
--- A text is read in one way at most.
+-- A text has at most one reading: one pattern, or one offset of an error.
 use Rattle.std.proofs.Common.{◌≡◌, ◌∙◌, ◌∷◌, ◌++◌, ◌⊎◌, ◌==◌, Bool, List, None, [], ap, arith, drop, false, inl, inr, length, refl, subst, sym, true, ℕ}
 use Rattle.std.proofs.lemmas.Bool.{and_parts, cases_Bool, eqb-true, or_cases}
 use Rattle.std.proofs.lemmas.List.{append_assoc}
@@ -72,7 +72,7 @@ next_once input t u ts us r q l k =
     let same : l.0 ≡ k.0 = after_is input l.0 l.2 (front_first l.0 t l.1 l.3) ∙ sym (after_is input k.0 k.2 (front_first k.0 u k.1 k.3)) in
     one_front k.0 t u l.1 k.1 (subst (λ (x : List ℕ). IsWordFront x t l.1) same l.3) k.3
 
--- the tokens of a text go further than others do
+-- the tokens us are the tokens ts and further ones of the text
 pub record GoesFurther (ts : List Token) (r : List ℕ) (us : List Token) (q : List ℕ) : Type 0 where
   pub first : Token
   pub more : List Token
@@ -97,7 +97,7 @@ compare input (t ∷ ts) (u ∷ us) r q l k =
       | inr (inr g) ↦ inr (inr (further_cons u t us ts q r (sym same.0) g))
     ]
 
--- where a word stops, its bytes don't begin with a blank
+-- the bytes at an error don't begin with a blank
 stops_first : (tokens : List Token) (bytes : List ℕ) → StopsWord tokens bytes → NoBlankFirst bytes
 stops_first tokens bytes (misplaced {rest = rest} t f h) = front_first bytes t rest f
 stops_first tokens bytes (no_token e h) = e
@@ -109,7 +109,7 @@ front_not_here bytes t rest f = let x = front_not_blank [] t rest f in nil_cons 
     nil_cons : (b : ℕ) (bs : List ℕ) → [] ≡ b ∷ bs → ⊥
     nil_cons b bs e = cc
 
--- where it stops, no token stands with which it goes on
+-- at an error no token follows with which a word goes on
 stopped : (tokens : List Token) (bytes : List ℕ) (t : Token) (rest : List ℕ) → StopsWord tokens bytes → IsWordFront bytes t rest → IsPrefixOfWord (tokens ++ t ∷ []) → ⊥
 stopped tokens bytes t rest (misplaced {rest = q} u g h) f b = h (subst (λ (x : Token). IsPrefixOfWord (tokens ++ x ∷ [])) (one_front bytes t u rest q f g).0 b)
 stopped tokens bytes t rest (no_token e h) f b = h t rest f

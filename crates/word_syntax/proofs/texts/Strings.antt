@@ -1,11 +1,11 @@
--- How a string is read byte by byte.
+-- Reading a string byte by byte.
 use Rattle.std.proofs.Common.{◌≡◌, ◌∙◌, ◌∷◌, ◌++◌, ◌+◌, ◌<◌, List, None, Option, Some, [], add_assoc, ap, arith, drop, eq-eqb, get_or, length, ne_eqb, refl, sym, ℕ}
 use Rattle.std.proofs.lemmas.Bool.{cond-false, cond-true}
 use Rattle.std.proofs.lemmas.List.{append_assoc, append-nil, drop_more}
 use Rattle.std.specs.Option.{option_map}
 use Rattle.word_syntax.specs.inner.Fronts.{quoted_more, unquoted}
 
--- a string whose first bytes mean this text and are so many
+-- a string with `at` bytes more in front, which mean `text`
 abbrev pub quoted_after : List ℕ → ℕ → List ℕ × ℕ → List ℕ × ℕ
 quoted_after text at s = (text ++ s.0, at + s.1)
 

@@ -1,4 +1,4 @@
--- What the answers to a text are put together from.
+-- The answers to a text, from what the parser has read.
 use Rattle.std.proofs.Common.{◌≡◌, ◌≢◌, ◌∙◌, ◌<◌, ◌^◌, List, None, Option, Some, Result, Err, drop, length, map, subst, sym, ap, ℕ}
 use Rattle.std.proofs.lemmas.Option.{some_pair_parts}
 use Rattle.std.specs.Result.{IsErrAnd}
@@ -36,7 +36,7 @@ word_ended text bytes r is short t e =
     let P : List ℕ → Type 0 = λ x. IsBadAt x (length bytes) × WritesNothing x in
     subst P is (ended_early bytes r short t e)
 
--- a name alone
+-- a single name
 pub name_found : (text bytes : List ℕ) (o : Option (Token × ℕ)) (t : Token) (name : List ℕ) (size : ℕ) → bytes ≡ text → o ≡ front_token bytes → o ≡ Some (t, size) → t ≡ token.Name name
     → IsNameAtFront text name size
 name_found text bytes o t name size is found some e =

@@ -1,4 +1,4 @@
--- How the reader's values are seen as states, and what each of its steps says.
+-- The states of the parsers in memory as states of the abstract parser (`Machine`), and what a step of them does.
 use Rattle.std.specs.Prelude.{◌≡◌, ◌≢◌, ℕ, ◌⊎◌, List, [], ◌∷◌, ◌++◌, map, reverse, All, Contains, slice_get, Option, Some, None}
 use Rattle.aut_base.specs.Label.{LabelTree, label_list, label_tree}
 use Rattle.word_syntax.specs.inner.Machine.{LetterState, LevelTree, WordState, letter_step, word_step}
@@ -24,30 +24,30 @@ letter_state r = record { outer = map level_tree (reverse r.outer.items); level 
 abbrev pub word_state : WordReader → WordState
 word_state r = record { stem = map label_tree r.stem; cycle = map label_tree r.cycle; stage = r.stage; letter = letter_state r.letter }
 
--- the list with this name, which is added at the end if it isn't there
+-- the list gets this name at its end, unless it has it
 abbrev pub GrowsBy : List ℕ → List (List ℕ) → List (List ℕ) → Type 0
 GrowsBy name old new = (Contains old name × (new ≡ old)) ⊎ (All (λ other. other ≢ name) old × (new ≡ old ++ name ∷ []))
 
--- the name has this place in the list with it
+-- the list gets the name, unless it has it, and then has it at this index
 pub record IsNamePlaced (old new : List (List ℕ)) (name : List ℕ) (place : ℕ) : Type 0 where
   pub grows : GrowsBy name old new
   pub stands : slice_get new place ≡ Some name
 
--- the names after a token
+-- a token that is a name is added to the names, unless it is there
 abbrev pub NamesGo : Token → List (List ℕ) → List (List ℕ) → Type 0
 NamesGo (token.Name name) old new = GrowsBy name old new
 NamesGo _ old new = new ≡ old
 
--- the function gives the places in this list
+-- the function has the index of each name of the list
 abbrev pub Agrees : (List ℕ → ℕ) → List (List ℕ) → Type 0
 Agrees place names = (i : ℕ) (name : List ℕ) → slice_get names i ≡ Some name → place name ≡ i
 
--- The letter goes on with the token, or can't.
+-- The parser of a letter takes the token, or rejects it.
 abbrev pub GoesInLetter : LetterState → Token → List (List ℕ) → List (List ℕ) → Option LetterState → Type 0
 GoesInLetter s t old new None = (place : List ℕ → ℕ) → letter_step place s t ≡ None
 GoesInLetter s t old new (Some next) = NamesGo t old new × ((place : List ℕ → ℕ) → Agrees place new → letter_step place s t ≡ Some next)
 
--- What a word's reader has become by a token, or that the token can't stand there.
+-- The parser of a pattern has taken the token.
 pub record HasTaken (before : WordReader) (t : Token) (after : WordReader) : Type 0 where
   pub names : NamesGo t before.names after.names
   pub steps : (place : List ℕ → ℕ) → Agrees place after.names → word_step place (word_state before) t ≡ Some (word_state after)

@@ -1,4 +1,4 @@
--- The token at the front of bytes, as it is found from the first byte on.
+-- The lexer as a function: the token at the front of bytes.
 use Rattle.std.specs.Prelude.{ℕ, ◌+◌, ◌==◌, ◌&&◌, if◌then◌else◌, List, [], ◌∷◌, length, nat_lt, take, drop, slice_index, codes, Option, Some, None}
 use Rattle.std.specs.List.{prefix_len}
 use Rattle.std.specs.Option.{option_map}
@@ -28,11 +28,11 @@ sign_token b =
     if b == 125 then Some RightBrace else
     None
 
--- a byte more of a string, which is spelled by this many
+-- a string with another byte in front, which is spelled by this many bytes
 abbrev pub quoted_more : ℕ → ℕ → List ℕ × ℕ → List ℕ × ℕ
 quoted_more b size s = (b ∷ s.0, size + s.1)
 
--- What a string means whose opening quote stands before these bytes, and how many of them it takes.
+-- The text of a string whose opening quote is just before these bytes, and how many of them it takes, with the closing quote.
 abbrev pub unquoted : List ℕ → Option (List ℕ × ℕ)
 unquoted [] = None
 unquoted (b ∷ []) = if b == 34 then Some ([], 1) else None
@@ -41,11 +41,11 @@ unquoted (b ∷ c ∷ cs) =
     if b == 92 then option_map (quoted_more c 2) (unquoted cs) else
     option_map (quoted_more b 1) (unquoted (c ∷ cs))
 
--- how often a sign stands at the front, up to twice
+-- how often a sign occurs at the front, up to twice
 abbrev pub sign_count : ℕ → List ℕ → ℕ
 sign_count b bytes = if nat_lt 1 (length bytes) && (slice_index bytes 1 == b) then 2 else 1
 
--- the token that begins with the byte at the front of these bytes, and how many of them spell it
+-- the token that begins with the first of these bytes, and how many of them spell it
 abbrev pub token_from : ℕ → List ℕ → Option (Token × ℕ)
 token_from b bytes =
     if is_letter b then Some (bare_token (take (prefix_len is_alphanumeric bytes) bytes), prefix_len is_alphanumeric bytes) else

@@ -1,4 +1,4 @@
--- A reader of tokens, one after the other, that keeps what is open. Names go by a function that gives the place of each.
+-- The parser of patterns as a function from state and token to state, with a stack. `place` has the index of each name.
 use Rattle.std.specs.Prelude.{ℕ, zero, suc, ◌+◌, ◌==◌, ◌&&◌, if◌then◌else◌, Bool, true, false, not, List, [], ◌∷◌, ◌++◌, length, nat_lt, Option, Some, None}
 use Rattle.std.specs.Option.{option_and_then, option_map}
 use Rattle.aut_base.specs.CanonicalLabel.{all_of, one_of}
@@ -10,8 +10,8 @@ use Rattle.word_syntax.specs.declared.token.Token.TheVariants as token
 use Rattle.word_syntax.specs.declared.stage.Stage.{Stage}
 use Rattle.word_syntax.specs.declared.stage.Stage.TheVariants.{Stem, Brace, Cycle, End}
 
--- A letter, or a part of one in parentheses, as far as it is read. `around` of `(` and `!` are open around it, and `nots`
--- of `!` stand before the operand that is to come.
+-- A level: a letter, or a part of one in parentheses, as far as it is read. `around` is how many `(` and `!` are open around it, and
+-- `nots` how many `!` were read before the next operand.
 pub record LevelTree : Type 0 where
   pub around : ℕ
   pub ors : List LabelTree
@@ -25,11 +25,11 @@ pub record LetterState : Type 0 where
   pub level : LevelTree
   pub ready : Bool
 
--- nothing is read of a level yet
+-- a level of which nothing is read yet
 abbrev pub fresh_level : ℕ → LevelTree
 fresh_level around = record { around = around; ors = []; ands = []; nots = 0 }
 
--- nothing is read of a letter yet
+-- a letter of which nothing is read yet
 abbrev pub fresh : LetterState
 fresh = record { outer = []; level = fresh_level 0; ready = false }
 
@@ -38,18 +38,18 @@ abbrev pub nots_on : ℕ → LabelTree → LabelTree
 nots_on zero t = t
 nots_on (suc n) t = nots_on n (label.Not t)
 
--- an operand has ended
+-- the level once an operand has ended
 abbrev pub complete_level : LevelTree → LabelTree → LevelTree
 complete_level l t = record { around = l.around; ors = l.ors; ands = l.ands ++ nots_on l.nots t ∷ []; nots = 0 }
 
 abbrev pub complete : LetterState → LabelTree → LetterState
 complete s t = record { outer = s.outer; level = complete_level s.level t; ready = true }
 
--- one more may open
+-- another `(` or `!` may be opened
 abbrev pub may_nest : LevelTree → Bool
 may_nest l = nat_lt (l.around + l.nots) most_open
 
--- what a whole level says
+-- the label of a complete level
 abbrev pub level_label : LevelTree → LabelTree
 level_label l = one_of (l.ors ++ all_of l.ands ∷ [])
 
@@ -65,14 +65,14 @@ opened s = record { outer = s.level ∷ s.outer; level = fresh_level (s.level.ar
 abbrev pub anded : LetterState → LetterState
 anded s = with_level s s.level
 
--- the conjunction has ended, and another is to come
+-- the level once a conjunction has ended and another follows
 abbrev pub or_level : LevelTree → LevelTree
 or_level l = record { around = l.around; ors = l.ors ++ all_of l.ands ∷ []; ands = []; nots = l.nots }
 
 abbrev pub ored : LetterState → LetterState
 ored s = with_level s (or_level s.level)
 
--- `!` and `(`, where one more may open
+-- `!` and `(`, where another may be opened
 abbrev pub maybe_negated : LetterState → Option LetterState
 maybe_negated s = if may_nest s.level then Some (negated s) else None
 
@@ -87,7 +87,7 @@ closed (l ∷ ls) inner = Some (complete (record { outer = ls; level = l; ready 
 abbrev pub close : LetterState → Option LetterState
 close s = closed s.outer s.level
 
--- where an operand is to come
+-- takes a token where an operand has to follow
 abbrev pub begin_operand : (List ℕ → ℕ) → LetterState → Token → Option LetterState
 begin_operand place s token.True = Some (complete s label.True)
 begin_operand place s token.False = Some (complete s label.False)
@@ -96,7 +96,7 @@ begin_operand place s token.Not = maybe_negated s
 begin_operand place s token.LeftParen = maybe_opened s
 begin_operand place s _ = None
 
--- where an operand has ended
+-- takes a token where an operand has just ended
 abbrev pub after_operand : LetterState → Token → Option LetterState
 after_operand s token.And = Some (anded s)
 after_operand s token.Or = Some (ored s)
@@ -116,7 +116,7 @@ pub record WordState : Type 0 where
 abbrev pub is_none : {A : Type 0} → List A → Bool
 is_none xs = length xs == 0
 
--- the letter that is whole, if it is
+-- the label of the letter, where it is complete
 abbrev pub whole_letter : LetterState → Option LabelTree
 whole_letter s = if s.ready && is_none s.outer then Some (level_label s.level) else None
 
@@ -155,7 +155,7 @@ brace_at Stem s = None
 brace_at Cycle s = None
 brace_at End s = None
 
--- letters stand there
+-- letters may follow at this stage
 abbrev pub has_letters : Stage → Bool
 has_letters Stem = true
 has_letters Cycle = true

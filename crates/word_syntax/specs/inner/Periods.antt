@@ -1,9 +1,9 @@
--- Periods of lists, and words that come again and again.
+-- Periods of lists, and the parts of reducing a lasso word.
 use Rattle.std.specs.Prelude.{◌≡◌, ◌≢◌, ℕ, ◌+◌, ◌-◌, ◌*◌, ◌%◌, ◌<◌, ◌≤◌, List, length, slice_get, slice_index, Option, true}
 use Rattle.std.specs.FinSet.{contains}
 use Rattle.aut_base.specs.Word.{NameSet}
 
--- the first `front` elements have the period: each is the same as the one so many places on
+-- the first `front` elements have the period p: each is the same as the one p places later
 abbrev pub IsPeriod : List NameSet → ℕ → ℕ → Type 0
 IsPeriod v front p = (k : ℕ) → k + p < front → slice_get v k ≡ slice_get v (k + p)
 
@@ -13,22 +13,22 @@ pub record IsLeastPeriod (v : List NameSet) (front p : ℕ) : Type 0 where
   pub is : IsPeriod v front p
   pub least : (q : ℕ) → 0 < q → IsPeriod v front q → p ≤ q
 
--- the least periods of all fronts that are shorter than `count`
+-- the least periods of all prefixes that are shorter than `count`
 abbrev pub AreLeastPeriods : List NameSet → ℕ → List ℕ → Type 0
 AreLeastPeriods v count periods = (front : ℕ) → front < count → IsLeastPeriod v front (slice_index periods front)
 
--- a period of the first `front` elements that the front of one more can still have: none of its periods is less
+-- a candidate for the least period of the first `front` + 1 elements: a period of the first `front`, and at most that least period
 pub record IsCandidate (v : List NameSet) (front p : ℕ) : Type 0 where
   pub some : 0 < p
   pub is : IsPeriod v front p
   pub small : p ≤ front + 1
   pub least : (q : ℕ) → 0 < q → IsPeriod v (front + 1) q → p ≤ q
 
--- the i-th element of the list again and again
+-- the i-th element of the list repeated for ever
 abbrev pub cyclic : List NameSet → ℕ → Option NameSet
 cyclic v i = slice_get v (i % length v)
 
--- the first so many elements of the list, again and again, are the list again and again, and no fewer are
+-- the list is copies of its first `size` elements, which aren't copies of fewer
 pub record IsRoot (v : List NameSet) (size : ℕ) : Type 0 where
   pub some : 0 < size
   pub within : size ≤ length v
@@ -37,7 +37,7 @@ pub record IsRoot (v : List NameSet) (size : ℕ) : Type 0 where
   pub same : (i : ℕ) → i < length v → slice_get v i ≡ slice_get v (i % size)
   pub least : (e k : ℕ) → 0 < e → 2 ≤ k → size ≡ k * e → ((i : ℕ) → slice_get v ((i + e) % size) ≡ slice_get v (i % size)) → ⊥
 
--- A stem and a turned root: the stem's letters from `kept` on are those of the root again and again, from `from` on.
+-- The invariant of dropping letters of the stem: its letters from `kept` on are whole copies of the cycle rotated to begin at `from`.
 pub record IsMidShared (stem root : List NameSet) (kept from : ℕ) : Type 0 where
   pub within : kept ≤ length stem
   pub inside : from < length root
@@ -45,12 +45,12 @@ pub record IsMidShared (stem root : List NameSet) (kept from : ℕ) : Type 0 whe
   pub turns : ℕ
   pub whole : from + (length stem - kept) ≡ turns * length root
 
--- and the last letter that is kept is not the last of the turned root
+-- and the last letter that is kept is not the last of the rotated cycle
 pub record IsShared (stem root : List NameSet) (kept from : ℕ) : Type 0 where
   pub shared : IsMidShared stem root kept from
   pub last : 0 < kept → slice_get stem (kept - 1) ≢ cyclic root (from + (length root - 1))
 
--- the least period of each front, by its length
+-- the least period of each prefix, by its length
 pub record ArePeriods (v : List NameSet) (periods : List ℕ) : Type 0 where
   pub size : length periods ≡ length v + 1
   pub least : AreLeastPeriods v (length v + 1) periods

@@ -1,4 +1,4 @@
--- How far a text is read.
+-- What a parser has read of a text, up to an offset or to the end.
 use Rattle.std.specs.Prelude.{◌≡◌, ℕ, ◌+◌, ◌≤◌, true, List, length, drop, Result, Ok, Err}
 use Rattle.std.specs.List.{list_all}
 use Rattle.word_syntax.specs.Grammar.{distinct, token_names}
@@ -12,11 +12,11 @@ use Rattle.word_syntax.specs.inner.Runs.{RunsTokens}
 use Rattle.word_syntax.specs.declared.word.WordReader.{WordReader}
 use Rattle.word_syntax.specs.declared.token.Token.{Token}
 
--- the reader has read these tokens, whatever function gives the places of their names
+-- the parser is in this state after these tokens, whatever function has the indices of their names
 abbrev pub HasReadTokens : List Token → WordState → Type 0
 HasReadTokens tokens s = (place : List ℕ → ℕ) → Agrees place (distinct (token_names tokens)) → RunsTokens (word_step place) word_start tokens s
 
--- So many bytes of the text are read.
+-- The text is read up to the offset `at`.
 pub record HasReadTo (text : List ℕ) (at : ℕ) (r : WordReader) : Type 0 where
   pub tokens : List Token
   pub lexes : LexesWord text tokens (drop at text)

@@ -1,4 +1,4 @@
--- Each part is smaller than the whole; what is left of the parts decides, since those so far did not.
+-- Each part is smaller than the whole; the rest of the parts decides, since those so far don't.
 use Rattle.std.proofs.Common.{◌≡◌, ◌+◌, ◌*◌, drop}
 use Rattle.std.specs.List.{list_any}
 use Rattle.aut_base.specs.Formula.{formula_tree, formula_list, formula_size, formulas_size, trees}

@@ -1,4 +1,4 @@
--- What is added, and what is to come.
+-- The parts added so far, and those still to be added.
 use Rattle.std.proofs.Common.{◌≡◌, ◌++◌, drop}
 use Rattle.aut_base.specs.Formula.{formula_list}
 use Rattle.acc_forms.proofs.join.push_from.Given as goal

@@ -1,4 +1,4 @@
--- The condition from the set at hand on.
+-- The condition so far is the one over the sets from the current one on.
 use Rattle.std.proofs.Common.{◌≡◌, ◌-◌}
 use Rattle.aut_base.specs.Formula.{formula_tree}
 use Rattle.acc_forms.specs.Parity.{parity_from}

@@ -1,4 +1,4 @@
--- The parts so far are below the number, so what is left decides.
+-- The sets of the parts so far are below the number, so the rest of the list decides.
 use Rattle.std.proofs.Common.{◌↔◌, map, drop}
 use Rattle.aut_base.specs.Formula.{EachSetsBelow, trees, formula_tree}
 use Rattle.aut_base.proofs.formula.+formula_below.Given as goal

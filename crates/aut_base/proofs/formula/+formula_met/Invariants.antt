@@ -1,4 +1,4 @@
--- What is left of the list decides, since the parts so far did not.
+-- The rest of the list decides, since the parts so far don't.
 use Rattle.std.proofs.Common.{◌≡◌, map, drop}
 use Rattle.aut_base.specs.Formula.{all_met, some_met, trees, formula_tree}
 use Rattle.aut_base.proofs.formula.+formula_met.Given as goal

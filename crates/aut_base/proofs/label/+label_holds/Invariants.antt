@@ -1,4 +1,4 @@
--- What is left of the list decides, since the parts so far did not.
+-- The rest of the list decides, since the parts so far don't.
 use Rattle.std.proofs.Common.{◌≡◌, length, map, drop}
 use Rattle.aut_base.specs.Label.{EachBelow, holds_at, all_true, some_true, trees, label_tree}
 use Rattle.aut_base.proofs.label.+label_holds.Given as goal

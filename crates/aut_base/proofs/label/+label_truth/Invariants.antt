@@ -1,4 +1,4 @@
--- What is left of the list decides, since the parts so far did not.
+-- The rest of the list decides, since the parts so far don't.
 use Rattle.std.proofs.Common.{◌≡◌, false, length, map, drop}
 use Rattle.std.specs.List.{slice_index_or}
 use Rattle.aut_base.specs.Label.{EachBelow, all_true, some_true, trees, label_tree}

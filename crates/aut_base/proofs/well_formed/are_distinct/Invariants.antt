@@ -1,4 +1,4 @@
--- The starts so far differ.
+-- Each start so far differs from the earlier ones.
 use Rattle.std.proofs.Common.{ℕ, ◌<◌}
 use Rattle.aut_base.specs.inner.Distinct.{DiffersFromEarlier}
 use Rattle.aut_base.proofs.well_formed.are_distinct.Given as goal

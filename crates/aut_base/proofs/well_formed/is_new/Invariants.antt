@@ -1,4 +1,4 @@
--- The starts so far are others.
+-- The starts compared so far differ from this one.
 use Rattle.std.proofs.Common.{◌≢◌, ℕ, ◌<◌, get_or}
 use Rattle.aut_base.proofs.well_formed.is_new.Given as goal
 

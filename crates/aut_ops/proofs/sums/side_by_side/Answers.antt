@@ -14,7 +14,7 @@ pub either_condition-requires : goal.either_condition-requires
 either_condition-requires c = sets_within c.args.b.now c.well_formedness-2.ensures (4294967296 - c.sets-sets.result) (formula_tree c.formula-2.result.now)
     (omega (arith, c.sets-sets.ensures, c.requires.sets)) c.formula-2.ensures
 
--- the sum as it is handed on
+-- the parts of the sum that are passed to `from_parts`
 abbrev core : After-states → SymbolicAutomaton
 core c = record {
   names = c.in_ok-names.names;

@@ -1,4 +1,4 @@
--- Each group has the edges so far that lie inside of the component of its number.
+-- Each group has the edges so far that are inside of the component of its number.
 use Rattle.std.proofs.Common.{◌≡◌, ℕ, [], get_or, take}
 use Rattle.std.specs.List.{filter}
 use Rattle.lasso_emptiness.specs.inner.Groups.{is_inside}

@@ -1,4 +1,4 @@
--- Each part is smaller than the whole; the parts so far have what they need.
+-- Each part is smaller than the whole; the chosen edges suffice for the parts so far.
 use Rattle.std.proofs.Common.{◌≡◌, ◌+◌, ◌*◌, true, take}
 use Rattle.std.specs.List.{list_all}
 use Rattle.aut_base.specs.Formula.{formula_tree, formula_list, formula_size, formulas_size, met, trees}

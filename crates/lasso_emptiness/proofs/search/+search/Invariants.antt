@@ -1,4 +1,4 @@
--- Each `Fin` that is decided leaves fewer of them.
+-- Each substitution for a `Fin` leaves fewer of them in the condition.
 use Rattle.std.proofs.Common.{◌+◌, ◌*◌}
 use Rattle.aut_base.specs.Formula.{formula_tree}
 use Rattle.lasso_emptiness.specs.inner.Judged.{fin_count}

@@ -1,4 +1,4 @@
--- Each part is smaller than the whole; the parts so far have the `Fin` decided.
+-- Each part is smaller than the whole; the substitution is done in the parts so far.
 use Rattle.std.proofs.Common.{◌≡◌, ◌+◌, ◌*◌, ◌++◌, map, drop}
 use Rattle.aut_base.specs.Formula.{formula_tree, formula_list, formula_size, formulas_size, trees}
 use Rattle.lasso_emptiness.specs.inner.Taken.{substituted}

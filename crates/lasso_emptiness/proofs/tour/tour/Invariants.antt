@@ -1,4 +1,4 @@
--- The edges so far are passed, from where the first begins on.
+-- The path so far begins in the state that the first needed edge leaves, and has the needed edges so far.
 use Rattle.std.proofs.Common.{◌<◌, take}
 use Rattle.lasso_emptiness.proofs.trails.Touring.{ToursSoFar}
 use Rattle.lasso_emptiness.proofs.tour.tour.Given as goal

@@ -7,7 +7,7 @@ use Rattle.letter_classes.proofs.form.class_form.Given.{Over}
 use Rattle.letter_classes.proofs.form.class_form.Goals.{After-len}
 use Rattle.letter_classes.proofs.form.class_form.Goals as goal
 
--- the parts as they are handed on
+-- the parts that are passed to `from_parts`
 abbrev core : (g : Over) → After-len g → SymbolicAutomaton
 core g c = record {
   names = c.in_ok-names.names;

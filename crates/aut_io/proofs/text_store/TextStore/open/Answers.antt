@@ -8,7 +8,7 @@ use Rattle.aut_io.specs.Outside.{text_of}
 use Rattle.aut_io.proofs.Texts.{place_text}
 use Rattle.aut_io.proofs.text_store.TextStore.open.Goals as goal
 
--- what the place that was found says of the map of the texts
+-- an index was found exactly where the map of the texts has the name
 found : (c : goal.After-is_some) → (is_some c.place_of-self-inside.result ≡ contains_key (from_entries {R = slice_cmp nat_cmp} (zip c.self.inside.names c.self.inside.texts)) c.args.name.now)
     × (rest_of c.self.inside.texts c.place_of-self-inside.result 0 ≡ text_of (from_entries (zip c.self.inside.names c.self.inside.texts)) c.args.name.now)
 found c = place_text _ _ _ _ (rw (c.as_slice.ensures.items, c.as_slice-2.ensures) at c.place_of-self-inside.ensures)

@@ -1,4 +1,4 @@
--- None of the edges so far is on the side.
+-- None of the edges so far satisfies the literal.
 use Rattle.std.proofs.Common.{◌≡◌, false, take}
 use Rattle.std.specs.List.{All}
 use Rattle.lasso_emptiness.specs.inner.Edges.{marks_of, on_side}
