@@ -1,4 +1,4 @@
--- What is accepted where a name is hidden that may be present or absent in each letter.
+-- The language of an automaton with a name hidden under `Any`.
 use Rattle.std.proofs.Common.{◌≡◌, ◌∙◌, ◌*◌, ◌<◌, ◌≤◌, ℕ, true, List, [], ◌∷◌, ◌++◌, ◌||◌, Bool, Contains, Some, ap, arith, inl, inr, length, map, refl, subst, sym}
 use Rattle.std.proofs.lemmas.Bool.{cases_Bool, or_cases, or_left, or_right}
 use Rattle.std.proofs.lemmas.List.{append-nil, length-map}
@@ -17,7 +17,7 @@ use Rattle.ap_project.specs.Hiding.{AgreeOff, SameBut, SomeSays, hidden_truth, i
 use Rattle.ap_project.specs.Laws.{Forth, HiddenAny, IsHidden}
 use Rattle.ap_project.specs.declared.hide.Hide.TheVariants.{Any}
 
--- a letter that the name was taken from says all of the label that is left
+-- where a label is true at a letter, the hidden label is true at the letter without the name
 holds_without : (name : List ℕ) (names : List (List ℕ)) (l : LabelTree) (x : NameSet) → truth (holds_at names x) l ≡ true → hidden_truth Any name names l (without name x) ≡ true
 holds_without name names l x holds =
     let at : NameSet → Bool = λ z. truth (holds_at names z) l in
@@ -26,13 +26,13 @@ holds_without name names l x holds =
       | inr absent ↦ or_left _ _ (ap at (without_twice name x ∙ absent_itself name x absent) ∙ holds)
     ]
 
--- and says the same of it
+-- and the hidden label has the same truth at the letter with the name and without it
 holds_itself : (name : List ℕ) (names : List (List ℕ)) (l : LabelTree) (x : NameSet) → hidden_truth Any name names l (without name x) ≡ hidden_truth Any name names l x
 holds_itself name names l x =
     let at : NameSet → Bool = λ z. truth (holds_at names z) l in
     (λ i. at (without_twice name x i) || at (including_again name x i))
 
--- words that are the same but for the name, with the name taken away
+-- words that agree off the name spell the same word once the name is taken out
 spells_without : (name : List ℕ) (u v x y : List NameSet) → 0 < length v → 0 < length y → AgreeOff name u v x y
     → SpellsSame (map (without name) x) (map (without name) y) (map (without name) u) (map (without name) v)
 spells_without name u v x y some_v some_y same n =
@@ -73,7 +73,7 @@ module _ (name : List ℕ) (a h : Automaton) (is : IsHidden Any name a h) where
           let same_marks = new.twin.marks ∙ old.twin.marks in
           record { edge = new.edge; there = new.there; twin = record { from = same_from; to = same_to; marks = same_marks }; holds = new.holds }
 
-  -- a path of a over letters that are the same but for the name
+  -- a path of a over letters that agree off the name
   record Chosen (p : ℕ) (xs : List NameSet) (es : List LabelledEdge) (q : ℕ) : Type 0 where
     letters : List NameSet
     way : List LabelledEdge

@@ -1,4 +1,4 @@
--- What is accepted where a name is hidden as absent from each letter, or as present in each.
+-- The language of an automaton with a name hidden under `Absent` or `Present`.
 use Rattle.std.proofs.Common.{◌≡◌, ◌∙◌, ◌↔◌, ℕ, List, Contains, ap, map, refl, subst, sym}
 use Rattle.aut_base.specs.Acceptance.{Accepts}
 use Rattle.aut_base.specs.Automaton.{Automaton}
@@ -10,7 +10,7 @@ use Rattle.ap_project.specs.Laws.{HiddenAbsent, HiddenPresent, IsHidden}
 use Rattle.ap_project.specs.declared.hide.Hide.{Hide}
 use Rattle.ap_project.specs.declared.hide.Hide.TheVariants.{Absent, Present}
 
--- hidden so that a label is asked at one other letter
+-- where the hidden label's truth at x is the label's truth at the one letter f x
 module _ (how : Hide) (f : NameSet → NameSet) (name : List ℕ) (a h : Automaton)
     (asked : (l : LabelTree) (x : NameSet) → hidden_truth how name a.names l x ≡ truth (holds_at a.names (f x)) l) (is : IsHidden how name a h) where
   to_a : Carries (λ x y. f x ≡ y) h a

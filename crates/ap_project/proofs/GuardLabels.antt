@@ -1,4 +1,4 @@
--- Guards with a proposition hidden: what they say, under larger stores and over the other names.
+-- Guards with a proposition hidden: their truth, in stores that have grown and over the other names.
 use Rattle.std.proofs.Common.{◌≡◌, ◌≢◌, ◌∙◌, ◌<◌, ℕ, Bool, true, false, cond, if◌then◌else◌, List, [], AllPairs, Some, ap, arith}
 use Rattle.std.proofs.Common.{inr, suc, zero}
 use Rattle.std.proofs.Common.{length, nat_eq, refl, slice_get, subst, sym}
@@ -43,7 +43,7 @@ hidden_kept {s} {t} first second how prop to g h is = record {
   truth = λ on. kept_truth second h is.has on ∙ (is.truth on ∙ sym (hidden_kept_in first how prop g is.from (λ k. on (slice_index_or to k 0))));
 }
 
--- in a store that had the guard before
+-- from a store that has grown back to the one before, which had the guard
 pub hidden_before : {s more_s : Store} (t : Store) → Keeps s more_s → (how : Hide) (prop : ℕ) (to : List ℕ) (g h : Guard) → Has s g → IsHiddenGuard more_s t how prop to g h
     → IsHiddenGuard s t how prop to g h
 hidden_before t keeps how prop to g h has is = record {
@@ -68,7 +68,7 @@ table_more s t how prop to old new g found put are is = λ q h e. by_cases q h (
         let key : g ≡ q = λ i. record { place = place i } in
         subst (λ (x : Guard). IsHiddenGuard s t how prop to x h) key (subst (IsHiddenGuard s t how prop to g) value is)
 
--- what was hidden in one store and then taken into the other
+-- hidden within one store, and then moved into the other
 pub hidden_moved : {s more t : Store} (how : Hide) (prop : ℕ) (to : List ℕ) (g hidden h : Guard) → Has s g → IsGuardOf more (hidden_in s how prop g) hidden
     → IsGuardOf t (λ on. truth_in more hidden (λ k. on (slice_index_or to k 0))) h → IsHiddenGuard s t how prop to g h
 hidden_moved how prop to g hidden h has first second = record {
@@ -77,7 +77,7 @@ hidden_moved how prop to g hidden h has first second = record {
   truth = λ on. second.truth on ∙ first.truth (λ k. on (slice_index_or to k 0));
 }
 
--- with its only proposition hidden a guard depends on none
+-- with its only proposition hidden a guard is constant
 only_hidden : (s more : Store) (how : Hide) (prop : ℕ) (g hidden : Guard) → s.names ≡ 1 → prop < s.names → IsGuardOf more (hidden_in s how prop g) hidden → (k : ℕ) → IsFreeOf more hidden k
 only_hidden s more how prop g hidden one within is k on = is.truth set ∙ ((λ i. hidden_value how (alike false i) (alike true i)) ∙ sym (is.truth unset))
   where
@@ -93,7 +93,7 @@ only_hidden s more how prop g hidden one within is k on = is.truth set ∙ ((λ 
         let test : nat_eq j prop ≡ true = grind (arith, same) in
         (λ i. if test i then b else set j) ∙ sym (λ i. if test i then b else unset j))
 
--- Each proposition on which it depends has its place among the others, if there are others.
+-- Each proposition on which it depends has its index among the others, if there are others.
 pub hidden_goes_below : (s more : Store) (how : Hide) (prop : ℕ) (to : List ℕ) (g hidden : Guard) (count : ℕ) → prop < s.names → (count ≡ 0 → s.names ≡ 1) → length to ≡ more.names
     → ArePlacesWithin count to
     → IsGuardOf more (hidden_in s how prop g) hidden → GoesBelow count (λ k. slice_index_or to k 0) more hidden

@@ -1,4 +1,4 @@
--- What hiding a name makes of an automaton: its shape, that it is well formed, and what it accepts.
+-- An automaton with a name hidden: its shape, that it is well formed, and its language.
 use Rattle.std.proofs.Common.{◌≡◌, ◌≢◌, ◌∙◌, ℕ, Bool, true, false, List, [], ◌∷◌, All, Contains, Some, ap, arith, get_or}
 use Rattle.std.proofs.Common.{if◌then◌else◌, length, map, refl, slice_get, subst, sym}
 use Rattle.std.proofs.lemmas.List.Elements.{All-contains, All-map, All-weaker, Contains-get_or}
@@ -87,7 +87,7 @@ same_value Any b = or_same b b refl
 same_value Absent b = refl
 same_value Present b = refl
 
--- A label without the name says the same whatever is said of the name.
+-- The truth of a label that doesn't use the name doesn't depend on the name.
 says_itself : (how : Hide) (name : List ℕ) (names : List (List ℕ)) → is_among names name ≡ false → (t : LabelTree) → AllBelow (length names) t → (x : NameSet)
     → truth (holds_at names x) t ≡ hidden_truth how name names t x
 says_itself how name names lacking t below x = sym ((λ i. hidden_value how (alike (without name x) (but_without name x) i) (alike (including name x) (but_including name x) i))

@@ -1,4 +1,4 @@
--- What a label says at a letter with a name hidden, and the label over the other names that says so.
+-- The truth of a label with a name hidden, and the label over the other names with this truth.
 use Rattle.std.proofs.Common.{◌≡◌, ◌≢◌, ◌∙◌, ◌<◌, ℕ, Bool, false, List, [], AllPairs, Contains, Some, ap, get_or, length, not, slice_get, sym}
 use Rattle.std.proofs.lemmas.List.Elements.{Contains-get_or}
 use Rattle.std.proofs.lemmas.List.Kept.{AllPairs-filter}
@@ -21,7 +21,7 @@ use Rattle.ap_project.specs.declared.hide.Hide.{Hide}
 pub others_differ : (name : List ℕ) (names : List (List ℕ)) → AllPairs (λ p q. p ≢ q) names → AllPairs (λ p q. p ≢ q) (names_without name names)
 others_differ name names differ = AllPairs-filter (λ p q. p ≢ q) (λ q. not (same_text name q)) names differ
 
--- the proposition of a name that is at this place
+-- the proposition of the name of this index
 pub holds_there : (names : List (List ℕ)) (k : ℕ) (q : List ℕ) (x : NameSet) → slice_get names k ≡ Some q → holds_at names x k ≡ contains x q
 holds_there names k q x at = ap (λ o. option_map_or (contains x) o false) at
 

@@ -1,4 +1,4 @@
--- Languages with a name hidden: what automata accept, and languages that say the same.
+-- Languages with a name hidden: those of automata, and those of two languages with the same words.
 use Rattle.std.proofs.Common.{◌<◌, ℕ, List, arith, length, map}
 use Rattle.std.proofs.lemmas.List.{length-map}
 use Rattle.aut_base.specs.Automaton.{Automaton}

@@ -34,7 +34,7 @@ but_without name x q apart = sym (has_without name x q ∙ ap (λ b. not b && se
 pub but_including : (name : List ℕ) (x : NameSet) → SameBut name x (including name x)
 but_including name x q apart = sym (has_including name x q ∙ ap (λ b. b || set.contains x q) (is_other q name apart))
 
--- what a letter says of one name, with another or that one taken out of it or put into it
+-- whether a letter contains a name, after that name or another one is taken out or put in
 pub without_alike : (name : List ℕ) (x y : NameSet) (q : List ℕ) → (q ≢ name → set.contains x q ≡ set.contains y q) → set.contains (without name x) q ≡ set.contains (without name y) q
 without_alike name x y q but = has_without name x q ∙ (by_cases (same_name q name) (set.contains x q) (set.contains y q) (λ differ. but (apart_from q name differ)) ∙ sym (has_without name y q))
   where

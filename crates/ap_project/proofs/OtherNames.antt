@@ -31,7 +31,7 @@ fewer name names =
 pub fewer_so_far : (name : List ℕ) (names others : List (List ℕ)) (k : ℕ) → others ≡ names_without name (take k names) → length others ≤ length names
 fewer_so_far name names others k so_far = omega (arith, ap length so_far, fewer name (take k names), length-take k names)
 
--- with no other name there is the one
+-- where no other name is left, the list has one name
 pub only_name : (names : List (List ℕ)) → AllPairs (λ p q. p ≢ q) names → (prop : ℕ) → prop < length names → length (names_without (name_at names prop) names) ≡ 0 → length names ≡ 1
 only_name names differ zero within none = ⊎_elim at_one (⊎_elim below above) (cases_order (length names) 1)
   where
@@ -50,7 +50,7 @@ only_name names differ (suc p) within none =
     let there = is_left (name_at names (suc p)) names (name_at names 0) (Contains-get_or names 0 [] some) (apart names differ 0 (suc p) (λ e. absurd (omega (arith, e))) some within) in
     absurd (omega (arith, there.1, none))
 
--- without a name that isn't there all are left
+-- taking out a name that isn't in the list changes nothing
 pub all_left : (name : List ℕ) (names : List (List ℕ)) → is_among names name ≡ false → names_without name names ≡ names
 all_left name [] e = refl
 all_left name (q ∷ qs) e =
@@ -58,7 +58,7 @@ all_left name (q ∷ qs) e =
     let rest = all_left name qs (right_of_or (text.same_text name q) (is_among qs name) e) in
     ap (λ b. cond (not b) (q ∷ names_without name qs) (names_without name qs)) first ∙ ap (λ ns. q ∷ ns) rest
 
--- the names so far
+-- the names that are left, after one more turn of the loop
 other_names_up_to_next : (name : List ℕ) (names : List (List ℕ)) (k : ℕ) (x : List ℕ) (is : Bool) → k < length names → x ≡ get_or names k x → text.same_text name x ≡ is
     → names_without name (take (k + 1) names) ≡ names_without name (take k names) ++ cond (not is) (x ∷ []) []
 other_names_up_to_next name names k x is within at e =

@@ -1,4 +1,5 @@
--- An automaton with other labels on the same edges hides a name, where each label is true just where it has to be.
+-- An automaton with other labels on the same edges is one with a name hidden, where each label has the truth of the hidden
+-- one.
 use Rattle.std.proofs.Common.{◌∙◌, Contains, ap, refl, subst, sym}
 use Rattle.aut_base.proofs.lists.Members.{from_map, there_map}
 use Rattle.aut_base.specs.Automaton.{LabelledEdge}

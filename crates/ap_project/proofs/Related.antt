@@ -1,4 +1,5 @@
--- Words whose letters are related place by place, and runs that go over from one word and automaton to another.
+-- Words whose letters are related position by position, and how a run of one automaton over one of them gives a run of
+-- another over the other.
 use Rattle.std.proofs.Common.{◌≡◌, ◌∙◌, ◌+◌, ◌*◌, ◌<◌, ℕ, zero, suc, true, List, [], ◌∷◌, ◌++◌, Contains, Some, ap, arith, length, map, refl, slice_get, subst, sym}
 use Rattle.std.proofs.lemmas.Option.{none-some, same_Some, slice_get-get_or}
 use Rattle.std.specs.FinSet as set
@@ -10,7 +11,7 @@ use Rattle.aut_base.specs.Word.{NameSet, SpellsSame, copies, letter_at}
 use Rattle.aut_base.proofs.words.Turns.{covers, letter_in, more_turns}
 use Rattle.ap_project.specs.Laws.{Forth}
 
--- lists of letters that are as long, and related place by place
+-- lists of letters of the same length, related position by position
 abbrev pub Related : (NameSet → NameSet → Type 0) → List NameSet → List NameSet → Type 0
 Related R [] [] = Unit {0}
 Related R [] (y ∷ ys) = ⊥
@@ -74,7 +75,7 @@ unrolled t k u v some more n =
     let long = ap length e in
     letter_in u v (t + suc n * k) n some (omega (arith, all, long)) ∙ (sym (ap (λ w. slice_get w n) e) ∙ sym (letter_in stem (copies k v) (suc n) n more (omega (arith, all))))
 
--- the edges of one automaton can be gone at a letter where those of another can at one that is related to it
+-- where one automaton has an edge at a letter, the other has one with the same ends and marks at a related letter
 abbrev pub Carries : (NameSet → NameSet → Type 0) → Automaton → Automaton → Type 0
 Carries R a b = (e : LabelledEdge) (x y : NameSet) → R x y → Contains a.edges e → truth (holds_at a.names x) e.label ≡ true → Forth b e y
 

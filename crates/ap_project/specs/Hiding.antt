@@ -1,4 +1,4 @@
--- What hiding the proposition of one name makes of a letter, a label, an automaton and a language.
+-- Hiding of one atomic proposition, in a letter, a label, an automaton and a language.
 use Rattle.std.specs.Prelude.{◌≡◌, ◌≢◌, ◌↔◌, ◌<◌, ◌||◌, ℕ, Bool, not, List, Some, filter, if◌then◌else◌, length, map}
 use Rattle.std.specs.FinSet.{contains, insert, remove}
 use Rattle.aut_base.specs.Acceptance.{Accepts}
@@ -20,7 +20,8 @@ without name x = remove x name
 abbrev pub including : List ℕ → NameSet → NameSet
 including name x = insert x name
 
--- what is true with a proposition hidden, by what is true where it fails and where it holds
+-- the truth with a proposition hidden, from the truth where the proposition is false (`fails`) and where it is true
+-- (`holds`)
 abbrev pub hidden_value : Hide → Bool → Bool → Bool
 hidden_value Any fails holds = fails || holds
 hidden_value Absent fails holds = fails
@@ -34,28 +35,28 @@ hidden_truth how name names t x = hidden_value how (truth (holds_at names (witho
 abbrev pub names_without : List ℕ → List (List ℕ) → List (List ℕ)
 names_without name names = filter (λ other. not (same_text name other)) names
 
--- The canonical label over the other names that is the label with the name hidden: on a valuation it is true exactly
--- where that is at the letter of the valuation.
+-- The label with the name hidden, as a canonical label over the other names: it is true on a valuation exactly where
+-- `hidden_truth` is at the letter of that valuation.
 abbrev pub hidden_label : Hide → List ℕ → List (List ℕ) → LabelTree → LabelTree
 hidden_label how name names t = label_of_truth (length (names_without name names)) (λ v. hidden_truth how name names t (letter_of (names_without name names) v))
 
--- The automaton with the name hidden, which is itself if it doesn't have the name. Else its edges stay, those too whose label
--- becomes `f`, with the same states and marks in order.
+-- The automaton with the name hidden. One that doesn't have the name is unchanged. Else only names and labels change: all
+-- edges stay, in order, those too whose label becomes `f`.
 abbrev pub hidden : Hide → List ℕ → Automaton → Automaton
 hidden how name a =
     if is_among a.names name then record a { names = names_without name a.names; edges = map (λ (e : LabelledEdge). record e { label = hidden_label how name a.names e.label }) a.edges }
     else a
 
--- both letters have the same names, but for this one
+-- both letters have the same names, apart from this one
 abbrev pub SameBut : List ℕ → NameSet → NameSet → Type 0
 SameBut name x y = (other : List ℕ) → other ≢ name → contains x other ≡ contains y other
 
--- The lasso words agree off the name: at each place, their letters have the same other names. Their stems and cycles may
+-- The lasso words agree off the name: at each position, their letters have the same other names. Their stems and cycles may
 -- differ in length.
 abbrev pub AgreeOff : List ℕ → List NameSet → List NameSet → List NameSet → List NameSet → Type 0
 AgreeOff name u v x y = (n : ℕ) (a b : NameSet) → letter_at u v n ≡ Some a → letter_at x y n ≡ Some b → SameBut name a b
 
--- a language says so of some lasso word that agrees with this one off the name
+-- some lasso word of the language agrees with this one off the name
 pub record SomeSays (name : List ℕ) (says : List NameSet → List NameSet → Type 0) (u v : List NameSet) : Type 0 where
   pub stem : List NameSet
   pub cycle : List NameSet
@@ -63,12 +64,13 @@ pub record SomeSays (name : List ℕ) (says : List NameSet → List NameSet → 
   pub same : AgreeOff name u v stem cycle
   pub said : says stem cycle
 
--- The language with the name hidden, where a language says of each lasso word, by its stem and cycle, whether it has it.
+-- The language with the name hidden. A language is given by the statement, of each stem and cycle, that the lasso word is
+-- in it.
 abbrev pub HiddenSays : Hide → List ℕ → (List NameSet → List NameSet → Type 0) → List NameSet → List NameSet → Type 0
 HiddenSays Any name says u v = SomeSays name says u v
 HiddenSays Absent name says u v = says (map (without name) u) (map (without name) v)
 HiddenSays Present name says u v = says (map (including name) u) (map (including name) v)
 
--- h accepts, of the lasso words with a cycle, those of a's language with the name hidden
+-- among the lasso words with a non-empty cycle, h accepts exactly those of a's language with the name hidden
 abbrev pub AcceptsHidden : Hide → List ℕ → Automaton → Automaton → Type 0
 AcceptsHidden how name a h = (u v : List NameSet) → 0 < length v → Accepts h u v ↔ HiddenSays how name (λ x y. Accepts a x y) u v

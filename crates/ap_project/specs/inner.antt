@@ -1,2 +1,2 @@
--- Definitions that only inner functions speak in.
+-- Definitions that only the contracts of private functions use.
 pub mod HiddenGuards

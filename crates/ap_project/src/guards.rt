@@ -1,4 +1,4 @@
-//! Guards with a proposition hidden, over the other propositions.
+//! Hides a proposition in guards; the results are guards over the other propositions.
 
 ghost use Rattle.std.specs.Prelude.{◌≡◌, ◌<◌, ℕ, IfOk, OnOk, length};
 ghost use Rattle.ap_project.specs.inner.HiddenGuards.{AreHidden, ArePlacesWithin, IsHiddenGuard, hidden_in};
@@ -16,12 +16,12 @@ use std::alloc::Global;
 pub(crate) struct Hiding {
     pub(crate) prop: u32,
     pub(crate) how: Hide,
-    /// The place of each proposition among those that are left, and any place for the hidden one.
+    /// The new index of each proposition among those that remain; for the hidden one any index.
     pub(crate) to: Numbers,
 }
 
-/// The guard of the store over the other propositions that is this one with the proposition hidden. Each guard is worked out
-/// once.
+/// Hides the proposition in the guard `g` of `given`. The result is a guard of `made`, the store over the other
+/// propositions; it is kept in `done`, so each guard is computed once.
 pub(crate) fn hidden_guard(
     alloc: Global,
     hiding: &Hiding,
@@ -50,7 +50,7 @@ pub(crate) fn hidden_guard(
     Ok(found)
 }
 
-/// The guard of the same store with the proposition hidden.
+/// Hides the proposition in a guard, within one store over all propositions.
 fn hide(alloc: Global, store: &mut Guards, g: Guard, prop: u32, how: Hide) -> Result<Guard, Memory>
     requires has { Has store.old g }
     requires within { prop < store.old.names }
@@ -64,7 +64,7 @@ fn hide(alloc: Global, store: &mut Guards, g: Guard, prop: u32, how: Hide) -> Re
     }
 }
 
-/// The guard of the same store that is true where this one is with the proposition set either way.
+/// Existential quantification: the guard that is true where `g` is true with the proposition false or with it true.
 fn either(alloc: Global, store: &mut Guards, g: Guard, prop: u32) -> Result<Guard, Memory>
     requires has { Has store.old g }
     requires within { prop < store.old.names }

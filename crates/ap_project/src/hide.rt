@@ -1,9 +1,9 @@
 //! How a name is hidden.
 
-/// What is said of a name that is hidden.
+/// How a name is hidden: where a letter is taken to contain it.
 #[derive(Clone, Copy, Debug, PartialEq, Eq)]
 pub enum Hide {
-    /// At each letter it may be absent or present.
+    /// At each letter it may be absent or present (existential quantification).
     Any,
     /// It is absent from each letter.
     Absent,

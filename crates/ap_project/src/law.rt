@@ -1,4 +1,4 @@
-//! What is accepted with a name hidden.
+//! Laws: the language of an automaton with a name hidden.
 
 ghost use Rattle.std.specs.Prelude.{ℕ, List};
 ghost use Rattle.ap_project.specs.Hiding.{HiddenSays};
@@ -6,39 +6,42 @@ ghost use Rattle.ap_project.specs.Laws.{HiddenAbsent, HiddenAccepts, HiddenAny, 
 ghost use Rattle.ap_project.specs.declared.hide.Hide.{Hide};
 ghost use Rattle.aut_base.specs.Word.{NameSet};
 
-/// With a name hidden that may be absent or present at each letter, just the words are accepted that agree off the name with
-/// an accepted one.
+/// With a name hidden under `Any`, a lasso word is accepted exactly where the original automaton accepts some lasso word
+/// that agrees with it on all other names.
 pub fn hidden_any()
     ensures { HiddenAny }
 {}
 
-/// With a name hidden as absent, just the words are accepted that are accepted with the name taken out of each letter.
+/// With a name hidden under `Absent`, a word is accepted exactly where the original automaton accepts it with the name
+/// taken out of each letter.
 pub fn hidden_absent()
     ensures { HiddenAbsent }
 {}
 
-/// With a name hidden as present, just the words are accepted that are accepted with the name put into each letter.
+/// With a name hidden under `Present`, a word is accepted exactly where the original automaton accepts it with the name put
+/// into each letter.
 pub fn hidden_present()
     ensures { HiddenPresent }
 {}
 
-/// An automaton with other labels on the same edges hides a name, where each of them is true just where it has to be.
+/// An automaton with other labels on the same edges is the original with a name hidden, where each label is true exactly
+/// where the original label with the name hidden is.
 pub fn relabelled_is_hidden()
     ensures { RelabelledIsHidden }
 {}
 
-/// What hiding makes of a well-formed automaton accepts what hiding makes of its language.
+/// `hidden` of a well-formed automaton accepts the language of that automaton with the name hidden.
 pub fn hidden_accepts()
     ensures { HiddenAccepts }
 {}
 
 // Why so: 'What is hidden is a language, not an automaton' in docs/DECISIONS.md.
-/// A language says of each lasso word, by its stem and cycle, whether it has it.
+/// A language of lasso words: of each stem and cycle, the statement that the word is in it.
 pub trait Language {
     ghost says: { List NameSet → List NameSet → Type 0 };
 }
 
-/// Languages that say the same of each lasso word with a cycle say the same once a name is hidden.
+/// Two languages with the same lasso words of non-empty cycle still have the same ones after a name is hidden.
 pub fn same_language_same_hidden<L: Language, M: Language>()
     ensures { (how : Hide) (name : List ℕ) → SayTheSame L.says M.says → SayTheSame (HiddenSays how name L.says) (HiddenSays how name M.says) }
 {}

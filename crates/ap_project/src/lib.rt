@@ -1,7 +1,7 @@
-//! Automata with the proposition of one name hidden.
+//! Hiding of one atomic proposition of an automaton: existential quantification, or a fixed truth.
 //!
-//! A caller sees `remove_ap`, how a name is hidden, and laws. What hiding makes of an automaton and of its language is
-//! defined in `specs/Hiding`.
+//! A caller sees `remove_ap`, `Hide` (how the proposition is hidden), and laws. What hiding makes of an automaton and of
+//! its language is defined in `specs/Hiding`.
 #![tactic(auto)]
 
 mod guards;

@@ -31,7 +31,7 @@ pub fn remove_ap(alloc: Global, a: &Automaton, name: &Text, how: Hide) -> Result
     without_name(alloc, a, name, how)
 }
 
-/// The same, of its shape alone.
+/// As `remove_ap`, with the exact automaton as its only promise.
 fn without_name(alloc: Global, a: &Automaton, name: &Text, how: Hide) -> Result<Automaton, Memory>
     ensures { IfOk result (λ made. automaton_of made ≡ hidden how name.now (automaton_of a.now)) }
 {
@@ -42,7 +42,7 @@ fn without_name(alloc: Global, a: &Automaton, name: &Text, how: Hide) -> Result<
     }
 }
 
-/// The automaton with a name hidden that it has at this place.
+/// Hides the name, which is that of the proposition `prop` of the automaton.
 fn without_prop(
     alloc: Global,
     a: &Automaton,
@@ -88,7 +88,7 @@ fn other_names(alloc: Global, names: &Names, name: &Text) -> Result<Names, Memor
     Ok(others)
 }
 
-/// The place of each name among the others, and 0 for one that isn't there.
+/// The index of each name in `others`, and 0 for a name that isn't in it.
 fn places_among(alloc: Global, names: &Names, others: &Names) -> Result<Numbers, Memory>
     requires { length others.now ≤ MOST_NAMES }
     ensures { IfOk result (ArePlacesOfNames names.now others.now) }
@@ -100,7 +100,7 @@ fn places_among(alloc: Global, names: &Names, others: &Names) -> Result<Numbers,
     Ok(to)
 }
 
-/// The place of a name, or 0 if it isn't there.
+/// The index of a name in the list, or 0 if it isn't in it.
 fn place_among(others: &Names, name: &Text) -> u32
     requires { length others.now ≤ MOST_NAMES }
     ensures within { 0 < length others.now → result < length others.now }
@@ -109,7 +109,7 @@ fn place_among(others: &Names, name: &Text) -> u32
     others.position(name).unwrap_or(0)
 }
 
-/// The links with guards of another store, over the names without the hidden one.
+/// The edges with the proposition hidden in their labels; their guards are of the store `guards`, over the other names.
 fn hidden_links(
     alloc: Global,
     a: &Automaton,

@@ -1,4 +1,4 @@
-//! A table of the guards that were found, by the guards that they are made of.
+//! The guards that were hidden already, by the original guard.
 
 ghost use Rattle.std.specs.Prelude.{◌≡◌, IfSome, OnErr, OnOk, Some};
 ghost use Rattle.std.specs.Map.{lookup};
@@ -8,10 +8,10 @@ use aut_base::Memory;
 use indexmap::IndexMap;
 use label_guards::Guard;
 
-/// A guard with the proposition hidden, by the guard of the automaton's store.
+/// From a guard of the automaton's store to that guard with the proposition hidden.
 pub(crate) type Done = IndexMap<Guard, Guard>;
 
-/// What was found for this guard, if it is there.
+/// The result for this guard, if it was computed already.
 pub(crate) fn done_at(done: &Done, g: Guard) -> Option<Guard>
     ensures { IfSome result (λ found. lookup (same_guard g) done.now.entries ≡ Some found) }
 {
@@ -21,7 +21,7 @@ pub(crate) fn done_at(done: &Done, g: Guard) -> Option<Guard>
     }
 }
 
-/// Puts what was found into the table.
+/// Adds the result for this guard to the table.
 pub(crate) fn put_done(done: &mut Done, g: Guard, found: Guard) -> Result<(), Memory>
     ensures { OnOk result (IsGuardInserted done.old.entries done.new.entries g found) }
 {

@@ -47,7 +47,7 @@ buchi_accepts_the_same a formed = elim (cases_Bool (is_generalised_buchi a.formu
       (copies_accept_the_same a formed (most_levels (copy_watches a.formula)) (has_room a.states (copy_watches a.formula)))
 ]
 
--- as many copies as watches
+-- there are as many copies as entries in the list of what they wait for
 pub copies_as_watches : (a : Automaton) → is_generalised_buchi a.formula ≡ false → (copied a).states ≡ a.states * length (watches a.formula)
 copies_as_watches a e =
     let ts = terms a.formula in

@@ -27,7 +27,7 @@ use Rattle.degeneralise.proofs.GeneralisedLaw.{begins}
 use Rattle.degeneralise.proofs.LevelledLaw.{PassesAll, levelled_accepts_the_same}
 use Rattle.degeneralise.proofs.WatchLists.{watch_copy, watch_first}
 
--- a cycle with all sets of a copy passes all of its literals, and the other way round
+-- a cycle has all sets of a copy exactly where it meets all literals that the copy waits for
 sets_passed : (copy : TermCopy) (es : List LabelledEdge) → 0 < length es → ((set : ℕ) → Owns copy set → list_any (is_in set) (marks_of es) ≡ true) → PassesAll (owned copy) es
 sets_passed copy es some carried level within =
     passes_each (owned copy) (marks_of es) (omega (arith, some, length-map es (λ (e : LabelledEdge). e.marks))) (λ l there.

@@ -23,7 +23,7 @@ use Rattle.degeneralise.specs.Buchi.{Watch, inf_literals, is_generalised_buchi, 
 use Rattle.degeneralise.proofs.LevelledLaw.{PassesAll, levelled_accepts_the_same}
 use Rattle.degeneralise.proofs.WatchLists.{watch_first}
 
--- the truth of a condition, by the parts that it gives to a conjunction
+-- the truth of a condition, by its conjuncts
 all-listed : (cycle : List (List ℕ)) (fs : FormulaTrees) → list_all (met cycle) (parts_list fs) ≡ all_met cycle fs
 all-listed cycle none = refl
 all-listed cycle (more f fs) = ap (λ b. met cycle f && b) (all-listed cycle fs)

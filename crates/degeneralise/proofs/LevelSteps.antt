@@ -1,4 +1,4 @@
--- Edges between levels that are added one by one, and the parts of the automaton that is made of them.
+-- The loops that add edges level by level, and the parts of the automaton that is made of them.
 use Rattle.std.proofs.Common.{◌≡◌, ◌∙◌, ◌+◌, ◌*◌, ◌<◌, ◌≤◌, ℕ, false, List, ◌∷◌, ◌++◌, All, ap, arith, flat_map, length, map, subst, sym}
 use Rattle.std.specs.List.{range_with_len}
 use Rattle.aut_base.proofs.lists.Lists.{flat_map-range_more}

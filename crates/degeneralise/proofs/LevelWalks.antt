@@ -25,7 +25,7 @@ abbrev pub end_level : (ℕ → Watch) → ℕ → List LabelledEdge → ℕ
 end_level watch level [] = level
 end_level watch level (e ∷ es) = end_level watch (level_after (watch e.from) level e.marks) es
 
--- there is room for the levels, and what waits for literals waits for them for ever
+-- no state has more than k levels, and where a state waits for literals, its successors wait for the same ones
 pub record HasRoom (k : ℕ) (watch : ℕ → Watch) (a : Automaton) : Type 0 where
   pub formed : IsWellFormed a
   pub room : (state : ℕ) → levels (watch state) ≤ k
@@ -126,7 +126,7 @@ module _ (k : ℕ) (watch : ℕ → Watch) (a : Automaton) (has : HasRoom k watc
       (λ later. marked_waits e.to q (level_after (watch e.from) level e.marks) xs es path.3 later)
       (or_cases (is_in 0 (marks_at_level (watch e.from) level e.marks)) (list_any (is_in 0) (marks_of (walk k watch (level_after (watch e.from) level e.marks) es))) some)
 
--- Where all edges leave states that wait for the same, levels are as in `turn`.
+-- Where all edges leave states that wait for the same literals, the levels are those of `turn`.
 pub end_is_turn : (watch : ℕ → Watch) (ls : List Literal) (level : ℕ) (es : List LabelledEdge) → ((e : LabelledEdge) → Contains es e → watch e.from ≡ Some ls)
     → end_level watch level es ≡ turn ls level es
 end_is_turn watch ls level [] waits = refl

@@ -1,4 +1,4 @@
--- The edges between levels, and where each comes from.
+-- The edges of the automaton with counters, and the edge and level that each comes from.
 use Rattle.std.proofs.Common.{◌≡◌, ◌∙◌, ◌<◌, ◌==◌, ℕ, Contains, ap, arith, map, refl}
 use Rattle.std.specs.List.{range_with_len}
 use Rattle.std.proofs.lemmas.Bool.{eq-eqb, eqb-true}

@@ -1,4 +1,5 @@
--- An automaton accepts the same lasso words by levels, where its condition asks of a cycle what the cycle's states wait for.
+-- With counters an automaton accepts the same lasso words, where its condition asks of a cycle what the cycle's states wait
+-- for.
 use Rattle.std.proofs.Common.{◌≡◌, ◌∙◌, ◌↔◌, ◌+◌, ◌-◌, ◌*◌, ◌<◌, ℕ, suc, true, None, Some, List, [], ◌∷◌, ◌++◌, ap, arith, length, refl, subst, sym, inl, inr}
 use Rattle.std.specs.List.{list_any}
 use Rattle.std.proofs.lemmas.Bool.{cases_Bool, false≢true}

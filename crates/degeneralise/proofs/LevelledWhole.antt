@@ -1,4 +1,4 @@
--- A well-formed automaton stays so by levels.
+-- A well-formed automaton is well formed with counters too.
 use Rattle.std.proofs.Common.{◌≡◌, ◌≢◌, ◌∙◌, ◌+◌, ◌*◌, ◌<◌, ◌≤◌, ◌==◌, ℕ, None, Some, List, [], ◌∷◌, All, AllPairs, Contains, ap, arith, get_or, map, subst, sym}
 use Rattle.std.proofs.lemmas.Bool.{cond_both, eqb-true}
 use Rattle.std.proofs.lemmas.List.{append-nil, get_or-map, length-map}
@@ -14,7 +14,7 @@ use Rattle.degeneralise.proofs.LevelWalks.{some_level}
 use Rattle.degeneralise.proofs.LevelledEdges.{comes_from}
 use Rattle.degeneralise.proofs.Turns.{turn_below}
 
--- the state is one of those with room for k levels
+-- the number of a state at a level is below the number of states with counters
 state_below : (n k state level : ℕ) → state < n → level < k → state_at k state level < n * k
 state_below n k state level within below = omega (arith, mul-add-lt state k level n within below)
 

@@ -21,7 +21,8 @@ marked ls level (e ∷ es) = is_in 0 (marks_at_level (Some ls) level e.marks) ||
 abbrev pub met_on : List Literal → ℕ → List LabelledEdge → Bool
 met_on ls level es = list_any (λ (e : LabelledEdge). meets_at ls level e.marks) es
 
--- What an edge does at a level: it leaves it, or leads to the next, or from the last to the first with the mark.
+-- What an edge does at a level: it leaves the level as it is, leads to the next one, or leads from the last to the first
+-- with the mark.
 waits_after : (ls : List Literal) (level : ℕ) (marks : List ℕ) → meets_at ls level marks ≡ false → level_after (Some ls) level marks ≡ level
 waits_after ls level marks e = ap (λ b. cond b (cond (level + 1 == literal_places ls) 0 (level + 1)) level) e
 
@@ -53,7 +54,7 @@ pub turn_then : (ls : List Literal) (level : ℕ) (es fs : List LabelledEdge) �
 turn_then ls level [] fs = refl
 turn_then ls level (e ∷ es) fs = turn_then ls (level_after (Some ls) level e.marks) es fs
 
--- one edge less
+-- the level after a list of edges, from that after its first edge
 rest_of : (ls : List Literal) (level next : ℕ) (e : LabelledEdge) (es : List LabelledEdge) → level_after (Some ls) level e.marks ≡ next → turn ls level (e ∷ es) ≡ turn ls next es
 rest_of ls level next e es is = ap (λ l. turn ls l es) is
 
@@ -113,7 +114,7 @@ stuck ls level j (e ∷ es) within low none =
     not_here : (level j : ℕ) → level ≤ j → (level ≡ j → ⊥) → level < j
     not_here level j low other = elim (cases_eq level j) [ inl e ↦ absurd (other e) | inr f ↦ omega (arith, low, f) ]
 
--- From above such a level, a mark leads below it or to it.
+-- From a level above one whose literal is not met, edges with a mark lead to that one or below it.
 pub falls : (ls : List Literal) (level j : ℕ) (es : List LabelledEdge) → level < literal_places ls → j < level → met_on ls j es ≡ false → marked ls level es ≡ true → turn ls level es ≤ j
 falls ls level j [] within high none some = absurd (false≢true some)
 falls ls level j (e ∷ es) within high none some =

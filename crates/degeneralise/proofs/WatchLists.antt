@@ -1,4 +1,4 @@
--- What states wait for, by the list of the copies' watches.
+-- What states wait for, by the list of what the copies wait for.
 use Rattle.std.proofs.Common.{◌≡◌, ◌∙◌, ◌+◌, ◌*◌, ◌/◌, ◌<◌, ◌≤◌, ℕ, zero, suc, max, None, Some, List, [], ◌∷◌, All, Contains, ap, arith, map, slice_get, sym}
 use Rattle.std.specs.List.{fold}
 use Rattle.std.specs.Option.{option_and_then, option_map}
@@ -25,7 +25,7 @@ room_in ws = each_there (λ watch. levels watch ≤ most_levels ws) ws (λ w the
 pub some_room : (ws : List Watch) → 0 < most_levels ws
 some_room ws = omega (arith, most_from 1 ws)
 
--- what stands in the list, or nothing
+-- an entry of the list has at most k levels, and so has one past its end
 levels_at : (k : ℕ) (ws : List Watch) → 0 < k → All (λ watch. levels watch ≤ k) ws → (i : ℕ) → levels (option_and_then (λ watch. watch) (slice_get ws i)) ≤ k
 levels_at k [] some all i = omega (arith, some)
 levels_at k (w ∷ ws) some all zero = all zero w (omega arith)
@@ -41,7 +41,7 @@ watch_first n q w ws below =
     let at : q / n ≡ 0 = ap (λ m. m / n) (sym z) ∙ div-mul-add 0 n q below in
     ap (λ i. option_and_then (λ (v : Watch). v) (slice_get (w ∷ ws) i)) at
 
--- where a copy stands
+-- the index of a copy in the list
 record Placed (number : ℕ) (copies : List TermCopy) (copy : TermCopy) : Type 0 where
   place : ℕ
   is_number : copy.number ≡ number + place

@@ -1,5 +1,6 @@
--- The Büchi form of an automaton, by levels: a run waits on a level for an edge that meets the level's literal, moves to
--- the next one, and from the last one back to the first. That last step carries the mark.
+-- The Büchi form of an automaton, by degeneralisation with a counter at each state, its level. A run waits on a level for
+-- an edge that meets the level's literal, moves on to the next level, and from the last one back to the first. That last
+-- step carries the mark.
 use Rattle.std.specs.Prelude.{◌≡◌, ℕ, ◌+◌, ◌*◌, ◌/◌, ◌<◌, ◌==◌, max, Bool, true, false, if◌then◌else◌, Option, None, Some, List, [], ◌∷◌, length, map, flat_map, slice_get}
 use Rattle.std.specs.List.{fold, list_all, range_with_len}
 use Rattle.std.specs.Option.{option_and_then}
@@ -14,7 +15,7 @@ use Rattle.aut_base.specs.declared.limit.TheConstants.{MOST_TERMS}
 use Rattle.fin_removal.specs.Copies.{copied, owned_sets}
 use Rattle.fin_removal.specs.Meeting.{meets_at, literal_places}
 
--- What a state waits for: each of these literals in turn, or never anything.
+-- What a state waits for: each of these literals in turn, or nothing.
 abbrev pub Watch : Type 0
 Watch = Option (List Literal)
 
@@ -23,12 +24,12 @@ abbrev pub levels : Watch → ℕ
 levels None = 1
 levels (Some literals) = literal_places literals
 
--- whether the edge with these marks meets the level, which it never does where nothing is waited for
+-- whether an edge with these marks meets the literal of the level; where nothing is waited for, none does
 abbrev pub meets_level : Watch → ℕ → List ℕ → Bool
 meets_level None level marks = false
 meets_level (Some literals) level marks = meets_at literals level marks
 
--- the level after an edge that meets it: the next one, and after the last one the first
+-- the level after an edge that meets the level's literal: the next one, and after the last one the first
 abbrev pub next_level : Watch → ℕ → ℕ
 next_level watch level = if level + 1 == levels watch then 0 else level + 1
 
@@ -36,15 +37,15 @@ next_level watch level = if level + 1 == levels watch then 0 else level + 1
 abbrev pub level_after : Watch → ℕ → List ℕ → ℕ
 level_after watch level marks = if meets_level watch level marks then next_level watch level else level
 
--- the mark of the edge at this level: only the one that meets the last level has it
+-- the marks of an edge at this level: set 0 where it meets the literal of the last level, else none
 abbrev pub marks_at_level : Watch → ℕ → List ℕ → List ℕ
 marks_at_level watch level marks = if meets_level watch level marks then (if level + 1 == levels watch then 0 ∷ [] else []) else []
 
--- the state at this level, where there is room for k levels
+-- the number of this state at this level, where each state has k numbers
 abbrev pub state_at : ℕ → ℕ → ℕ → ℕ
 state_at k state level = state * k + level
 
--- the edge as it leaves this level
+-- the edge from its source at this level
 abbrev pub edge_at_level : ℕ → Watch → ℕ → LabelledEdge → LabelledEdge
 edge_at_level k watch level e = record { from = state_at k e.from level; label = e.label; to = state_at k e.to (level_after watch level e.marks); marks = marks_at_level watch level e.marks }
 
@@ -52,7 +53,7 @@ edge_at_level k watch level e = record { from = state_at k e.from level; label =
 abbrev pub level_edges : ℕ → List LabelledEdge → Watch → List LabelledEdge
 level_edges k edges watch = flat_map (λ level. map (edge_at_level k watch level) edges) (range_with_len 0 (levels watch))
 
--- the automaton with room for k levels at each state, where `watch` says what a state waits for
+-- the automaton with a counter of k levels at each state, where `watch` says what a state waits for
 abbrev pub with_counters : ℕ → (ℕ → Watch) → Automaton → Automaton
 with_counters k watch a = record {
   names = a.names;
@@ -96,7 +97,7 @@ buchi a = with_counters (most_levels (watches a.formula)) (watch_of a.states (wa
 abbrev pub buchi_states : Automaton → ℕ
 buchi_states a = a.states * length (watches a.formula) * most_levels (watches a.formula)
 
--- the condition has to be listed by its terms, and they are too many
+-- the condition isn't generalised Büchi, so that its terms are needed, and they are too many
 pub record NeedsTooManyTerms (f : FormulaTree) : Type 0 where
   pub needed : is_generalised_buchi f ≡ false
   pub many : MOST_TERMS < count (terms f)

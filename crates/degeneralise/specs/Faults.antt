@@ -1,4 +1,4 @@
--- What a fault of conditions is to the Büchi form.
+-- The faults of listing terms, as faults of the Büchi form.
 use Rattle.std.specs.Prelude.{◌≡◌}
 use Rattle.acc_forms.specs.declared.fault.FormFault.{FormFault}
 use Rattle.acc_forms.specs.declared.fault.FormFault.TheVariants as form

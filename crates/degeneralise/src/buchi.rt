@@ -43,7 +43,7 @@ pub fn to_buchi(alloc: Global, a: &Automaton) -> Result<Automaton, BuchiFault>
     Ok(made)
 }
 
-/// The same, where what each copy waits for is at hand, and the number of levels.
+/// As `to_buchi`, given what each copy waits for and the greatest number of levels, within the limit on states.
 fn buchi_by(
     alloc: Global,
     a: &Automaton,
@@ -64,7 +64,7 @@ fn buchi_by(
     Ok(put_on_levels(alloc, &copied, a.states(), listed, k)?)
 }
 
-/// Whether this many copies of this many states and levels are few enough.
+/// Whether so many copies of so many states, with so many levels each, have at most `MOST_BUCHI_STATES` states.
 fn are_few(states: u32, copies: usize, levels: usize) -> bool
     ensures { IsTrue result ↔ (states * copies * levels ≤ MOST_BUCHI_STATES) }
 {
@@ -74,7 +74,7 @@ fn are_few(states: u32, copies: usize, levels: usize) -> bool
         <= u128::from(MOST_BUCHI_STATES)
 }
 
-/// The automaton with room for k levels at each state.
+/// The automaton with a counter of k levels at each state, where each copy has `states` states.
 fn put_on_levels(
     alloc: Global,
     a: &Automaton,

@@ -11,7 +11,7 @@ use acc_forms::{Literal, Literals};
 use aut_base::{Formula, Formulas, Memory};
 use std::alloc::Global;
 
-/// Whether the condition is one. Takes no memory.
+/// Whether the condition is generalised Büchi. Takes no memory.
 pub(crate) fn is_generalised_buchi(formula: &Formula) -> bool
     ensures { result ≡ is_generalised_buchi (formula_tree formula.now) }
 {
@@ -45,7 +45,7 @@ fn is_inf(formula: &Formula) -> bool
     }
 }
 
-/// The literals of its parts.
+/// The literals of the Infs among the conjuncts.
 pub(crate) fn inf_literals(alloc: Global, formula: &Formula) -> Result<Literals, Memory>
     ensures { IfOk result (λ found. found ≡ flat_map inf_literals (conjuncts (formula_tree formula.now))) }
 {
@@ -76,7 +76,7 @@ fn literals_of(alloc: Global, parts: &Formulas) -> Result<Literals, Memory>
     Ok(found)
 }
 
-/// Adds the literal of an Inf.
+/// Adds the literal of the condition where it is an Inf.
 #[tactic(auto, using(aut_base::proofs::trees::FormulaTrees::formula_trees))]
 fn push_inf(found: &mut Literals, formula: &Formula) -> Result<(), Memory>
     ensures { OnOk result (found.new ≡ found.old ++ inf_literals (formula_tree formula.now)) }

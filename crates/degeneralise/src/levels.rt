@@ -18,7 +18,7 @@ pub(crate) fn levels(watch: &Watch) -> usize
     }
 }
 
-/// Whether an edge with these marks meets the level.
+/// Whether an edge with these marks meets the literal of the level.
 fn meets_level(watch: &Watch, level: usize, marks: &Marks) -> bool
     ensures { result ≡ meets_level watch.now level marks.now }
 {
@@ -43,7 +43,8 @@ pub(crate) fn level_after(watch: &Watch, level: usize, marks: &Marks) -> usize
     }
 }
 
-/// The mark of such an edge.
+/// The marks of an edge at this level, which had these marks: set 0 where it meets the literal of the last level, else
+/// none.
 pub(crate) fn marks_at(
     alloc: Global,
     watch: &Watch,

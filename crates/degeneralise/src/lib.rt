@@ -1,6 +1,6 @@
 //! The Büchi form of an automaton: one acceptance set, which an accepting run is in again and again.
 //!
-//! A caller sees `to_buchi` and the limit on its states. The construction is defined in `specs/Buchi`.
+//! A caller sees `to_buchi` and why it may refuse. The construction is defined in `specs/Buchi`.
 #![tactic(auto)]
 
 mod buchi;

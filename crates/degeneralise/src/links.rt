@@ -1,4 +1,4 @@
-//! The edges between levels.
+//! The edges of the automaton with counters.
 
 ghost use Rattle.std.specs.Prelude.{◌≡◌, ◌*◌, ◌+◌, ◌<◌, ◌≤◌, ◌^◌, All, IfOk, OnOk, flat_map, length, map};
 ghost use Rattle.std.specs.List.{range_with_len};
@@ -15,7 +15,7 @@ use aut_base::{Memory, Numbers};
 use aut_core::{Automaton, Link, Links};
 use std::alloc::Global;
 
-/// The edges of the automaton with room for k levels at each state, where each copy has `states` states.
+/// The edges of the automaton with a counter of k levels at each state, where each copy has `states` states.
 pub(crate) fn levelled_links(
     alloc: Global,
     a: &Automaton,
@@ -88,7 +88,7 @@ fn push_level(
     Ok(())
 }
 
-/// The edge as it leaves this level.
+/// The edge from its source at this level.
 fn link_at(
     alloc: Global,
     link: &Link,
@@ -114,7 +114,7 @@ fn link_at(
     })
 }
 
-/// The starts, on their first levels.
+/// The starts at level 0.
 pub(crate) fn first_levels(alloc: Global, starts: &Numbers, k: usize) -> Result<Numbers, Memory>
     requires { All (λ start. start * k < 2 ^ 32) starts.now }
     ensures { IfOk result (λ found. found ≡ map (λ start. state_at k start 0) starts.now) }

@@ -13,14 +13,14 @@ use aut_base::{Formula, Memory, Seq};
 use fin_removal::owned_sets;
 use std::alloc::Global;
 
-/// Literals to be met in turn, or never anything.
+/// The literals that a state waits for in turn, or `None` where it waits for nothing.
 pub(crate) type Watch = Option<Literals>;
 
-/// One for each copy.
+/// What the states of each copy wait for.
 pub(crate) type Watches = Seq<Watch>;
 
-/// What the states of each copy of an automaton with this condition wait for. Refused as `Terms` where copies are needed
-/// and the terms are too many.
+/// Lists what the states of each copy of an automaton with this condition wait for. Refused as `Terms` where copies are
+/// needed and the terms are too many.
 pub(crate) fn watches(alloc: Global, formula: &Formula) -> Result<Watches, BuchiFault>
     ensures made { IfOk result (λ found. found ≡ watches (formula_tree formula.now)) }
     ensures passed { NeedsTooManyTerms (formula_tree formula.now) → result ≡ Err BuchiFault.Terms }
@@ -36,7 +36,7 @@ pub(crate) fn watches(alloc: Global, formula: &Formula) -> Result<Watches, Buchi
     Ok(copy_watches(alloc, owned)?)
 }
 
-/// The watch of an automaton that needs no copies.
+/// The list for an automaton that needs no copies.
 fn one_watch(alloc: Global, literals: Literals) -> Result<Watches, Memory>
     ensures { IfOk result (λ found. found ≡ Some literals ∷ []) }
 {
@@ -45,7 +45,7 @@ fn one_watch(alloc: Global, literals: Literals) -> Result<Watches, Memory>
     Ok(found)
 }
 
-/// The watches of the main copy, and of the others by their sets.
+/// The list for an automaton with copies: the main copy waits for nothing, each other one for its sets.
 fn copy_watches(alloc: Global, owned: Terms) -> Result<Watches, Memory>
     ensures { IfOk result (λ found. found ≡ None ∷ map (λ sets. Some sets) owned) }
 {

@@ -1,4 +1,4 @@
--- What two plans have alike that both have what the options give.
+-- Two plans with what the options give have the same in each field.
 use Rattle.std.proofs.Common.{◌≡◌, ◌∙◌, ℕ, List, [], ◌∷◌, Option, Some, None, ap, refl, sym}
 use Rattle.std.specs.Prelude.{◌↔◌, ⊤, is_some}
 use Rattle.clap.specs.Words.{Row}
@@ -11,7 +11,7 @@ use Rattle.filter_plan.specs.Spans.{IsRange}
 use Rattle.filter_plan.specs.Table.{EachGives, File, Flag, Format, FormFlag, Gives, Hiding, IsFile, IsPattern, MadeCount, Number, Place, ReadsOption, Span, Stream, Word, table, values_of}
 use Rattle.filter_plan.specs.declared.plan.Plan.{Plan}
 
--- what can be read in one way is
+-- where each text is read in at most one way, two readings of an option's values are equal
 same_value : {X : Type 0} (IsRead : List ℕ → X → Type 0) → ((t : List ℕ) (x y : X) → IsRead t x → IsRead t y → x ≡ y) → (values : List (List ℕ)) (x y : Option X) → ReadsOption IsRead values x
     → ReadsOption IsRead values y → x ≡ y
 same_value IsRead one [] None None h k = refl
@@ -23,7 +23,7 @@ same_value IsRead one (v ∷ []) (Some x) (Some y) h k = ap Some (one v x y h k)
 same_value IsRead one (v ∷ w ∷ ws) None y h k = absurd h
 same_value IsRead one (v ∷ w ∷ ws) (Some x) y h k = absurd h
 
--- whether there is a value
+-- two readings of an option's values both have a value, or both have none
 same_presence : {X : Type 0} (IsRead : List ℕ → X → Type 0) (values : List (List ℕ)) (x y : Option X) → ReadsOption IsRead values x → ReadsOption IsRead values y → is_some x ≡ is_some y
 same_presence IsRead [] None None h k = refl
 same_presence IsRead [] None (Some y) h k = absurd k
@@ -34,7 +34,7 @@ same_presence IsRead (v ∷ []) (Some x) (Some y) h k = refl
 same_presence IsRead (v ∷ w ∷ ws) None y h k = absurd h
 same_presence IsRead (v ∷ w ∷ ws) (Some x) y h k = absurd h
 
--- the same stands in this place; of patterns, whether there is one
+-- the plans have the same in this field; of patterns, whether there is one
 abbrev pub IsAlike : Place → Plan → Plan → Type 0
 IsAlike (Flag at) p q = at p ≡ at q
 IsAlike (FormFlag form) p q = (p.form ≡ form) ↔ (q.form ≡ form)

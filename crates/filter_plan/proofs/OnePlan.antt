@@ -89,7 +89,7 @@ same_but_patterns rows p q h k =
       made = made t;
     }
 
--- the rules between options say nothing of patterns
+-- the rules between options don't depend on patterns
 pub rules_pass_on : (rows : List Row) (p q : Plan) → IsGiven rows p → IsGiven rows q → KeepsRules p → KeepsRules q
 rules_pass_on rows p q h k rules =
     let kept = subst KeepsRules (same_but_patterns rows p q h k) rules in

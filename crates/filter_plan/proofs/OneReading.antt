@@ -31,7 +31,7 @@ same_number t n m h k = sym h.1 ∙ k.1
 
 -- ---- ranges
 
--- digits end where a dot stands
+-- the digits before a dot are determined
 same_digits : (a c x y : List ℕ) → AllDigits 10 a → AllDigits 10 c → a ++ 46 ∷ x ≡ c ++ 46 ∷ y → (a ≡ c) × (x ≡ y)
 same_digits [] [] x y ha hc e = (refl, cons-tail 46 46 x y e)
 same_digits [] (b ∷ c) x y ha hc e = absurd (dot_is_no_digit (subst (λ d. digit_value d < 10) (sym (cons-head 46 b x (c ++ 46 ∷ y) e)) hc.0))

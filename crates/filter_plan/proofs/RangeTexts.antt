@@ -1,4 +1,4 @@
--- Where the dots of a range stand.
+-- The text of a range, by its parts before and after the dots.
 use Rattle.std.proofs.Common.{◌≡◌, ◌≢◌, ◌∙◌, ◌<◌, ℕ, List, [], ◌∷◌, ◌++◌, Option, Some, None, arith, codes, get_or, inl, inr, length, refl, subst, suc, sym, zero, ap}
 use Rattle.std.specs.Char.{digit_value}
 use Rattle.std.specs.Str.Parse.{AllDigits}
@@ -29,7 +29,7 @@ range_of_bounds text a b r is bounds = go r.low r.high refl bounds.low bounds.hi
     go low (Some m) e (inl none) h = up_to b m (is ∙ ap (λ x. x ++ (codes ".." ++ b)) none.0) h (e ∙ ap (λ n. range n (Some m)) none.1)
     go low (Some m) e (inr number) h = between a b low m is number h e
 
--- the dots stand where the text is cut
+-- the text has no other division into digits, dots and a rest
 abbrev pub IsOnlyCut : List ℕ → List ℕ → List ℕ → Type 0
 IsOnlyCut text a b = (c d : List ℕ) → AllDigits 10 c → text ≡ c ++ (codes ".." ++ d) → (a ≡ c) × (b ≡ d)
 

@@ -1,4 +1,4 @@
--- The command is one of which `clap` says exactly what it takes.
+-- The command is of the simple kind of which `clap` specifies exactly which words it takes.
 use Rattle.std.proofs.Common.{◌≡◌, true, refl}
 use Rattle.clap.specs.Words.{is_simple, is_simple_and_free}
 use Rattle.filter_plan.specs.Table.{table}

@@ -7,7 +7,7 @@ use Rattle.clap.specs.Words.{Row}
 use Rattle.filter_plan.specs.Table.{EachGives, Gives, OptionRow, Place, table, values_of}
 use Rattle.filter_plan.specs.declared.plan.Plan.{Plan}
 
--- where in the plan the option of this name stands
+-- the field of the plan of the option of this name
 abbrev pub place_in : List OptionRow → List ℕ → Option Place
 place_in [] name = None
 place_in (o ∷ os) name = cond (bytes_eq o.long name) (Some o.place) (place_in os name)

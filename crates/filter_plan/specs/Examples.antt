@@ -1,4 +1,4 @@
--- What `clap`'s definition makes of some words, as one expects.
+-- Examples: what `clap`'s definition makes of some command lines.
 use Rattle.std.specs.Prelude.{◌≡◌, [], ◌∷◌, codes}
 use Rattle.clap.specs.Words.{fault_of, matches_of}
 use Rattle.clap.specs.declared.error.kind.ErrorKind.TheVariants as kind

@@ -1,4 +1,4 @@
--- The format of a line of figures.
+-- The format of a line of figures, which `--stats` prints.
 use Rattle.std.specs.Prelude.{◌≡◌, ◌==◌, ℕ, List, [], ◌∷◌, flat_map, if◌then◌else◌, codes}
 use Rattle.filter_plan.specs.declared.format.Piece.{Piece}
 use Rattle.filter_plan.specs.declared.format.Piece.TheVariants.{Byte, States, Edges, Sets, Word}
@@ -11,6 +11,6 @@ piece_text Edges = codes "%e"
 piece_text Sets = codes "%a"
 piece_text Word = codes "%w"
 
--- the text writes these pieces, one after the other
+-- the text spells these pieces, one after the other
 abbrev pub IsFormat : List ℕ → List Piece → Type 0
 IsFormat text pieces = text ≡ flat_map piece_text pieces

@@ -5,7 +5,7 @@ use Rattle.filter_plan.specs.Words.{IsPlan}
 use Rattle.filter_plan.specs.declared.plan.Plan.{Plan}
 use Rattle.word_syntax.specs.Writing.{word_pattern}
 
--- the plans are the same, wherever their patterns lie in memory
+-- the plans have equal fields; patterns are compared as values, wherever they are in memory
 pub record SamePlan (p q : Plan) : Type 0 where
   pub accept_word : option_map word_pattern p.accept_word ≡ option_map word_pattern q.accept_word
   pub reject_word : option_map word_pattern p.reject_word ≡ option_map word_pattern q.reject_word

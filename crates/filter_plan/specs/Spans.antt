@@ -17,6 +17,6 @@ abbrev pub IsAtMost : ℕ → Option ℕ → Type 0
 IsAtMost n None = ⊤
 IsAtMost n (Some high) = n ≤ high
 
--- the number is in the range, which has both its ends; one that ends before it begins has no number
+-- the number is in the range, both ends included; a range whose end is below its beginning is empty
 abbrev pub IsInRange : Range → ℕ → Type 0
 IsInRange r n = (r.low ≤ n) × IsAtMost n r.high

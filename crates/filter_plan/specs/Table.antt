@@ -18,11 +18,11 @@ use Rattle.filter_plan.specs.declared.plan.Output.TheVariants.{Stats, Refute}
 use Rattle.filter_plan.specs.declared.plan.Plan.{Plan}
 use Rattle.filter_plan.specs.declared.range.Range.{Range}
 
--- Whether an option takes a value, what that is read as, and where in the plan it stands.
+-- Whether an option takes a value, what that is read as, and the field of the plan that has it.
 pub data Place : Type 0 where
-  -- no value: whether the option stands
+  -- no value: whether the option is given
   Flag : (Plan → Bool) → Place
-  -- no value: the plan has this form where the option stands
+  -- no value: the plan has this form if the option is given
   FormFlag : Form → Place
   Number : (Plan → Option ℕ) → Place
   MadeCount : (Plan → Option ℕ) → Place
@@ -42,16 +42,16 @@ pub record OptionRow : Type 0 where
 abbrev pub option : List ℕ → Place → OptionRow
 option long place = record { long = long; short = None; place = place }
 
--- with a letter beside the name
+-- an option with a short name too
 abbrev pub lettered : List ℕ → ℕ → Place → OptionRow
 lettered long letter place = record { long = long; short = Some letter; place = place }
 
--- the format of the figures, where these are printed
+-- the format of the figures, if these are printed
 abbrev pub figures : Output → Option (List Piece)
 figures (Stats pieces) = Some pieces
 figures _ = None
 
--- the file of the automaton to refute against, where refutations are printed
+-- the file of the operand of `--refute`, if refutations are printed
 abbrev pub refuted : Output → Option (List ℕ)
 refuted (Refute file) = Some file
 refuted _ = None
@@ -103,7 +103,7 @@ table =
 abbrev pub values_of : List ℕ → List Row → List (List ℕ)
 values_of id rows = unwrap_or (all_of id rows) []
 
--- the value of a flag that stands is `true`, by `clap`
+-- whether a flag is given: its value is then `true`, by `clap`
 abbrev pub is_on : List (List ℕ) → Bool
 is_on [] = false
 is_on (value ∷ values) = bytes_eq value (codes "true")
@@ -114,15 +114,16 @@ ReadsOption IsRead [] None = ⊤
 ReadsOption IsRead (value ∷ []) (Some x) = IsRead value x
 ReadsOption IsRead _ _ = ⊥
 
--- a file stands in the plan as it is named
+-- a file is in the plan as it is named
 abbrev pub IsFile : List ℕ → List ℕ → Type 0
 IsFile value file = file ≡ value
 
--- a word stands in the plan as the pattern that it writes
+-- a word is in the plan as the pattern that it spells
 abbrev pub IsPattern : List ℕ → Pattern → Type 0
 IsPattern value pattern = WritesWord value (word_pattern pattern)
 
--- The plan has in this place what the values of the option give. Since a plan has one form, two forms give none.
+-- The plan has in this field what the values of the option give. Since a plan has one form, no plan has two options of
+-- forms.
 abbrev pub Gives : Place → List (List ℕ) → Plan → Type 0
 Gives (Flag at) values p = at p ≡ is_on values
 Gives (FormFlag form) values p = IsTrue (is_on values) ↔ (p.form ≡ form)

@@ -1,4 +1,4 @@
--- Which words are a plan, and of what.
+-- Which command lines are a plan, and which plan they are.
 use Rattle.std.specs.Prelude.{◌≡◌, ◌≤◌, ℕ, Bool, true, false, ◌||◌, List, [], ◌∷◌, ◌++◌, map, All, count_by, Option, Some, None, is_some, codes, IsUtf8}
 use Rattle.std.specs.Str.{bytes_eq}
 use Rattle.clap.specs.Words.{App, Row, Rule, fault_of, matches_of, new_rule}
@@ -10,7 +10,7 @@ use Rattle.filter_plan.specs.declared.plan.Form.{Form}
 use Rattle.filter_plan.specs.declared.plan.Form.TheVariants.{AsIs}
 use Rattle.filter_plan.specs.declared.plan.Plan.{Plan}
 
--- ---- the command, as `clap` knows it
+-- ---- the command, as it is defined for `clap`
 
 abbrev pub action_at : Place → ArgAction
 action_at (Flag at) = SetTrue
@@ -20,11 +20,11 @@ action_at _ = Set
 abbrev pub option_rule : OptionRow → Rule
 option_rule o = record (new_rule o.long) { long = Some o.long; short = o.short; action = Some (action_at o.place) }
 
--- any number of files
+-- the files that are given without an option, any number of them
 abbrev pub operands_rule : List ℕ → Rule
 operands_rule id = record (new_rule id) { action = Some Append }
 
--- A command with these rules. Its words begin behind the program's name, and no option is added for help or the version.
+-- A command with these rules. Its words begin after the program's name, and no option is added for help or the version.
 abbrev pub command_of : List Rule → App
 command_of rules = record {
   top = record (new_shape (codes "autfilt")) {
@@ -50,7 +50,7 @@ dash = codes "-"
 abbrev pub named_streams : List Row → List (List ℕ)
 named_streams rows = values_of (codes "file") rows ++ values_of (codes "FILE") rows
 
--- standard input, where no stream is named and none is made
+-- standard input, where no stream is named and none is generated
 abbrev pub streams_of : List (List ℕ) → Option ℕ → List (List ℕ)
 streams_of [] None = dash ∷ []
 streams_of named made = named
@@ -78,7 +78,7 @@ changes p = is_some p.product || (is_some p.product_or || (is_some p.sum || (is_
 pub record KeepsRules (p : Plan) : Type 0 where
   -- a refutation is of the automaton as it was read
   pub refutes_alone : is_some (refuted p.output) ≡ true → changes p ≡ false
-  -- a stream is made in place of others
+  -- a generated stream comes without any other stream
   pub made_alone : is_some p.made ≡ true → p.streams ≡ []
   -- standard input is read once
   pub one_dash : count_by (bytes_eq dash) (operands p ++ p.streams) ≤ 1

@@ -1,4 +1,4 @@
--- Definitions that only inner functions speak in.
+-- Definitions that only the contracts of private functions use.
 pub mod Entries
 pub mod Bounds
 pub mod FormatPieces

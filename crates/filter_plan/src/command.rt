@@ -1,4 +1,4 @@
-//! The command line as `clap` is told of it.
+//! The definition of the command line for `clap`.
 
 ghost use Rattle.std.specs.Prelude.{◌≡◌, IfOk, [], ◌∷◌, ◌++◌, false, fold, map, codes};
 ghost use Rattle.clap.specs.Words.{app_of, rule_of, with_rule};
@@ -30,7 +30,7 @@ fn bare<'a>(alloc: Global) -> Command<'a>
         .disable_help_subcommand(true)
 }
 
-/// The command with these options behind those that it has.
+/// The command with these options added after those that it has.
 fn with_options<'a>(
     alloc: Global,
     command: Command<'a>,
@@ -45,7 +45,7 @@ fn with_options<'a>(
     Ok(command)
 }
 
-/// An option.
+/// The `clap` argument of an option.
 fn argument<'a>(alloc: Global, entry: &Entry) -> Arg<'a>
     ensures rule { rule_of result ≡ entry_rule entry.now }
     ensures local { result.global ≡ false }
@@ -62,7 +62,7 @@ fn argument<'a>(alloc: Global, entry: &Entry) -> Arg<'a>
     }
 }
 
-/// The files that stand without an option.
+/// The `clap` argument of the files that are given without an option.
 fn files<'a>(alloc: Global) -> Arg<'a>
     ensures rule { rule_of result ≡ operands_rule (codes "FILE") }
     ensures local { result.global ≡ false }

@@ -1,10 +1,10 @@
-//! An option, as `clap` is told of it.
+//! A row of the table of options from which the `clap` command is made.
 
 /// An option.
 pub(crate) struct Entry {
-    /// What stands behind `--`, by which the matches know it too.
+    /// The long name, after `--`, which is also the identifier of the option in `clap`'s matches.
     pub(crate) name: &'static str,
-    /// What stands behind a single `-`.
+    /// The short name, after `-`.
     pub(crate) letter: Option<char>,
     pub(crate) takes_value: bool,
 }

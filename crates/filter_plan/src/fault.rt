@@ -5,7 +5,7 @@ use aut_base::Memory;
 /// Why the words have no plan.
 #[derive(Clone, Copy, Debug, PartialEq, Eq)]
 pub enum UsageFault {
-    /// The words are no plan.
+    /// The words aren't a valid command line.
     Usage,
     /// Want of memory.
     Memory,

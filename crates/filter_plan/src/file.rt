@@ -1,4 +1,4 @@
-//! Names of files among the words.
+//! Options and operands whose values are names of files.
 
 ghost use Rattle.std.specs.Prelude.{◌≡◌, ◌++◌, IfErr, OnOk, map};
 ghost use Rattle.clap.specs.Words.{found_of, rows_of};
@@ -14,14 +14,13 @@ use std::alloc::Global;
 impl OptionValue for Text {
     ghost is_read = { IsFile };
 
-    /// The name of a file, which the text is.
+    /// The text as the name of a file.
     fn read(alloc: Global, text: &str) -> Result<Text, UsageFault> {
         Ok(Text::from_bytes(alloc, text.as_bytes())?)
     }
 }
 
-/// The files that the option or operand has as its values, added to those that are there. The only fault is want of
-/// memory.
+/// Appends the files that the option or operand has as its values to the list. The only fault is want of memory.
 pub(crate) fn add_files(
     alloc: Global,
     files: &mut Words,
@@ -37,7 +36,7 @@ pub(crate) fn add_files(
     }
 }
 
-/// These files, added to those that are there.
+/// Appends these files to the list.
 fn add_all(alloc: Global, files: &mut Words, names: &[&str]) -> Result<(), UsageFault>
     ensures files { OnOk result (files.new ≡ files.old ++ map (λ t. t.now) names.now) }
     ensures memory { IfErr result (λ fault. fault ≡ UsageFault.Memory) }

@@ -1,4 +1,4 @@
-//! The form among the words.
+//! The form that the options ask for.
 
 ghost use Rattle.std.specs.Prelude.{◌≡◌, IfOk, IsErrOf};
 ghost use Rattle.clap.specs.Words.{found_of, rows_of};
@@ -20,7 +20,7 @@ static FORMS: [Form; 7] = [
     Form::Monitor,
 ];
 
-/// The form whose flag stands, or `Usage` exactly where several flags of forms stand.
+/// The form whose flag is given, `AsIs` where none is, or `Usage` exactly where several flags of forms are given.
 pub(crate) fn form_of(matches: &ArgMatches) -> Result<Form, UsageFault>
     ensures form { IfOk result (IsForm (rows_of (found_of matches.now))) }
     ensures usage { IsErrOf result UsageFault.Usage → (form : Form) → IsForm (rows_of (found_of matches.now)) form → ⊥ }
@@ -35,7 +35,7 @@ pub(crate) fn form_of(matches: &ArgMatches) -> Result<Form, UsageFault>
     ])
 }
 
-/// The form that just these flags make.
+/// The form with exactly these flags.
 fn form_with(standing: [bool; 6]) -> Result<Form, UsageFault>
     ensures form { IfOk result (λ form. flags_of form ≡ standing) }
     ensures usage { IsErrOf result UsageFault.Usage → (form : Form) → flags_of form ≡ standing → ⊥ }
@@ -48,7 +48,7 @@ fn form_with(standing: [bool; 6]) -> Result<Form, UsageFault>
     Err(UsageFault::Usage)
 }
 
-/// The flags that make the form: its own, or none.
+/// The flags of a form: its own one, or none for `AsIs`.
 fn flags(form: Form) -> [bool; 6]
     ensures { result ≡ flags_of form }
 {

@@ -31,7 +31,7 @@ pub type StatsText = Seq<Piece>;
 impl OptionValue for StatsText {
     ghost is_read = { IsFormat };
 
-    /// The pieces that the text writes.
+    /// The pieces of the format that the text spells.
     fn read(alloc: Global, text: &str) -> Result<StatsText, UsageFault> {
         let mut pieces = StatsText::new(alloc);
         let mut rest = text.as_bytes();
@@ -46,7 +46,7 @@ impl OptionValue for StatsText {
     }
 }
 
-/// The first piece, and what stands behind it.
+/// The first piece, and the rest of the text after it.
 fn front(bytes: &[u8]) -> Option<(Piece, &[u8])>
     ensures first { option_map (λ x. (x.0, x.1.now)) result ≡ first_piece bytes.now }
     ensures written { IfSome result (λ x. bytes.now ≡ piece_text x.0 ++ x.1.now) }
@@ -58,7 +58,7 @@ fn front(bytes: &[u8]) -> Option<(Piece, &[u8])>
     }
 }
 
-/// What a `%` with this letter behind it writes.
+/// The piece that `%` and this letter spell.
 fn escape(letter: u8) -> Option<Piece>
     ensures first { result ≡ escape letter }
     ensures written { IfSome result (λ p. piece_text p ≡ 37 ∷ letter ∷ []) }

@@ -22,7 +22,7 @@ pub(crate) struct Operands {
     pub(crate) sum: Option<Text>,
 }
 
-/// The files that stand.
+/// The files of the options that are given.
 pub(crate) fn read_operands(alloc: Global, matches: &ArgMatches) -> Result<Operands, UsageFault>
     ensures reads { IfOk result (AreOperandOptions (rows_of (found_of matches.now))) }
     ensures usage { IsErrOf result UsageFault.Usage → (x : Operands) → AreOperandOptions (rows_of (found_of matches.now)) x → ⊥ }

@@ -1,4 +1,4 @@
-//! Propositions to hide among the words.
+//! The value of the option that hides a proposition.
 
 ghost use Rattle.std.specs.Prelude.{◌≡◌, MatchOption};
 ghost use Rattle.filter_plan.specs.Hiding.{IsHideOption, suffix};
@@ -27,7 +27,7 @@ impl OptionValue for Hidden {
     }
 }
 
-/// How a proposition is hidden, by what stands behind its name.
+/// How a proposition is hidden, by the text after its name.
 fn way(rest: &[u8]) -> Option<Hide>
     ensures { MatchOption result ((how : Hide) → rest.now ≡ suffix how → ⊥) (λ how. rest.now ≡ suffix how) }
 {

@@ -13,7 +13,7 @@ pub fn one_plan()
     one_reading();
 }
 
-/// What `clap`'s definition makes of some words.
+/// What `clap`'s definition makes of some command lines.
 pub fn word_examples()
     ensures { WordExamples }
 {}

@@ -1,9 +1,9 @@
 //! What the words of the command line ask for: which filters, operations and form, what is printed, and which streams are
 //! read.
 //!
-//! A caller gives the words to `read_plan` and gets a `Plan`, or `Usage` exactly where the words are no plan. What a plan is
-//! stands in `specs`: `Table` has the options, one row each, `Numbers`, `Spans`, `Formats` and `Hiding` what their values are
-//! read as, and `Words` the rules over them all.
+//! A caller gives the words to `read_plan` and gets a `Plan`, or `Usage` exactly where the words are no plan. A plan is
+//! defined in `specs`: `Table` has the options, one row each, `Numbers`, `Spans`, `Formats` and `Hiding` what their values
+//! are read as, and `Words` the rules between them.
 #![tactic(auto)]
 
 mod command;

@@ -12,7 +12,7 @@ use clap::error::ErrorKind;
 use clap::{ArgMatches, Error};
 use std::alloc::Global;
 
-/// The words as text, or `Usage` exactly where one of them is none.
+/// The words as text, or `Usage` exactly where one of them isn't UTF-8.
 pub(crate) fn decoded<'w>(alloc: Global, words: &'w [Text]) -> Result<Vec<&'w str>, UsageFault>
     ensures texts { IfOk result (λ texts. map (λ t. t.now) texts.items ≡ words.now) }
     ensures utf8 { IfOk result (λ _. All IsText words.now) }
@@ -30,7 +30,7 @@ pub(crate) fn decoded<'w>(alloc: Global, words: &'w [Text]) -> Result<Vec<&'w st
     Ok(texts)
 }
 
-/// The word as text, or `None` exactly where it is none.
+/// The word as text, or `None` exactly where it isn't UTF-8.
 #[tactic(auto, unfolding(crate::specs::Words::IsText))]
 fn word_text(word: &Text) -> Option<&str>
     ensures { MatchOption result (IsText word.now → ⊥) (λ text. (text.now ≡ word.now) × IsText word.now) }
@@ -51,7 +51,7 @@ pub(crate) fn parsed<'a>(alloc: Global, words: &'a [&'a str]) -> Result<ArgMatch
     }
 }
 
-/// Memory is wanting where `clap` says so. Its other errors are refusals.
+/// An error of `clap` as a fault: `Memory` where `clap` ran out of memory, else `Usage`.
 fn cause(error: Error) -> UsageFault
     ensures usage { result ≡ UsageFault.Usage → kind_of error ≡ ErrorKind.OutOfMemory → ⊥ }
     ensures memory { result ≡ UsageFault.Memory → kind_of error ≡ ErrorKind.OutOfMemory }

@@ -1,4 +1,4 @@
-//! Numbers among the words.
+//! Values of options that are numbers.
 
 ghost use Rattle.std.specs.Prelude.{◌≡◌, ℕ, IfOk, IsErrOf, Option, MatchOption};
 ghost use Rattle.clap.specs.Words.{found_of, rows_of};
@@ -11,7 +11,7 @@ use crate::values::value;
 use clap::ArgMatches;
 use std::alloc::Global;
 
-/// The number that the digits write, or `None` exactly where they write none.
+/// The number that the decimal digits spell, or `None` exactly where the text spells none.
 pub(crate) fn number(text: &str) -> Option<u32>
     ensures { MatchOption result ((n : ℕ) → IsNumber text.now n → ⊥) (λ n. IsNumber text.now n) }
 {
@@ -21,7 +21,7 @@ pub(crate) fn number(text: &str) -> Option<u32>
     }
 }
 
-/// How many automata are made, or `None` exactly where the text is no such number.
+/// The number of automata to generate, or `None` exactly where the text is no number from 1 to 10,000.
 fn made_count(text: &str) -> Option<u32>
     ensures { MatchOption result ((n : ℕ) → IsMadeCount text.now n → ⊥) (λ n. IsMadeCount text.now n) }
 {
@@ -34,13 +34,13 @@ fn made_count(text: &str) -> Option<u32>
 impl OptionValue for u32 {
     ghost is_read = { IsNumber };
 
-    /// The number that the digits write.
+    /// The number that the decimal digits spell.
     fn read(_alloc: Global, text: &str) -> Result<u32, UsageFault> {
         number(text).ok_or(UsageFault::Usage)
     }
 }
 
-/// How many automata are made, by the value of the option.
+/// The number of automata to generate, from the value of the option.
 pub(crate) fn made_count_of(matches: &ArgMatches, id: &str) -> Result<Option<u32>, UsageFault>
     ensures reads { IfOk result (λ n. ReadsOption IsMadeCount (values_of id.now (rows_of (found_of matches.now))) n) }
     ensures usage { IsErrOf result UsageFault.Usage → (n : Option ℕ) → ReadsOption IsMadeCount (values_of id.now (rows_of (found_of matches.now))) n → ⊥ }

@@ -1,4 +1,4 @@
-//! What is printed, among the words.
+//! What is printed of a kept automaton, by the options.
 
 ghost use Rattle.std.specs.Prelude.{◌≡◌, IfOk, IsErrOf};
 ghost use Rattle.clap.specs.Words.{found_of, rows_of};
@@ -11,7 +11,7 @@ use aut_base::Text;
 use clap::ArgMatches;
 use std::alloc::Global;
 
-/// What is printed of an automaton, or `Usage` exactly where the options for it can't be read, or stand both.
+/// What is printed of an automaton, or `Usage` exactly where one of the options for it can't be read, or both are given.
 pub(crate) fn output_of(alloc: Global, matches: &ArgMatches) -> Result<Output, UsageFault>
     ensures output { IfOk result (IsOutput (rows_of (found_of matches.now))) }
     ensures usage { IsErrOf result UsageFault.Usage → (output : Output) → IsOutput (rows_of (found_of matches.now)) output → ⊥ }

@@ -1,4 +1,4 @@
-//! Patterns among the words.
+//! Values of options that are patterns of words.
 
 ghost use Rattle.filter_plan.specs.Table.{IsPattern};
 
@@ -11,7 +11,7 @@ use word_syntax::{Pattern, WordFault, read_word};
 impl OptionValue for Pattern {
     ghost is_read = { IsPattern };
 
-    /// The pattern that the text writes.
+    /// The pattern that the text spells.
     fn read(alloc: Global, text: &str) -> Result<Pattern, UsageFault> {
         let word = Text::from_bytes(alloc, text.as_bytes())?;
         match read_word(alloc, &word) {

@@ -1,4 +1,4 @@
-//! What the words ask for, and where each part of it is read from.
+//! The plan, and how each of its fields is read from the options.
 
 ghost use Rattle.std.specs.Prelude.{◌≡◌, IfOk, IsErrOf};
 ghost use Rattle.clap.specs.Words.{found_of, rows_of};
@@ -49,7 +49,7 @@ pub enum Output {
     Refute(Text),
 }
 
-/// A proposition to hide.
+/// A proposition to hide, by its name.
 #[derive(Drop)]
 pub struct Hidden {
     pub name: Text,
@@ -59,13 +59,13 @@ pub struct Hidden {
 /// What the words ask for. Operands and streams are names of files, and `-` is standard input.
 #[derive(Drop)]
 pub struct Plan {
-    /// Keep what the filters drop.
+    /// Invert the verdict: keep what the filters drop.
     pub invert: bool,
-    /// Print only the number kept.
+    /// Print only the number of automata that are kept.
     pub count: bool,
     /// Print nothing.
     pub quiet: bool,
-    /// Stop after so many kept.
+    /// Stop after this many automata are kept.
     pub most: Option<u32>,
     pub accept_word: Option<Pattern>,
     pub reject_word: Option<Pattern>,
@@ -84,7 +84,7 @@ pub struct Plan {
     pub product_or: Option<Text>,
     pub sum: Option<Text>,
     pub remove_ap: Option<Hidden>,
-    /// Only reachable states.
+    /// Remove the states that aren't reachable.
     pub trim: bool,
     pub complement: bool,
     pub form: Form,
@@ -93,11 +93,11 @@ pub struct Plan {
     pub output: Output,
     /// The streams in the order in which they are read.
     pub streams: Words,
-    /// The generated stream with so many automata, in place of streams.
+    /// Read a generated stream with this many automata instead of the streams.
     pub made: Option<u32>,
 }
 
-/// The plan that the options and streams give, before the rules between options.
+/// The plan that the options and streams give; the rules between options aren't checked yet.
 pub(crate) fn read_options(alloc: Global, matches: &ArgMatches) -> Result<Plan, UsageFault>
     ensures given { IfOk result (IsGiven (rows_of (found_of matches.now))) }
     ensures usage { IsErrOf result UsageFault.Usage → (plan : Plan) → IsGiven (rows_of (found_of matches.now)) plan → ⊥ }

@@ -12,7 +12,7 @@ use crate::number::number;
 use crate::reading::OptionValue;
 use std::alloc::Global;
 
-/// The numbers from `low` on, up to `high` where that is there. Both are in it.
+/// The numbers from `low` up to `high`, both inclusive; without `high` all from `low` on.
 #[derive(Clone, Copy, Debug, PartialEq, Eq)]
 pub struct Range {
     pub low: u32,
@@ -35,13 +35,13 @@ impl Range {
 impl OptionValue for Range {
     ghost is_read = { IsRange };
 
-    /// The range that the text writes.
+    /// The range that the text spells.
     fn read(_alloc: Global, text: &str) -> Result<Range, UsageFault> {
         read_range(text).ok_or(UsageFault::Usage)
     }
 }
 
-/// The range that the text writes, or `None` exactly where it writes none.
+/// The range that the text spells, or `None` exactly where it spells none.
 fn read_range(text: &str) -> Option<Range>
     ensures { MatchOption result ((r : Range) → IsRange text.now r → ⊥) (IsRange text.now) }
 {
@@ -74,7 +74,7 @@ fn bounds(before: &str, after: &str) -> Option<Range>
     Some(Range { low, high })
 }
 
-/// The lower end, which is 0 where no text stands.
+/// The lower end, which is 0 where the text is empty.
 fn low_end(text: &str) -> Option<u32>
     ensures { MatchOption result ((n : ℕ) → IsLow text.now n → ⊥) (IsLow text.now) }
 {
@@ -84,7 +84,7 @@ fn low_end(text: &str) -> Option<u32>
     number(text)
 }
 
-/// The upper end, if text stands.
+/// The upper end; an empty text means that there is none.
 fn high_end(text: &str) -> Option<Option<u32>>
     ensures { MatchOption result ((n : Option ℕ) → IsHigh text.now n → ⊥) (IsHigh text.now) }
 {
@@ -94,7 +94,8 @@ fn high_end(text: &str) -> Option<Option<u32>>
     Some(Some(number(text)?))
 }
 
-/// What stands before the first two dots and what behind them, where no other dot stands before.
+/// The texts before and after the first dot and the dot right after it, or `None` where the first dot isn't followed by
+/// another.
 fn cut(text: &str) -> Option<(&str, &str)>
     ensures found { MatchOption result (Unit {0}) (λ x. text.now ≡ x.0.now ++ (codes ".." ++ x.1.now)) }
     ensures only { (a b : List ℕ) → AllDigits 10 a → text.now ≡ a ++ (codes ".." ++ b) → MatchOption result ⊥ (λ x. (x.0.now ≡ a) × (x.1.now ≡ b)) }

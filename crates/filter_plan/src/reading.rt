@@ -9,18 +9,18 @@ use crate::values::value;
 use clap::ArgMatches;
 use std::alloc::Global;
 
-/// What the value of an option is read as.
+/// A type that the value of an option is read as.
 pub(crate) trait OptionValue: Sized {
-    /// What the text says.
+    /// When a text spells a value.
     ghost is_read: { List ℕ → Self → Type 0 };
 
-    /// What the text says, or `Usage` exactly where it says nothing.
+    /// The value that the text spells, or `Usage` exactly where it spells none.
     fn read(alloc: Global, text: &str) -> Result<Self, UsageFault>
         ensures reads { IfOk result (is_read text.now) }
         ensures usage { IsErrOf result UsageFault.Usage → (x : Self) → is_read text.now x → ⊥ };
 }
 
-/// What the option has as its value, if it stands, or `Usage` exactly where it has several or one that says nothing.
+/// The value of the option, if it is given, or `Usage` exactly where it has several values or one that spells nothing.
 pub(crate) fn value_of<T: OptionValue>(
     alloc: Global,
     matches: &ArgMatches,

@@ -15,7 +15,7 @@ pub(crate) fn keeps_rules(plan: &Plan) -> bool
     refutes_alone(plan) && is_made_alone(plan) && names_one_dash(plan)
 }
 
-/// Whether a refutation stands with no operation, form or completion.
+/// Whether a refutation, if asked for, comes without any operation, form or completion.
 fn refutes_alone(plan: &Plan) -> bool
     ensures { IsTrue result ↔ (is_some (refuted plan.now.output) ≡ true → changes plan.now ≡ false) }
 {
@@ -39,14 +39,14 @@ pub fn changes_automata(plan: &Plan) -> bool
         || plan.complete
 }
 
-/// Whether it is a form to bring an automaton into.
+/// Whether the form is another than `AsIs`.
 fn is_form(form: Form) -> bool
     ensures { result ≡ has_form form }
 {
     !matches!(form, Form::AsIs)
 }
 
-/// Whether a stream that is made stands with no other.
+/// Whether a generated stream, if asked for, comes without any other stream.
 fn is_made_alone(plan: &Plan) -> bool
     ensures { IsTrue result ↔ (is_some plan.now.made ≡ true → plan.now.streams ≡ []) }
 {
@@ -75,7 +75,7 @@ fn operand_dashes(plan: &Plan) -> usize
         + refuted_dashes(&plan.output)
 }
 
-/// 1 where the file is standard input.
+/// 1 where the file is standard input, else 0.
 fn dashes_of(file: &Option<Text>) -> usize
     ensures number { result ≡ count_by (bytes_eq dash) (file_list file.now) }
     ensures few { result ≤ 1 }
@@ -86,7 +86,7 @@ fn dashes_of(file: &Option<Text>) -> usize
     }
 }
 
-/// 1 where the automaton to refute against is read from standard input.
+/// 1 where the operand of `--refute` is read from standard input, else 0.
 fn refuted_dashes(output: &Output) -> usize
     ensures number { result ≡ count_by (bytes_eq dash) (file_list (refuted output.now)) }
     ensures few { result ≤ 1 }
@@ -97,7 +97,7 @@ fn refuted_dashes(output: &Output) -> usize
     }
 }
 
-/// 1 where the name is that of standard input.
+/// 1 where the name is that of standard input, else 0.
 fn dashes_at(name: &Text) -> usize
     ensures number { result ≡ count_by (bytes_eq dash) (name.now ∷ []) }
     ensures few { result ≤ 1 }

@@ -1,4 +1,4 @@
-//! The streams among the words.
+//! The streams that are read.
 
 ghost use Rattle.std.specs.Prelude.{◌≡◌, ◌≤◌, IfErr, IfOk, IsErrOf, codes, length};
 ghost use Rattle.clap.specs.Words.{found_of, rows_of};
@@ -12,7 +12,7 @@ use aut_base::{Text, Words};
 use clap::ArgMatches;
 use std::alloc::Global;
 
-/// The streams in their order, or `Usage` exactly where the option for the first of them stands twice.
+/// The streams in their order, or `Usage` exactly where the option for the first of them is given twice.
 pub(crate) fn read_streams(
     alloc: Global,
     matches: &ArgMatches,
@@ -29,7 +29,7 @@ pub(crate) fn read_streams(
     or_standard_input(alloc, named, made)
 }
 
-/// The named streams, or standard input where none is named and none is made.
+/// The named streams, or standard input where none is named and none is generated.
 fn or_standard_input(alloc: Global, named: Words, made: Option<u32>) -> Result<Words, UsageFault>
     ensures streams { IfOk result (λ streams. streams ≡ streams_of named made) }
     ensures memory { IfErr result (λ fault. fault ≡ UsageFault.Memory) }

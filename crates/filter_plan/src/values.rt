@@ -17,7 +17,7 @@ pub(crate) fn values<'m, 'a>(matches: &'m ArgMatches<'a>, id: &str) -> Option<&'
     matches.get_raw(id)
 }
 
-/// Whether the flag stands.
+/// Whether the flag is given.
 pub(crate) fn stands(matches: &ArgMatches, id: &str) -> bool
     ensures { result ≡ is_on (values_of id.now (rows_of (found_of matches.now))) }
 {
@@ -37,7 +37,7 @@ fn is_true(values: &[&str]) -> bool
     }
 }
 
-/// The value of the option, if it stands, or `Usage` exactly where it has several.
+/// The value of the option, if it is given, or `Usage` exactly where it has several.
 pub(crate) fn value<'a>(matches: &ArgMatches<'a>, id: &str) -> Result<Option<&'a str>, UsageFault>
     ensures once { IfOk result (λ v. values_of id.now (rows_of (found_of matches.now)) ≡ file_list (option_map (λ t. t.now) v)) }
     ensures several { IfErr result (λ fault. (fault ≡ UsageFault.Usage) × (1 < length (values_of id.now (rows_of (found_of matches.now))))) }

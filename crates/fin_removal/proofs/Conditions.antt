@@ -1,4 +1,4 @@
--- What holds of atoms holds of the condition of terms that is made of them.
+-- What holds of all literals holds of the condition that is their disjunction of conjunctions.
 use Rattle.std.proofs.Common.{◌≡◌, ℕ, false, ◌||◌, List, [], ◌∷◌, ◌++◌, refl}
 use Rattle.std.specs.List.{AllByRecursion, fold}
 use Rattle.std.proofs.lemmas.Bool.{cond_both, or_from, or_parts}

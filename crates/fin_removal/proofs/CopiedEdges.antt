@@ -30,7 +30,7 @@ pub record Within (a : Automaton) (copies : List TermCopy) (f : LabelledEdge) : 
   pub allowed : allows copy edge.marks ≡ true
   pub is : edge_in a.states copy edge ≡ f
 
--- the first of a list, or one of the others
+-- an edge stays in the main copy, enters another one, or is within another one
 pub comes_from : (a : Automaton) (copies : List TermCopy) (f : LabelledEdge) → Contains (all_edges a copies) f → Stays a f ⊎ (Enters a copies f ⊎ Within a copies f)
 comes_from a copies f there = ⊎_elim
     (λ (main : Contains (flat_map (main_edges a.states copies) a.edges) f).

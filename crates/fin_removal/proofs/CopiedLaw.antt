@@ -101,7 +101,7 @@ with_copies a u v r =
       meets = own_sets_met a copy found.listed cycle (sets_met a.states copy r.cycle found.met);
     }
 
--- the copy of whose sets a cycle has each
+-- a cycle that meets the condition has every set of some copy
 record Owner (a : Automaton) (cycle : List LabelledEdge) : Type 0 where
   copy : TermCopy
   listed : Contains (copies_of a) copy

@@ -49,7 +49,7 @@ copy_path a copy listed p q (x ∷ xs) (e ∷ es) allowed path = (
   copy_path a copy listed e.to q xs es (λ f there. allowed f (later_there e es f there)) path.3,
 )
 
--- what is left of a path in a copy
+-- a path within a copy is the copy's image of a path of the automaton
 pub record InCopy (a : Automaton) (copy : TermCopy) (p : ℕ) (xs : List NameSet) (fs : List LabelledEdge) (state : ℕ) : Type 0 where
   pub edges : List LabelledEdge
   pub end : ℕ

@@ -23,7 +23,7 @@ use Rattle.fin_removal.proofs.CopyMarks.{marks_below}
 use Rattle.fin_removal.proofs.CopyNumbers.{is_among}
 use Rattle.fin_removal.proofs.TermCopies.{copy_of}
 
--- what is said of the sets of each copy holds of the literals of the condition
+-- what holds of the sets of each copy holds of the literals of the condition
 owned_each : (P : FormulaTree → Type 0) (ts : List (List Literal))
     → ((copy : TermCopy) → Contains (term_copies ts) copy → (set : ℕ) → set < copy.first + literal_places copy.infs → P (FormulaTree.Inf set false))
     → AllByRecursion (λ term. AllByRecursion (λ l. P (literal_formula l)) term) (owned_sets ts)

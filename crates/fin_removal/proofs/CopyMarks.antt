@@ -52,7 +52,7 @@ pub marks_push : (copy : TermCopy) (marks found new : List ℕ) (n : ℕ) → fo
 marks_push copy marks found new n so_far passes pushed =
     pushed ∙ (ap (λ xs. xs ++ (copy.first + n) ∷ []) so_far ∙ sym (marks_more copy marks n ∙ ap (λ b. marks_to copy marks n ++ cond b ((copy.first + n) ∷ []) []) passes))
 
--- the edges of a copy, with one edge more of the automaton
+-- the edges of a copy after one more edge of the automaton
 one_edge : (n : ℕ) (copy : TermCopy) (e : LabelledEdge) (b : Bool) → map (edge_in n copy) (cond b (e ∷ []) []) ≡ cond b (edge_in n copy e ∷ []) []
 one_edge n copy e true = refl
 one_edge n copy e false = refl

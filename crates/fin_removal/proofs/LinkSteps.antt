@@ -1,4 +1,4 @@
--- Links that are added one by one, and the lists for which they stand.
+-- The loops that add links one by one, and the edges that these links are.
 use Rattle.std.proofs.Common.{◌≡◌, ◌∙◌, ◌+◌, ◌<◌, List, [], ◌∷◌, ◌++◌, All, ap, map, subst, sym}
 use Rattle.std.proofs.lemmas.List.{append_assoc, map-append}
 use Rattle.std.proofs.lemmas.List.Elements.{All-push}

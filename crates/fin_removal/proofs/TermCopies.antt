@@ -67,7 +67,7 @@ sets_within ts few = omega (arith, few_sets ts, few_literals ts few)
 pub terms_within : (ts : List (List Literal)) → count ts ≤ MOST_TERMS → length ts ≤ 1024
 terms_within ts few = omega arith
 
--- the numbers of the copies can be told
+-- the numbers of the copies fit in 32 bits
 numbered_from : (n number first : ℕ) (ts : List (List Literal)) → (number + length ts) * n < 2 ^ 32 → first + sum_by sets_of ts < 2 ^ 32 → All (IsCopyInRange n) (copies_from number first ts)
 numbered_from n number first [] states sets = All-nil (IsCopyInRange n)
 numbered_from n number first (t ∷ ts) states sets =

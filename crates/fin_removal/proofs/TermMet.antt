@@ -26,7 +26,7 @@ met_fin cycle (Fin set false) e = refl
 met_fin cycle (Fin set true) e = refl
 met_fin cycle (Inf set neg) e = cc
 
--- some edge meets the literals at this place
+-- some edge meets the literal of this index
 pub record Passes (literals : List Literal) (place : ℕ) (cycle : List (List ℕ)) : Type 0 where
   pub marks : List ℕ
   pub there : Contains cycle marks
@@ -42,7 +42,7 @@ meets_there literals place l marks at = ap (λ o. option_map_or (meets marks) o 
 meets_past : (literals : List Literal) (place : ℕ) (marks : List ℕ) → length literals ≤ place → meets_at literals place marks ≡ true
 meets_past literals place marks past = ap (λ o. option_map_or (meets marks) o true) (slice_get_past literals place past)
 
--- where each literal of the list is met by some edge, each place is
+-- where each literal of the list is met by some edge, so is each index
 pub passes_each : (literals : List Literal) (cycle : List (List ℕ)) → 0 < length cycle → ((l : Literal) → Contains literals l → list_any (λ marks. meets marks l) cycle ≡ true) → (place : ℕ)
     → Passes literals place cycle
 passes_each literals cycle some each place = elim (cases_lt place (length literals)) [
@@ -61,7 +61,7 @@ each_passed literals cycle passed l there =
     let at : slice_get literals place ≡ Some l = slice_get-get_or literals place l there.1 ∙ ap Some there.2 in
     any_from (λ marks. meets marks l) cycle found.marks found.there (sym (meets_there literals place l found.marks at) ∙ found.meets)
 
--- a term that is met, seen from its copy
+-- where a cycle meets a term, all its edges are allowed in the term's copy, and each of the copy's literals is met
 pub term_met : (cycle : List (List ℕ)) (term : List Literal) (copy : TermCopy) → 0 < length cycle → copy.fins ≡ fins term → copy.infs ≡ infs term
     → list_all (λ l. met cycle (literal_formula l)) term ≡ true → IsMetIn copy cycle
 term_met cycle term copy some is_fins is_infs holds = record {

@@ -1,5 +1,6 @@
--- An automaton without Fin: beside the automaton itself stands a copy of it for each term of its condition. A run moves
--- into a copy when it will meet the term's Fin literals for ever, and is there held to them.
+-- Removal of Fin, by a copy of the automaton for each term of its condition in disjunctive normal form. The automaton
+-- itself, without marks, is the main copy. A run moves from it into the copy of a term at any edge; that copy has only the
+-- edges that meet the term's Fin literals.
 use Rattle.std.specs.Prelude.{ℕ, ◌+◌, ◌*◌, ◌^◌, ◌<◌, ◌≤◌, Bool, false, if◌then◌else◌, List, [], ◌∷◌, ◌++◌, length, map, filter, flat_map}
 use Rattle.std.specs.List.{list_all, range_with_len, sum_by}
 use Rattle.aut_base.specs.Automaton.{Automaton, LabelledEdge}
@@ -11,11 +12,11 @@ use Rattle.acc_forms.specs.declared.literal.Literal.TheVariants.{Inf}
 use Rattle.fin_removal.specs.Meeting.{fins, infs, meets, meets_at, literal_places}
 use Rattle.fin_removal.specs.declared.term_copy.TermCopy.{TermCopy}
 
--- the copy for a term, under a name that other crates can use
+-- the type of the copy for a term, under a name that other crates can use
 abbrev pub CopyOfTerm : Type 0
 CopyOfTerm = TermCopy
 
--- how many sets a term owns
+-- how many acceptance sets the copy of a term owns
 abbrev pub sets_of : List Literal → ℕ
 sets_of term = literal_places (infs term)
 
@@ -44,11 +45,11 @@ enter n e copy = record { from = e.from; label = e.label; to = state_in n copy.n
 abbrev pub main_edges : ℕ → List TermCopy → LabelledEdge → List LabelledEdge
 main_edges n copies e = stay e ∷ map (enter n e) copies
 
--- the copy has edges with these marks: they meet every Fin literal of its term
+-- whether the copy has an edge with these marks: whether these meet every Fin literal of its term
 abbrev pub allows : TermCopy → List ℕ → Bool
 allows copy marks = list_all (meets marks) copy.fins
 
--- The copy's sets for an edge that had these marks: the set of each Inf literal that it meets, or the only set of a
+-- The marks that an edge with these marks has in the copy: the set of each Inf literal that it meets, or the one set of a
 -- term without Inf literals.
 abbrev pub marks_in : TermCopy → List ℕ → List ℕ
 marks_in copy marks = map (λ place. copy.first + place) (filter (λ place. meets_at copy.infs place marks) (range_with_len 0 (literal_places copy.infs)))
@@ -83,11 +84,11 @@ copied a = record {
 abbrev pub without_fin : Automaton → Automaton
 without_fin a = if has_fin a.formula then copied a else a
 
--- the terms are too many to be listed
+-- the condition has more terms than may be listed
 abbrev pub HasTooManyTerms : Automaton → Type 0
 HasTooManyTerms a = MOST_TERMS < count (terms a.formula)
 
--- The copies can be numbered, where the terms are listed at all. A caller knows it from the number of states and of what
--- the terms count, which is no less than the number of terms.
+-- Where the terms are listed at all, the states of the copies can be numbered by 32 bits. A caller knows it from the number
+-- of states and `count`, which is no less than the number of terms.
 abbrev pub CopiesFit : Automaton → Type 0
 CopiesFit a = count (terms a.formula) ≤ MOST_TERMS → (copied a).states < 2 ^ 32

@@ -23,10 +23,11 @@ infs term = filter is_inf term
 abbrev pub fins : List Literal → List Literal
 fins term = filter (λ literal. not (is_inf literal)) term
 
--- How many places a run passes to meet each of these literals once: one for each, and one where there is none.
+-- How many edges a run waits for, one after the other, to meet each of these literals once: one for each literal, and one
+-- where there is none.
 abbrev pub literal_places : List Literal → ℕ
 literal_places literals = max 1 (length literals)
 
--- whether an edge with these marks meets the literal at this place; where there is none, each edge does
+-- whether an edge with these marks meets the literal of this index; where there is no such literal, each edge does
 abbrev pub meets_at : List Literal → ℕ → List ℕ → Bool
 meets_at literals place marks = option_map_or (meets marks) (slice_get literals place) true

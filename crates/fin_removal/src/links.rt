@@ -47,7 +47,7 @@ fn push_main_copy(
     Ok(())
 }
 
-/// Adds what stands for one edge in the main copy: the edge, and one into each other copy.
+/// Adds the edges of the main copy that one edge of the automaton becomes: the edge itself, and one into each other copy.
 fn push_main(
     alloc: Global,
     links: &mut Links,
@@ -66,7 +66,7 @@ fn push_main(
     Ok(())
 }
 
-/// Adds the link without its marks and with another end.
+/// Adds the link without its marks, leading to the state `to`.
 fn push_unmarked(alloc: Global, links: &mut Links, link: &Link, to: u32) -> Result<(), Memory>
     ensures { OnOk result (links.new ≡ links.old ++ record link.now { to = to; marks = [] } ∷ []) }
 {
@@ -115,7 +115,7 @@ fn push_copy(alloc: Global, links: &mut Links, a: &Automaton, copy: &TermCopy) -
     Ok(())
 }
 
-/// The copy's sets for an edge that had these marks.
+/// The marks that an edge with these marks has in the copy.
 fn marks_in(alloc: Global, copy: &TermCopy, marks: &Marks) -> Result<Marks, Memory>
     requires { copy.now.first + literal_places copy.now.infs < 2 ^ 32 }
     ensures { IfOk result (λ found. found ≡ marks_in copy.now marks.now) }

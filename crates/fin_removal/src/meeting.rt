@@ -18,7 +18,7 @@ fn meets(literal: Literal, marks: &Marks) -> bool
     }
 }
 
-/// Whether an edge with these marks meets the literal at this place of the list. Where there is no literal, each edge does.
+/// Whether an edge with these marks meets the literal of this index. Where there is no such literal, each edge does.
 pub fn meets_at(literals: &Literals, place: usize, marks: &Marks) -> bool
     ensures { result ≡ meets_at literals.now place marks.now }
 {

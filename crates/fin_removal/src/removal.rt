@@ -52,7 +52,7 @@ pub fn remove_fin(alloc: Global, a: &Automaton) -> Result<Automaton, FormFault>
     copies(alloc, a)
 }
 
-/// The same with the terms at hand.
+/// As `copies`, given the terms of the condition.
 fn make_copies(alloc: Global, a: &Automaton, listed: &Terms) -> Result<Automaton, Memory>
     requires terms { listed.now ≡ terms a.now.formula }
     requires few { count listed.now ≤ MOST_TERMS }

@@ -35,7 +35,7 @@ impl TermCopy {
         self.infs.len().max(1) as u32
     }
 
-    /// Inf of each of them.
+    /// Inf of each set that the copy owns.
     fn owned(&self, alloc: Global) -> Result<Literals, Memory>
         requires { self.now.first + literal_places self.now.infs < 2 ^ 32 }
         ensures { IfOk result (λ sets. sets ≡ owned self.now) }
@@ -93,7 +93,7 @@ pub fn owned_sets(alloc: Global, terms: &Terms) -> Result<Terms, Memory>
     sets_owned(alloc, &copies)
 }
 
-/// The same of copies.
+/// For each copy, Inf of each set that it owns.
 pub(crate) fn sets_owned(alloc: Global, copies: &TermCopies) -> Result<Terms, Memory>
     requires { All (λ copy. copy.first + literal_places copy.infs < 2 ^ 32) copies.now }
     ensures { IfOk result (λ sets. sets ≡ map owned copies.now) }

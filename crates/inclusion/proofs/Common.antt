@@ -1,4 +1,4 @@
--- What is found in a product, and what none or a word says of inclusion.
+-- A word of a product is one of both automata; what a word of an automaton and a complement, or none, says of inclusion.
 use Rattle.std.proofs.Common.{◌↔◌, ℕ, Bool, List, Option, Some, None, inl, inr, ap, subst}
 use Rattle.std.specs.Prelude.{◌++◌, All, IsTrue, MatchOption}
 use Rattle.aut_base.specs.Acceptance.{Accepts}
@@ -14,7 +14,7 @@ use Rattle.parity_laws.specs.Complement.{AreComplementLanguages}
 use Rattle.word_syntax.specs.Matching.{AcceptTogether}
 use Rattle.word_syntax.specs.Printing.{HoldsOnly}
 
--- what is found of a product is found of both
+-- the answer of a search in the product, as an answer on both automata
 pub of_both : (a b made : Automaton) (found : Option Lasso) → IsProductOf a b made → AcceptsBoth made a b → MatchOption found (AcceptsNothing made) (IsAcceptedWord made) →
     MatchOption found (AcceptNoneTogether a b) (IsWordOfBoth a b)
 of_both a b made None is accepts nothing = λ word. nothing word.stem word.cycle ((accepts word.stem word.cycle).1 (word.first, word.second))

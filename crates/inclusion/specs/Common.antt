@@ -1,4 +1,4 @@
--- What two automata accept in common.
+-- Lasso words that two automata both accept.
 use Rattle.std.specs.Prelude.{◌++◌, All}
 use Rattle.aut_base.specs.Acceptance.{Accepts}
 use Rattle.aut_base.specs.Automaton.{Automaton}

@@ -1,18 +1,18 @@
-//! What a word that two automata accept, or none, says where one is the complement of a third.
+//! Laws: language inclusion and equivalence by way of complements.
 
 ghost use Rattle.inclusion.specs.Laws.{IncludedWhereNone, NotIncludedWhereWord, SameWhereNoneTwice};
 
-/// An automaton accepts no word together with a complement exactly where it accepts only what the other accepts.
+/// An automaton and a complement of another accept no word in common exactly where the first is included in the other.
 pub fn included_where_none()
     ensures { IncludedWhereNone }
 {}
 
-/// A word of an automaton and a complement is accepted by the one and not by the other.
+/// A word that an automaton and a complement of another both accept is accepted by the first and not by the other.
 pub fn not_included_where_word()
     ensures { NotIncludedWhereWord }
 {}
 
-/// Two automata accept the same exactly where neither accepts a word together with the other's complement.
+/// Two automata are language equivalent exactly where neither accepts a word in common with a complement of the other.
 pub fn same_where_none_twice()
     ensures { SameWhereNoneTwice }
 {}

@@ -1,5 +1,5 @@
-//! A lasso word that two automata accept, or that there is none, and what that says of inclusion where the second is a
-//! complement.
+//! Search for a lasso word that two automata both accept; where the second is a complement, that is a test of language
+//! inclusion.
 //!
 //! A caller sees `accept_together`, `counterexample` and laws. What they answer is defined in `specs/Common`.
 #![tactic(auto)]

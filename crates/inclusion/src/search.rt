@@ -1,4 +1,4 @@
-//! Whether two automata accept a word in common, and one.
+//! Whether two automata accept a lasso word in common, and the search for one.
 
 ghost use Rattle.std.specs.Prelude.{◌+◌, ◌<◌, ◌≤◌, ◌^◌, ◌↔◌, IfOk, IsTrue, IsErrOf, MatchOption, OnOk, length};
 ghost use Rattle.aut_base.specs.declared.limit.TheConstants.{MOST_NAMES, MOST_PAIRS};

@@ -1,4 +1,5 @@
--- The byte at a place of the generated text. It stands in the first bytes of a part, its number or its last bytes.
+-- The byte at a place of the generated text. It is one of the bytes of a part before its number, of its number, or after
+-- its number.
 use Rattle.std.proofs.Common.{◌≡◌, ℕ, ◌+◌, ◌-◌, ◌<◌, ◌≤◌, List, ◌++◌, Some, length, slice_get, arith, ◌∙◌, length-append}
 use Rattle.std.specs.Fmt.{decimal}
 use Rattle.std.specs.List.{slice_index_or}
@@ -21,7 +22,7 @@ length-part_text ring state p =
     let behind_number = length-append number (part_back ring p) in
     omega arith
 
--- The place is behind these first bytes of its part, which this number of so many digits follows.
+-- The place is after these first bytes of its part, which are followed by this number with `digits` digits.
 pub record IsBehindFront (p : Place) (front : List ℕ) (number digits : ℕ) : Type 0 where
   pub front_is : front ≡ part_front p.part
   pub number_is : number ≡ part_number p.ring p.state p.part

@@ -1,4 +1,4 @@
--- The digits of a number in decimal, from its last digit to the front.
+-- The decimal digits of a number, from the last one to the first.
 use Rattle.std.proofs.Common.{◌≡◌, ℕ, ◌+◌, ◌-◌, ◌/◌, ◌%◌, ◌^◌, ◌<◌, ◌≤◌, [], ◌∷◌, Some, length, slice_get, arith, ap, ◌∙◌, refl, inl, inr, length-append}
 use Rattle.std.proofs.lemmas.Bool.{cases_lt}
 use Rattle.std.specs.Fmt.{decimal}
@@ -8,7 +8,7 @@ use Rattle.aut_base.proofs.lists.Lists.{slice_get-append_left, slice_get-push_la
 pub length-decimal_digit : (n : ℕ) → n < 10 → length (decimal n) ≡ 1
 length-decimal_digit n small = ap length (decimal_digit n small)
 
--- one digit more than the number without its last digit
+-- a number from 10 on has one digit more than the number without its last digit
 pub length-decimal_more : (n : ℕ) → 10 ≤ n → n < 2 ^ 64 → length (decimal n) ≡ length (decimal (n / 10)) + 1
 length-decimal_more n large fits =
     ap length (decimal_step n large fits) ∙ length-append (decimal (n / 10)) ((48 + n % 10) ∷ [])

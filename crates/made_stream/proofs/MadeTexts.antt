@@ -1,4 +1,4 @@
--- The text under a name, where only the generated text is there.
+-- The text of a name, where the generated text is the only one.
 use Rattle.std.proofs.Common.{◌≡◌, ℕ, true, false, List, [], ◌∷◌, refl}
 use Rattle.std.specs.Cmp.Lexicographic.{nat_list_cmp_total, texts_ties}
 use Rattle.std.specs.FinMap.{get-from_entries}

@@ -35,7 +35,7 @@ last_text ring state = rw (decimal_digit 0 (lit< tt)) (last_lines (ring % 2 == 1
 regrouped : (a b c d : List ℕ) → a ++ (b ++ (c ++ d)) ≡ ((a ++ b) ++ c) ++ d
 regrouped a b c d = sym (append_assoc a b (c ++ d)) ∙ sym (append_assoc (a ++ b) c d)
 
--- the line of a state, and what stands behind it
+-- the line of a state, and the rest of the ring after it
 states :
     (ring state more : ℕ) → state + more + 1 ≡ ring →
     ring_part_text ring state part.State ++ behind_state ring state more
@@ -73,7 +73,7 @@ ring_by_parts ring some =
     let e : ring - 1 - 0 ≡ ring - 1 = omega arith in
     rw e (head_lines ring _ ∙ ap (with_head ring) (states ring 0 (ring - 1) (omega arith)))
 
--- behind a ring the next one stands, and nothing behind the last
+-- after a ring comes the next one, and nothing after the last
 pub no_ring_behind : (count ring : ℕ) → count ≤ ring → rings_behind count ring ≡ []
 unfolding rings_behind
 no_ring_behind count ring last = let e : count - ring ≡ 0 = omega arith in rw e refl
@@ -83,12 +83,12 @@ pub ring_behind :
 unfolding rings_behind
 ring_behind count ring before = let e : count - ring ≡ suc (count - (ring + 1)) = omega arith in rw e refl
 
--- the whole text is the first ring and all behind it
+-- the whole text is the first ring and all rings after it
 pub all_rings : (count : ℕ) → 0 < count → ring_text 1 ++ rings_behind count 1 ≡ made_text count
 unfolding rings_behind
 all_rings count some = let e : count - 0 ≡ count = omega arith in sym (ring_behind count 0 some) ∙ rw e refl
 
--- which part stands behind which
+-- which part comes after which
 pub state_behind :
     (ring state : ℕ) (p : Part) → (p ≡ part.Head) ⊎ (p ≡ part.Edge) →
     behind_part ring state p ≡ ring_part_text ring state part.State ++ behind_part ring state part.State
@@ -112,21 +112,21 @@ last_behind ring state p is last =
     let e : ring - 1 - state ≡ 0 = omega arith in
     rw (is, e) (sym (append-nil _))
 
--- behind the last part only other rings are left
+-- after the last part of a ring only other rings are left
 pub rings_left :
     (count ring state : ℕ) (p : Part) → p ≡ part.Last →
     rings_behind count ring ≡ behind_part ring state p ++ rings_behind count ring
 unfolding behind_part
 rings_left count ring state p is = rw is refl
 
--- what is left where a part is behind another
+-- the text that is left where one part comes after another
 pub part_behind :
     (left part others rings : List ℕ) {behind : List ℕ} → left ≡ part ++ (others ++ rings) → behind ≡ part ++ others →
     left ≡ behind ++ rings
 part_behind left part others rings is joins =
     is ∙ sym (append_assoc part others rings) ∙ ap (λ t. t ++ rings) (sym joins)
 
--- the first byte of what is left of a part, and what stands behind it
+-- the first byte of what is left of a part, and the bytes after it
 pub first_byte :
     (text tail : List ℕ) (given byte : ℕ) → slice_get text given ≡ Some byte →
     slice_get (drop given text ++ tail) 0 ≡ Some byte

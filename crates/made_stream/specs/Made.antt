@@ -1,5 +1,5 @@
--- The generated text: automata over one name, each a ring of states with one edge from every state to the one behind it
--- and one from the last state to the first.
+-- The generated text: automata over one name, each a ring of states with one edge from every state to the next one and one
+-- from the last state to the first.
 use Rattle.std.specs.Prelude.{ℕ, ◌+◌, ◌-◌, ◌%◌, ◌==◌, if◌then◌else◌, List, [], ◌∷◌, ◌++◌, codes, flat_map, Some}
 use Rattle.std.specs.FinMap.{from_entries}
 use Rattle.std.specs.Fmt.{decimal}
@@ -11,11 +11,12 @@ use Rattle.aut_io.specs.Seen.{Seen}
 abbrev pub line : List ℕ → List ℕ
 line bytes = bytes ++ 10 ∷ []
 
--- a state, and the edge to the state behind it
+-- a state, and the edge to the next one
 abbrev pub state_on : ℕ → List ℕ
 state_on state = line (codes "State: " ++ decimal state) ++ line (codes "[0] " ++ decimal (state + 1))
 
--- Only a ring of an odd number of states has a mark: it accepts where `a` always holds. The others accept nothing.
+-- Only a ring with an odd number of states has a mark: it accepts the words in which `a` always holds. The others accept
+-- nothing.
 abbrev pub mark : ℕ → List ℕ
 mark ring = if ring % 2 == 1 then codes " {0}" else []
 
@@ -23,7 +24,7 @@ mark ring = if ring % 2 == 1 then codes " {0}" else []
 abbrev pub state_back : ℕ → List ℕ
 state_back ring = line (codes "State: " ++ decimal (ring - 1)) ++ line (codes "[0] 0" ++ mark ring)
 
--- the automaton of so many states, of which there is at least one
+-- the automaton with so many states, at least one
 abbrev pub ring_text : ℕ → List ℕ
 ring_text ring =
     line (codes "HOA: v1") ++ (line (codes "States: " ++ decimal ring) ++ (line (codes "Start: 0")
@@ -42,12 +43,13 @@ made_name = codes "made"
 abbrev pub made_texts : ℕ → Texts
 made_texts count = from_entries ((made_name, made_text count) ∷ [])
 
--- what callers see: how many automata the text has, the rest of the open text, and how many times one was opened
+-- the state that callers see: how many automata the text has, the rest of the open text, and how many times a text was
+-- opened
 pub record MadeState : Type 0 where
   pub count : ℕ
   pub left : List ℕ
   pub openings : ℕ
 
--- what the generated text tells: its calls never fail
+-- what contracts of inputs see of it: no call fails
 abbrev pub seen_of_made : MadeState → Seen
 seen_of_made m = record { texts = Some (made_texts m.count); left = Some m.left; openings = m.openings; open_faults = 0; read_faults = 0 }

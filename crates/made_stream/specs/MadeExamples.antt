@@ -1,4 +1,4 @@
--- The generated text as one sees it by eye.
+-- The generated text of the first two rings, byte for byte.
 use Rattle.std.specs.Prelude.{◌≡◌, ◌++◌, codes}
 use Rattle.made_stream.specs.Made.{made_text, ring_text}
 use Rattle.made_stream.specs.declared.made.TheConstants.{MOST_MADE}

@@ -1,3 +1,3 @@
--- Definitions that only inner functions speak in.
+-- Definitions that only the contracts of private functions use.
 pub mod Left
 pub mod Parts

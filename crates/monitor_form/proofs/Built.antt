@@ -51,7 +51,7 @@ module _ (b : SymbolicAutomaton) (core : IsWellFormedSymbolic b) (s : Store) (ke
       formula = always j;
     }
 
--- the start fits
+-- the store has what classes of the set of the starts are made from
 pub start_fits : (b : SymbolicAutomaton) (s : Store) (set : List ℕ) → s ≡ b.store → set ≡ start_set (automaton_of b) → FitsStore b s set
 start_fits b s set e f = record {
   states = subst (All (λ q. q < b.states)) (sym f) (each_there (λ q. q < b.states) (start_set (automaton_of b)) (λ q there.

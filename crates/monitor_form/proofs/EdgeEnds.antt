@@ -1,4 +1,4 @@
--- The goals of a set are the states to which edges that are read lead, in rising order.
+-- The successors of a set are the targets of its edges that are true at the valuation, in rising order.
 use Rattle.std.proofs.Common.{◌≡◌, ◌<◌, ◌==◌, ◌&&◌, ℕ, Bool, true, Contains, List, eq-eqb}
 use Rattle.std.proofs.Common.{filter, refl, subst, sym}
 use Rattle.std.proofs.lemmas.Bool.{and_from, and_parts, eqb-true}
@@ -18,7 +18,7 @@ use Rattle.monitor_form.specs.Subsets.{successor_set, is_goal, start_set}
 abbrev end_of : LabelledEdge → ℕ
 end_of e = e.to
 
--- in rising order they are the goals
+-- the targets in rising order are the successors of the set
 module _ (c : SymbolicAutomaton) (core : IsWellFormedSymbolic c) (v : List Bool) (set ends found : List ℕ) (rises : IsStrictlyIncreasing found) (keeps : (q : ℕ) → Contains ends q → Contains found q)
     (adds_none : (q : ℕ) → Contains found q → Contains ends q) where
   abbrev a : Automaton

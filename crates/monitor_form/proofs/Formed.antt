@@ -27,7 +27,7 @@ use Rattle.std.specs.Cmp.Lexicographic.{bytes_decides, pointwise}
 use Rattle.std.specs.Prelude.{nat_eq}
 use Rattle.monitor_form.specs.Subsets.{IsExploredFrom, IsSubsetForm}
 
--- steps that give a set
+-- the set that a step gives
 
 abbrev given : List ℕ → StepOutcome (List ℕ) → List ℕ
 given d (Successor qs) = qs
@@ -53,7 +53,7 @@ module _ (b : Automaton) (formed : IsWellFormed b) where
   abbrev n : ℕ
   n = length b.names
 
-  -- the goals of a class are those of each letter in it
+  -- the successors for a class are those at each letter in it
   module _ (states : List ℕ) (v : List Bool) (x : NameSet) (alike : are_alike (set_labels b states) (holds_in v) (holds_at b.names x) ≡ true) where
     same_label : (e : LabelledEdge) → Contains (set_edges b states) e → truth (holds_in v) e.label ≡ truth (holds_at b.names x) e.label
     same_label e there = alike_each (set_labels b states) (holds_in v) (holds_at b.names x) alike e.label (there_map (λ (d : LabelledEdge). d.label) (set_edges b states) e there)

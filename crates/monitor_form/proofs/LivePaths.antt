@@ -1,5 +1,5 @@
--- Why the states of a pruned automaton are live: the searches' walks are paths, since each label that isn't false is true
--- at some letter.
+-- Why the states of a pruned automaton are live: walks in the graph are paths over words, since each label that isn't false
+-- is true at some letter.
 use Rattle.std.proofs.Common.{◌≡◌, ◌∙◌, ◌<◌, ◌&&◌, ℕ, Bool, true, false, not, List, [], ◌∷◌, Contains, ap, arith, length, map, refl, subst, sym}
 use Rattle.std.proofs.lemmas.Bool.{and_from, and_parts, or_left}
 use Rattle.std.proofs.lemmas.List.Elements.{All-contains}
@@ -26,7 +26,7 @@ module _ (a : Automaton) (formed : IsWellFormed a) (flags : List Bool) (are : Ar
   abbrev made : Automaton
   made = between flags a
 
-  -- a letter that the edge allows
+  -- a letter that meets the edge
   record Allowed (e : LabelledEdge) : Type 0 where
     letter : NameSet
     holds : truth (holds_at a.names letter) e.label ≡ true

@@ -82,7 +82,7 @@ accepts_prefixes a form pruned made first second formed condition is_pruned well
 pub form_deterministic : (b made : Automaton) → IsWellFormed b → IsSubsetForm b made → IsDeterministic made
 form_deterministic b made well is = (formed_of b made well is).deterministic
 
--- the monitor, from what its steps say
+-- the monitor, from the promises of the calls that make it
 pub monitor_of : (a form pruned made : Automaton) → form ≡ buchi a → IsPruned form pruned → IsSubsetForm pruned made → IsMonitorAutomaton a made
 monitor_of a form pruned made same is_pruned is = record { pruned = pruned; is_pruned = subst (λ (b : Automaton). IsPruned b pruned) same is_pruned; is = is }
 

@@ -1,4 +1,4 @@
--- Why a monitor accepts the words of which no finite part is ruled out.
+-- Why a monitor accepts just the words each of whose prefixes is a prefix of some accepted word.
 use Rattle.std.proofs.Common.{◌≡◌, ◌∙◌, ◌<◌, ◌≤◌, ℕ, zero, suc, List, [], ◌∷◌, ◌++◌, Contains, ap, arith, inl, inr, length, map, refl, subst, sym}
 use Rattle.std.proofs.lemmas.List.{append-nil, length-append}
 use Rattle.aut_base.proofs.lists.Lists.{slice_get-append_left}
@@ -28,7 +28,7 @@ some_sets [] q there = absurd (none_there q there)
 some_sets (set ∷ sets) q there = omega arith
 
 module _ (b m : Automaton) (sets : List (List ℕ)) (is : TracksSubsets b m sets) where
-  -- the place has a set, with a state, and all its states are live
+  -- the set of this index isn't empty, and all its states are live
   record Good (i : ℕ) : Type 0 where
     below : i < length sets
     some : ℕ

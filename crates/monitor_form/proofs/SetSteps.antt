@@ -20,7 +20,7 @@ pub system_keeps : (c : SymbolicAutomaton) (s t : Store) → Keeps s t
     (IsClassGuard c t)
 system_keeps c s t keeps = record { moves = refl; fits = fits_kept c s t keeps; is_class = class_kept c s t keeps }
 
--- what is asked of the edges that are read is asked of a shorter list
+-- a test of the edges that pass another is a test of the filtered list
 any_read : (p reads : LabelledEdge → Bool) (es : List LabelledEdge) → list_any (λ e. p e && reads e) es ≡ list_any p (filter reads es)
 any_read p reads [] = refl
 any_read p reads (e ∷ es) = ap (λ b. (p e && reads e) || b) (any_read p reads es) ∙ by_cases (reads e)
@@ -37,7 +37,7 @@ any_read p reads (e ∷ es) = ap (λ b. (p e && reads e) || b) (any_read p reads
         and_false true = refl
         and_false false = refl
 
--- valuations that read the same edges have the same goals
+-- valuations at which the same edges are true have the same successors
 same_goals : (b : Automaton) (set : List ℕ) (v w : List Bool) → filter (λ e. truth_on e.label w) (set_edges b set) ≡ filter (λ e. truth_on e.label v) (set_edges b set)
     → successor_set b set w ≡ successor_set b set v
 same_goals b set v w same = λ i. filter (λ q. goal q i) (range_with_len 0 b.states)

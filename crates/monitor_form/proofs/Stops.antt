@@ -1,4 +1,4 @@
--- A path over copies of a list, by the states that it is in after each.
+-- A path over copies of a list of letters, by the state that it is in after each copy.
 use Rattle.std.proofs.Common.{◌≡◌, ◌∙◌, ◌+◌, ◌-◌, ◌<◌, ◌≤◌, ℕ, zero, suc, List, [], ◌++◌, ap, arith, refl, subst, sym}
 use Rattle.aut_base.proofs.runs.Paths.{path_join, path_split}
 use Rattle.aut_base.specs.Acceptance.{IsPath}
@@ -73,7 +73,7 @@ loop_between a v k p s i d some within same =
       returns = subst (λ q. IsPath a (s.at i) (copies d v) round.way q) (sym same) round.leads;
     }
 
--- more copies than there are states
+-- a path over at least as many copies as there are states has a loop
 pub loop_of : (a : Automaton) (v : List NameSet) (n p : ℕ) (s : Stops a v n p) → ((i : ℕ) → i ≤ n → s.at i < n) → Loop a v p
 loop_of a v n p s below =
     let again = pigeons n s.at (suc n) (omega arith) (λ i within. below i (omega (arith, within))) in

@@ -11,7 +11,7 @@ buchi_fault form.Terms = fault.Terms
 buchi_fault form.BuchiStates = fault.BuchiStates
 buchi_fault form.Memory = fault.Memory
 
--- of an exploration in which no step fails, so that there is nothing to say of `StepFailed`
+-- the fault of the exploration; since no step of it fails, the case of `StepFailed` never occurs
 abbrev pub exploration_fault : Fault → MonFault
 exploration_fault limit.Classes = fault.Classes
 exploration_fault limit.States = fault.Subsets

@@ -1,4 +1,4 @@
--- Automata over sets of states, which go on as long as some accepted word is left.
+-- Live states, subset constructions by the list of their sets of states, and the laws of monitors on the language of these.
 use Rattle.std.specs.Prelude.{◌≡◌, ◌↔◌, ℕ, ◌<◌, false, true, List, [], ◌∷◌, Contains, length, map}
 use Rattle.std.specs.List.{slice_index_or}
 use Rattle.aut_base.specs.Acceptance.{IsPath}
@@ -21,12 +21,12 @@ pub record IsLive (b : Automaton) (q : ℕ) : Type 0 where
   pub returns : IsPath b state round cycle state
   pub meets : met (map (λ e. e.marks) cycle) b.formula ≡ true
 
--- this is so of each start, and of each state that an edge leads to
+-- each start is live, and so is each state that an edge leads to
 pub record AreLive (b : Automaton) : Type 0 where
   pub starts : (s : ℕ) → Contains b.starts s → IsLive b s
   pub ends : (e : LabelledEdge) → Contains b.edges e → IsLive b e.to
 
--- an edge leads from a state of the set to this one, and allows the letter
+-- an edge that the letter meets leads from a state of the set to this one
 pub record IsGoal (b : Automaton) (set : List ℕ) (x : NameSet) (q : ℕ) : Type 0 where
   pub edge : LabelledEdge
   pub there : Contains b.edges edge
@@ -34,31 +34,31 @@ pub record IsGoal (b : Automaton) (set : List ℕ) (x : NameSet) (q : ℕ) : Typ
   pub allowed : truth (holds_at b.names x) edge.label ≡ true
   pub to : edge.to ≡ q
 
--- the set at a place of a list of sets
+-- the set of this index
 abbrev pub set_at : List (List ℕ) → ℕ → List ℕ
 set_at sets i = slice_index_or sets i []
 
--- the set at place j is that of the goals from the set at place i, and isn't empty
+-- set j has the successors of set i at the letter, and isn't empty
 pub record IsMove (b : Automaton) (sets : List (List ℕ)) (x : NameSet) (i j : ℕ) : Type 0 where
   pub below : j < length sets
   pub goals : (q : ℕ) → Contains (set_at sets j) q ↔ IsGoal b (set_at sets i) x q
   pub some : ℕ
   pub there : Contains (set_at sets j) some
 
--- an edge from this place allows the letter
+-- the letter meets an edge from state i
 pub record HasEdge (m : Automaton) (i : ℕ) (x : NameSet) : Type 0 where
   pub edge : LabelledEdge
   pub there : Contains m.edges edge
   pub from : edge.from ≡ i
   pub allowed : truth (holds_at m.names x) edge.label ≡ true
 
--- place 0, if there is a state to start in
+-- state 0, if there is a start
 abbrev pub first_places : List ℕ → List ℕ
 first_places [] = []
 first_places (s ∷ ss) = 0 ∷ []
 
--- The states of m are the places of the list of sets, and its run is in the set of all states that b can be in. It is stuck
--- where that set is empty.
+-- m is a subset construction of b: its states are the indices of the list of sets, and after a prefix it is in the set of
+-- all states that b can be in. It has no edge where that set is empty.
 pub record TracksSubsets (b m : Automaton) (sets : List (List ℕ)) : Type 0 where
   pub starts : m.starts ≡ first_places b.starts
   pub first : (q : ℕ) → Contains (set_at sets 0) q ↔ Contains b.starts q
@@ -66,10 +66,11 @@ pub record TracksSubsets (b m : Automaton) (sets : List (List ℕ)) : Type 0 whe
   pub total : (i : ℕ) (x : NameSet) (q : ℕ) → i < length sets → IsGoal b (set_at sets i) x q → HasEdge m i x
   pub formula : m.formula ≡ FormulaTree.True
 
--- Over an automaton whose states are live, such an automaton accepts the words of which no finite part is ruled out.
+-- The subset construction of an automaton whose states are live accepts just the words each of whose prefixes is a prefix
+-- of some accepted word.
 abbrev pub MonitorAccepts : Type 0
 MonitorAccepts = (b m : Automaton) (sets : List (List ℕ)) → AreLive b → TracksSubsets b m sets → AcceptsPrefixes m b
 
--- Pruning leaves states that are live.
+-- The states of a pruned automaton are live.
 abbrev pub PrunedAreLive : Type 0
 PrunedAreLive = (a made : Automaton) → IsWellFormed a → a.formula ≡ Inf 0 false → IsPruned a made → AreLive made

@@ -1,5 +1,5 @@
--- The subset construction, as a system that is explored: its states are sets of states, as lists of numbers in rising order,
--- and classes are those of the letters that the edges from a set tell apart.
+-- The subset construction, as a transition system that is explored: its states are sets of states, as lists of numbers in
+-- rising order, and its classes are those of the letters that the edges from a set don't tell apart.
 use Rattle.std.specs.Prelude.{◌≡◌, ◌≤◌, ℕ, ◌<◌, ◌==◌, ◌&&◌, Bool, List, [], ◌∷◌, Option, None, Some, filter, length, map, nat_eq, slice_get}
 use Rattle.std.specs.Cmp.Lexicographic.{pointwise}
 use Rattle.std.specs.List.{list_any, range_with_len}
@@ -17,7 +17,7 @@ use Rattle.letter_classes.specs.ClassForms.{class_edge}
 use Rattle.letter_classes.specs.SetClasses.{set_classes, set_edges}
 use Rattle.monitor_form.specs.Monitors.{first_places, set_at}
 
--- an edge leads from the set to this state where `reads` says that it does
+-- some edge of the list leads to this state and passes the test `reads`
 abbrev pub is_goal : (LabelledEdge → Bool) → List LabelledEdge → ℕ → Bool
 is_goal reads es q = list_any (λ e. (e.to == q) && reads e) es
 
@@ -41,15 +41,15 @@ subset_moves b = record { count = λ set. length (set_classes b set); step = λ 
 abbrev pub start_set : Automaton → List ℕ
 start_set b = filter (λ q. list_any (λ s. s == q) b.starts) (range_with_len 0 b.states)
 
--- the exploration of what the set of the starts reaches
+-- the exploration of the sets, with its limits
 abbrev pub subset_rules : Automaton → Rules (List ℕ)
 subset_rules b = record { same = pointwise nat_eq; moves = subset_moves b; max_states = MOST_SUBSETS; max_classes = MOST_CLASSES }
 
--- the edge between the places of two sets, under its class
+-- the edge between the indices of two sets, with the label of its class
 abbrev pub monitor_edge : Automaton → List (List ℕ) → Transition → LabelledEdge
 monitor_edge b sets = class_edge b (set_at sets) (λ place v. [])
 
--- the automaton whose states are the places of these sets, without acceptance sets
+-- the automaton whose states are the indices of these sets, without acceptance sets
 abbrev pub monitor_on : List (List ℕ) → List Transition → Automaton → Automaton
 monitor_on sets transitions b = record {
   names = b.names;
@@ -90,7 +90,7 @@ pub record MeetsLimit (a : Automaton) (f : Fault) : Type 0 where
   pub is_pruned : IsPruned (buchi a) pruned
   pub meets : MeetsSubsetLimit pruned f
 
--- Of each automaton the subset construction makes at most one automaton, or meets at most one limit first, and never both.
+-- The subset construction of an automaton makes at most one automaton, or meets at most one limit first, and never both.
 pub record SubsetLaw (b : Automaton) : Type 0 where
   pub one : (made other : Automaton) → IsSubsetForm b made → IsSubsetForm b other → made ≡ other
   pub limit : (f g : Fault) → MeetsSubsetLimit b f → MeetsSubsetLimit b g → f ≡ g
@@ -103,7 +103,7 @@ SubsetFormIsDetermined = (b : Automaton) → SubsetLaw b
 abbrev pub MonitorIsDetermined : Type 0
 MonitorIsDetermined = (a made other : Automaton) → IsMonitorAutomaton a made → IsMonitorAutomaton a other → made ≡ other
 
--- Where there is a monitor no limit is met, and one that is met is the only one.
+-- Where there is a monitor no limit is met, and at most one limit is met.
 pub record MonitorLimitsExclude (a : Automaton) : Type 0 where
   pub monitors : (made : Automaton) (f : Fault) → IsMonitorAutomaton a made → MeetsLimit a f → ⊥
   pub others : (f g : Fault) → MeetsLimit a f → MeetsLimit a g → f ≡ g
@@ -111,8 +111,8 @@ pub record MonitorLimitsExclude (a : Automaton) : Type 0 where
 abbrev pub MonitorExcludesLimits : Type 0
 MonitorExcludesLimits = (a : Automaton) → MonitorLimitsExclude a
 
--- An automaton whose Büchi form has no more states than it may, and whose subset construction meets neither limit, can't lack
--- a monitor.
+-- An automaton whose Büchi form has no more states than it may, and whose subset construction meets neither limit, has a
+-- monitor (said by double negation).
 abbrev pub MonitorExists : Type 0
 MonitorExists = (a : Automaton) → buchi_states a ≤ MOST_BUCHI_STATES → (MeetsLimit a limit.Classes → ⊥) → (MeetsLimit a limit.States → ⊥)
     → ((made : Automaton) → IsMonitorAutomaton a made → ⊥) → ⊥

@@ -17,7 +17,7 @@ pub enum MonFault {
     Terms,
     /// The Büchi form would have too many states.
     BuchiStates,
-    /// The sets that were taken in hand have more classes of letters together than `aut_base::MOST_CLASSES`.
+    /// The sets that were expanded have more classes of letters together than `aut_base::MOST_CLASSES`.
     Classes,
     /// More sets of states are reached than `aut_base::MOST_SUBSETS`.
     Subsets,
@@ -45,7 +45,7 @@ impl From<BuchiFault> for MonFault {
     }
 }
 
-/// The limit that an exploration met in which no step fails.
+/// The limit that the exploration met. No step of it fails, so it isn't `StepFailed`.
 pub(crate) fn limit_met(fault: Fault) -> MonFault
     requires { fault ≢ Fault.StepFailed }
     ensures { result ≡ exploration_fault fault }

@@ -30,11 +30,11 @@ use std::alloc::Global;
 
 /// The monitor: a deterministic automaton without acceptance sets, which accepts just the words whose first n letters, for
 /// every n, are those of some word that `a` accepts. Its states are the sets of states that the Büchi form, pruned, can be
-/// in, in the order in which they are met; one without starts has none. The letters that the edges from a set don't tell
-/// apart have one edge, which is left out where it would lead to the empty set.
+/// in, in the order in which they are met; an automaton without starts has none. The letters that the edges from a set
+/// don't tell apart have one edge, which is left out where it would lead to the empty set.
 ///
-/// Refused as `Terms` or `BuchiStates` where `degeneralise::to_buchi` refuses. Then as `Classes` where the sets taken in
-/// hand have more than `aut_base::MOST_CLASSES` classes of letters together, or as `Subsets` where a set is new and
+/// Refused as `Terms` or `BuchiStates` where `degeneralise::to_buchi` refuses. Then as `Classes` where the sets that are
+/// expanded have more than `aut_base::MOST_CLASSES` classes of letters together, or as `Subsets` where a set is new and
 /// `aut_base::MOST_SUBSETS` are listed, whichever is met first.
 pub fn monitor(alloc: Global, a: &Automaton) -> Result<Automaton, MonFault>
     ensures accepts { IfOk result (λ made. AcceptsPrefixes (automaton_of made) (automaton_of a.now)) }
@@ -59,7 +59,7 @@ pub fn monitor(alloc: Global, a: &Automaton) -> Result<Automaton, MonFault>
     subset_form(alloc, &pruned)
 }
 
-/// The subset construction of this automaton.
+/// The subset construction of the automaton.
 fn subset_form(alloc: Global, b: &Automaton) -> Result<Automaton, MonFault>
     ensures shape { IfOk result (λ made. IsSubsetForm (automaton_of b.now) (automaton_of made)) }
     ensures states { IfOk result (λ made. made.states ≤ MOST_SUBSETS) }
@@ -106,7 +106,7 @@ fn without_states(alloc: Global, b: &Automaton) -> Result<Automaton, Memory>
     )
 }
 
-/// The automaton of the sets and edges that were found.
+/// The automaton whose states are the sets that were found, with the edges that were found.
 fn built(
     alloc: Global,
     b: &Automaton,

@@ -1,15 +1,15 @@
-//! What holds of monitors.
+//! Laws of monitors.
 
 ghost use Rattle.monitor_form.specs.Monitors.{MonitorAccepts, PrunedAreLive};
 ghost use Rattle.monitor_form.specs.Subsets.{MonitorExcludesLimits, MonitorExists, MonitorIsDetermined, SubsetFormIsDetermined};
 
-/// Over an automaton whose states are live, the automaton over the sets of states that it can be in accepts just the words of
-/// which no finite part is ruled out.
+/// The subset construction of an automaton whose states are live accepts just the words each of whose prefixes is a prefix
+/// of some accepted word.
 pub fn monitor_accepts()
     ensures { MonitorAccepts }
 {}
 
-/// From each state of a pruned automaton some accepted word can be read.
+/// The states of a pruned automaton are live: from each of them some lasso word is accepted.
 pub fn pruned_are_live()
     ensures { PrunedAreLive }
 {}
@@ -24,7 +24,7 @@ pub fn monitor_is_determined()
     ensures { MonitorIsDetermined }
 {}
 
-/// Where there is a monitor no limit is met, and one that is met is the only one.
+/// Where there is a monitor no limit is met, and at most one limit is met.
 pub fn monitor_excludes_limits()
     ensures { MonitorExcludesLimits }
 {}

@@ -1,4 +1,4 @@
-//! Monitors: the deterministic automata of the words of which no finite part is ruled out.
+//! Monitors: deterministic automata for the safety closure, the words each of whose prefixes is a prefix of some accepted word.
 //!
 //! A caller sees `monitor`. Its language is defined in `specs/Prefixes`, its shape and its limits in `specs/Subsets`.
 #![tactic(auto)]

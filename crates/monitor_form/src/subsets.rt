@@ -1,4 +1,4 @@
-//! The sets of states of an automaton, as a system that is explored.
+//! The subset construction as a transition system that is explored.
 
 ghost use Rattle.std.specs.Prelude.{◌≡◌};
 
@@ -10,8 +10,8 @@ use label_guards::Guard;
 use letter_classes::{ClassStore, classes_of_set};
 use std::alloc::Global;
 
-/// The sets of states of an automaton, as lists of numbers in rising order, and a store that has its guards and those of the
-/// classes that were asked for.
+/// The transition system: its states are the sets of states of an automaton, as lists of numbers in rising order. The store
+/// has the guards of the automaton and of the classes that were computed.
 #[derive(Drop)]
 pub(crate) struct Subsets<'a> {
     pub(crate) automaton: &'a Automaton,

@@ -88,7 +88,7 @@ module _ (b : SymbolicAutomaton) (core : IsWellFormedSymbolic b) (s : Store) (ke
   pub few_sets : most ≤ MOST_NODES
   few_sets = few_nodes (automaton_of b) trees (map transition_of edges) is
 
-  -- the same in figures
+  -- the bound as a number
   pub few_found : most ≤ 100
   few_found = few_sets
 

@@ -1,4 +1,4 @@
--- The dual of a condition speaks of the same sets.
+-- The dual of a condition has the same sets.
 use Rattle.std.proofs.Common.{ℕ}
 use Rattle.acc_forms.specs.Dual.{dual, duals}
 use Rattle.aut_base.specs.Formula.{And, EachSetsBelow, False, Fin, FormulaTree, FormulaTrees, Inf, Or, SetsBelow, True, more, none}

@@ -1,4 +1,4 @@
--- The moves of the edges from a set of states go between states of the automaton.
+-- The moves of the edges from a set of states have states of the automaton as their ends.
 use Rattle.std.proofs.Common.{◌==◌, ℕ, All, Bool, List, filter}
 use Rattle.std.proofs.Common.{subst}
 use Rattle.std.proofs.lemmas.List.Elements.{All-contains}

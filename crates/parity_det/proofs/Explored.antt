@@ -30,7 +30,7 @@ use Rattle.safra_trees.specs.Step.{IsTree}
 use Rattle.safra_trees.specs.Trees.{Node, holds, root_states}
 use Rattle.safra_trees.specs.declared.moves.Move as moves
 
--- ---- what a step gives
+-- ---- the result of a step
 
 abbrev gift : List Node → StepOutcome (List Node) → List Node
 gift d (Successor t) = t
@@ -66,7 +66,7 @@ large_fails t many = by_cases (leb (length t) MOST_NODES) refl
     by_cases true small = (let few = leb-true (length t) MOST_NODES small in absurd (omega (arith, few, many)))
     by_cases false large = refl
 
--- a step that gives a tree is that of some class
+-- a step with a successor is the step for some class
 pub record StepGiven (b : Automaton) (t : List Node) (o : Option (List Bool)) (y : List Node) : Type 0 where
   pub valuation : List Bool
   pub at : o ≡ Some valuation
@@ -79,7 +79,7 @@ step_given b t (Some v) y e =
     let given = given_small (next_tree b.states (class_moves b t v) t) y e in
     record { valuation = v; at = refl; is = given.0; few = subst (λ (x : List Node). length x ≤ MOST_NODES) given.0 given.1 }
 
--- ---- moves of a class, and of a letter in it
+-- ---- the moves of a class are those of each letter in it
 
 root_there : (t : List Node) (s : ℕ) → holds t 0 s ≡ true → Contains (root_states t) s
 root_there t s h = let found = any_found (λ x. x == s) (root_states t) h in subst (Contains (root_states t)) (eqb-true found.0 s found.2) found.1

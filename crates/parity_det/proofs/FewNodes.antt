@@ -26,7 +26,7 @@ use Rattle.safra_trees.specs.Step.{grown, pruned, rank}
 use Rattle.safra_trees.specs.Trees.{Node, has, holds, root_states}
 use Rattle.safra_trees.specs.declared.moves.Move as moves
 
--- some move leads to what a tree holds after a step
+-- each state that a tree holds after a step is the target of some move
 record Moved (ms : List moves.Move) (q : ℕ) : Type 0 where
   move : moves.Move
   there : Contains ms move
@@ -94,7 +94,7 @@ module _ (b : Automaton) (p : ℕ → Bool) (starts : (s : ℕ) → Contains b.s
       let reached = is.reached at.0 t at.1 in
       few_passing p b.states t (reached_tree b t reached) (leads_only reached.word (start_tree b) t first_only reached.leads))
 
--- the same of a pruned automaton, by its useful states
+-- the trees of a pruned automaton have at most as many nodes as there are useful states, or 1
 pub pruned_widths : (a b : Automaton) (is : IsPruned a b) (trees : List (List Node)) (transitions : List Transition) → IsExplored same_nodes (tree_moves b) (start_tree b) trees transitions
     → width trees ≤ max 1 (rank (is_flagged is.flags) a.states)
 pruned_widths a b is trees transitions found =

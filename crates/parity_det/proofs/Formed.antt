@@ -1,4 +1,4 @@
--- What is explored is a determinised automaton.
+-- An automaton that is made by the exploration of trees is a determinised one.
 use Rattle.std.proofs.Common.{◌≡◌, ◌∙◌, ◌<◌, ℕ, Bool, true, Contains, List, [], ◌∷◌, Some, ap, arith, inl, inr, length, refl, slice_get, subst, sym}
 use Rattle.std.proofs.lemmas.Bool.{cases_lt}
 use Rattle.std.proofs.lemmas.Option.{get_or_from_slice_get, slice_get-get_or, slice_get_within}

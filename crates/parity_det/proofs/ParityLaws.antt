@@ -1,4 +1,4 @@
--- What deterministic parity automata and complements accept, that they are determined, and which limits they meet.
+-- Deterministic parity automata and complements: their languages, that there is at most one, and which limits are met.
 use Rattle.std.proofs.Common.{◌≡◌, ◌∙◌, ◌<◌, ◌≤◌, List, Result, Ok, Err, IfOk, OnOk, ap, arith, false, refl, subst, sym}
 use Rattle.aut_base.specs.Automaton.{Automaton, IsWellFormed}
 use Rattle.aut_base.specs.Formula.{Inf}

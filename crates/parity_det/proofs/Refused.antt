@@ -1,4 +1,4 @@
--- What an exploration of trees that is refused says of the limit that it met.
+-- An exploration of trees that is refused meets the limit that it names, and meets it first.
 use Rattle.std.proofs.Common.{◌≡◌, List, inl, inr, refl, subst}
 use Rattle.aut_base.specs.Automaton.{Automaton}
 use Rattle.exploration.specs.Explorations.{IsFaultMet}

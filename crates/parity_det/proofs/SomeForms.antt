@@ -1,4 +1,4 @@
--- Where no limit is passed there is a parity automaton, and a complement.
+-- Where no limit is passed, there is a parity automaton and a complement.
 use Rattle.std.proofs.Common.{◌≡◌, ◌≤◌, List, inl, inr, refl}
 use Rattle.std.proofs.lemmas.Bool.{cases_lt}
 use Rattle.aut_base.specs.Automaton.{Automaton}

@@ -36,7 +36,7 @@ class_taken c core s t k g fits is set root number meets taken e =
     e ∙ (ap (λ qs. moves_of (reads_at c number) (set_edges (automaton_of c) qs)) root
     ∙ ap (map move_of) (number_edges c core s (root_states t) k g fits is c.store.names number refl meets))
 
--- a system whose store has grown
+-- the transition system after its store has grown
 pub system_keeps : (c : SymbolicAutomaton) (s t : Store) → Keeps s t → same.KeepsSystem (tree_moves (automaton_of c)) (tree_moves (automaton_of c)) (λ x. FitsStore c s (root_states x))
     (λ x. FitsStore c t (root_states x))
     (λ x k g. IsClassGuard c s (root_states x) k g) (λ x k g. IsClassGuard c t (root_states x) k g)
@@ -64,7 +64,7 @@ module _ (c : SymbolicAutomaton) (core : IsWellFormedSymbolic c) (s : Store) (t 
       let same : is.valuation ≡ v = same_Some is.valuation v (sym is.at ∙ at) in
       told ∙ (ap (λ ms. event_of c.states ms t) moves_are ∙ ap (λ w. event_of c.states (class_moves a t w) t) same)
 
--- where the step is refused for its nodes, the move fails
+-- where a step is refused for the number of nodes, the step of the exploration fails
 pub step_refused : {T X : Type 0} (N : Type 0) (seen : T → X) (m : StepOutcome X) (came : TreeFault) (told : StepFault) → told ≡ step_fault came → (came ≡ tree.Nodes → m ≡ StepFailed)
     → IsStepAnswer {N = N} seen m (Err told)
 step_refused N seen m tree.Nodes told e nodes = subst (λ (f : StepFault). IsStepAnswer {N = N} seen m (Err f)) (sym e) (nodes refl)

@@ -1,4 +1,4 @@
--- No tree that is found has more nodes than it may, and the parity condition speaks of its own sets alone.
+-- No tree that is found has more nodes than its limit, and the parity condition uses only the sets of the automaton.
 use Rattle.std.proofs.Common.{◌+◌, ◌-◌, ◌<◌, ◌≤◌, ℕ, suc, zero, All, Bool, true, false, cond, List, [], ◌∷◌, arith, length, slice_get, subst}
 use Rattle.std.specs.List.{list_any, range_with_len}
 use Rattle.acc_forms.specs.Parity.{is_odd, parity_atom, parity_from, parity_min_odd}

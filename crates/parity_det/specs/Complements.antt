@@ -1,4 +1,4 @@
--- The complement of an automaton: the dual condition on a complete deterministic automaton that accepts the same.
+-- The complement of an automaton: a complete deterministic automaton with the same language, under the dual condition.
 use Rattle.std.specs.Prelude.{◌≡◌, ◌<◌, ◌≤◌}
 use Rattle.aut_base.specs.Automaton.{Automaton}
 use Rattle.aut_base.specs.declared.limit.TheConstants.{MOST_BUCHI_STATES}
@@ -11,19 +11,19 @@ use Rattle.parity_det.specs.declared.fault.CompFault.{CompFault}
 use Rattle.parity_det.specs.declared.fault.CompFault.TheVariants as fault
 use Rattle.parity_laws.specs.Complement.{dualised}
 
--- The automaton made is a, made complete, where a is deterministic, and else its parity automaton.
+-- The automaton made is the completion of a where a is deterministic, and else its parity automaton.
 pub data IsDeterministicForm (a made : Automaton) : Type 0 where
   by_completion : IsDeterministic a → made ≡ completed a → IsDeterministicForm a made
   by_determinisation : (IsDeterministic a → ⊥) → IsParityAutomatonOf a made → IsDeterministicForm a made
 
--- The automaton made is the complement of a. Laws: there is at most one, and of each lasso word exactly one of both accepts
--- it.
+-- The automaton made is the complement of a. Laws: there is at most one, and each lasso word is accepted by exactly one of
+-- the two.
 pub record IsComplementAutomaton (a made : Automaton) : Type 0 where
   pub form : Automaton
   pub is_form : IsDeterministicForm a form
   pub is : made ≡ dualised form
 
--- a limit is the first that the parity automaton of a passes
+-- the limit that the construction of the parity automaton of a passes first
 abbrev pub PassesParity : CompFault → Automaton → Type 0
 PassesParity fault.Terms a = NeedsTooManyTerms a.formula
 PassesParity fault.BuchiStates a = (NeedsTooManyTerms a.formula → ⊥) × (MOST_BUCHI_STATES < buchi_states a)
@@ -32,7 +32,7 @@ PassesParity fault.Nodes a = (NeedsTooManyTerms a.formula → ⊥) × MeetsParit
 PassesParity fault.Classes a = (NeedsTooManyTerms a.formula → ⊥) × MeetsParityLimit a limit.Classes
 PassesParity fault.Memory a = ⊥
 
--- it passes none
+-- the construction of the parity automaton of a passes no limit
 abbrev pub IsWithinParity : Automaton → Type 0
 IsWithinParity a = (f : CompFault) → PassesParity f a → ⊥
 
@@ -50,7 +50,7 @@ IsRefusal a f = (IsDeterministic a → ⊥) × PassesParity f a
 abbrev pub ComplementIsDetermined : Type 0
 ComplementIsDetermined = (a made other : Automaton) → IsComplementAutomaton a made → IsComplementAutomaton a other → made ≡ other
 
--- An automaton passes at most one limit, and where it has a parity automaton none.
+-- An automaton passes at most one limit, and none where it has a parity automaton and its Büchi form is within the limits.
 pub record ParityLimitsExclude (a : Automaton) : Type 0 where
   pub made : (made : Automaton) → IsParityAutomatonOf a made → buchi_states a ≤ MOST_BUCHI_STATES → (NeedsTooManyTerms a.formula → ⊥) → IsWithinParity a
   pub one : (f g : CompFault) → PassesParity f a → PassesParity g a → f ≡ g
@@ -58,10 +58,10 @@ pub record ParityLimitsExclude (a : Automaton) : Type 0 where
 abbrev pub ParityExcludesLimits : Type 0
 ParityExcludesLimits = (a : Automaton) → ParityLimitsExclude a
 
--- An automaton that passes no limit can't lack a parity automaton,
+-- An automaton that passes no limit has a parity automaton (said by double negation),
 abbrev pub ParityExists : Type 0
 ParityExists = (a : Automaton) → IsWithinParity a → ((made : Automaton) → IsParityAutomatonOf a made → ⊥) → ⊥
 
--- and one that is deterministic or passes none can't lack a complement.
+-- and one that is deterministic or passes no limit has a complement.
 abbrev pub ComplementExists : Type 0
 ComplementExists = (a : Automaton) → ((IsDeterministic a → ⊥) → IsWithinParity a) → ((made : Automaton) → IsComplementAutomaton a made → ⊥) → ⊥

@@ -1,4 +1,4 @@
--- Faults of what a construction is made of, as its own.
+-- Faults of tree steps, the exploration, the Büchi form and determinisation, as faults of the call above each.
 use Rattle.degeneralise.specs.declared.fault.BuchiFault.{BuchiFault}
 use Rattle.degeneralise.specs.declared.fault.BuchiFault.TheVariants as form
 use Rattle.exploration.specs.declared.fault.Fault.{Fault}

@@ -18,8 +18,8 @@ use aut_core::Automaton;
 use aut_ops::complete;
 use std::alloc::Global;
 
-/// The complement: an automaton that accepts just the words that this one doesn't. A deterministic one is made complete,
-/// and its condition dualised. Of any other it is the parity automaton under the dual condition, and refused where `parity`
+/// The complement: an automaton that accepts just the words that this one doesn't. A deterministic automaton is completed,
+/// and its condition dualised. For any other it is the parity automaton with the dual condition, and refused where `parity`
 /// refuses.
 pub fn complement(alloc: Global, a: &Automaton) -> Result<Automaton, CompFault>
     requires states { IsDeterministic (automaton_of a.now) → (completed (automaton_of a.now)).states < 2 ^ 32 }
@@ -39,7 +39,8 @@ pub fn complement(alloc: Global, a: &Automaton) -> Result<Automaton, CompFault>
     Ok(own.with_formula(formula))
 }
 
-/// A complete deterministic automaton that accepts the same: a deterministic one made complete, else the parity automaton.
+/// A complete deterministic automaton with the same language: of a deterministic automaton its completion, else its parity
+/// automaton.
 fn deterministic_form(alloc: Global, a: &Automaton) -> Result<Automaton, CompFault>
     requires states { IsDeterministic (automaton_of a.now) → (completed (automaton_of a.now)).states < 2 ^ 32 }
     requires sets { IsDeterministic (automaton_of a.now) → (completed (automaton_of a.now)).sets < 2 ^ 32 }

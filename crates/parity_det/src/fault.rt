@@ -1,4 +1,4 @@
-//! Why there is no deterministic automaton.
+//! Why an automaton was not determinised or complemented.
 
 ghost use Rattle.std.specs.Prelude.{◌≡◌};
 ghost use Rattle.parity_det.specs.Faults.{fault_of_buchi, fault_of_det, fault_of_exploration, step_fault};
@@ -17,7 +17,7 @@ pub enum DetFault {
     Trees,
     /// A tree that is reached has more nodes than `aut_base::MOST_NODES`.
     Nodes,
-    /// The trees that were taken in hand have more classes of letters together than `aut_base::MOST_CLASSES`.
+    /// The trees that were expanded have more classes of letters together than `aut_base::MOST_CLASSES`.
     Classes,
     /// Want of memory.
     Memory,
@@ -34,7 +34,7 @@ pub enum CompFault {
     Trees,
     /// A tree that is reached has more nodes than `aut_base::MOST_NODES`.
     Nodes,
-    /// The trees that were taken in hand have more classes of letters together than `aut_base::MOST_CLASSES`.
+    /// The trees that were expanded have more classes of letters together than `aut_base::MOST_CLASSES`.
     Classes,
     /// Want of memory.
     Memory,
@@ -94,7 +94,7 @@ impl From<DetFault> for CompFault {
     }
 }
 
-/// Why the exploration can't go on behind a step that was not taken.
+/// The fault of a step of a tree, as one of a step of the exploration.
 pub(crate) fn step_fault(fault: TreeFault) -> StepFault
     ensures { result ≡ step_fault fault }
 {

@@ -35,13 +35,14 @@ use letter_classes::{ClassStore, class_form};
 use safra_trees::{Event, Moves, SafraTree, Scratch, start};
 use std::alloc::Global;
 
-/// The deterministic automaton of a Büchi automaton. Its states are the compact Safra trees that the automaton, pruned,
-/// leads to, in the order in which they are met. The letters that the edges from the root's states don't tell apart have
-/// one edge, whose one mark is the priority of the step: the least of 2f for the names f that went and 2g + 1 for the names
-/// g that gave up their children, or 2N. There are 2N + 1 sets, where N is the greatest number of nodes, or 1, and the
-/// least set that is met again and again has to be odd.
+/// Determinises a Büchi automaton. The states are the compact Safra trees that are reached from the starts of the
+/// automaton, pruned, in the order in which they are met. The letters that the edges from the root's states don't tell
+/// apart have one edge, whose one mark is the priority of the step: the least of 2f for the red names f, whose nodes are
+/// removed, and 2g + 1 for the green names g, whose children are merged into them, or 2N without either. There are 2N + 1
+/// sets, where N is the greatest number of nodes, at least 1, and the condition is parity min odd: the least set that a run
+/// is in again and again has to be odd.
 ///
-/// Refused as the first of these that is met: `Classes` where the trees taken in hand have more than
+/// Refused as the first of these that is met: `Classes` where the trees that are expanded have more than
 /// `aut_base::MOST_CLASSES` classes of letters together, `Nodes` where a step's tree has more than `aut_base::MOST_NODES`
 /// nodes, `Trees` where a step's tree is new and `aut_base::MOST_TREES` are listed.
 pub fn determinise(alloc: Global, b: &Automaton) -> Result<Automaton, DetFault>
@@ -65,8 +66,8 @@ pub fn determinise(alloc: Global, b: &Automaton) -> Result<Automaton, DetFault>
     tree_form(alloc, &pruned)
 }
 
-/// The deterministic automaton of an automaton: that of its Büchi form. Refused as `Terms` or `BuchiStates` where
-/// `degeneralise::to_buchi` refuses, and then as `determinise`.
+/// The deterministic parity automaton of an automaton: its Büchi form, determinised. Refused as `Terms` or `BuchiStates`
+/// where `degeneralise::to_buchi` refuses, and then as `determinise`.
 pub fn parity(alloc: Global, a: &Automaton) -> Result<Automaton, CompFault>
     ensures accepts { IfOk result (λ made. AcceptTheSame (automaton_of made) (automaton_of a.now)) }
     ensures shape { IfOk result (λ made. IsParityAutomatonOf (automaton_of a.now) (automaton_of made)) }
@@ -84,7 +85,7 @@ pub fn parity(alloc: Global, a: &Automaton) -> Result<Automaton, CompFault>
     Ok(determinise(alloc, &buchi)?)
 }
 
-/// The automaton of the trees that this one leads to.
+/// The automaton whose states are the trees that are reached from the tree of the starts.
 fn tree_form(alloc: Global, b: &Automaton) -> Result<Automaton, DetFault>
     ensures shape { IfOk result (λ made. IsTreeForm (automaton_of b.now) (automaton_of made)) }
     ensures names { IfOk result (λ made. made.names ≡ b.now.names) }
@@ -111,7 +112,7 @@ fn tree_form(alloc: Global, b: &Automaton) -> Result<Automaton, DetFault>
     Ok(built(alloc, b, system.guards.into_guards(), &found)?)
 }
 
-/// The automaton of the trees and edges that were found.
+/// The automaton whose states are the trees that were found, with the edges that were found.
 fn built(
     alloc: Global,
     b: &Automaton,

@@ -1,4 +1,4 @@
-//! What holds of deterministic parity automata and of complements.
+//! Laws of deterministic parity automata and of complements.
 
 ghost use Rattle.parity_det.specs.Complements.{ComplementExists, ComplementIsDetermined, ParityExcludesLimits, ParityExists};
 ghost use Rattle.parity_det.specs.Determinisation.{DeterminisationIsDetermined, ParityIsDetermined};
@@ -19,7 +19,8 @@ pub fn complement_is_determined()
     ensures { ComplementIsDetermined }
 {}
 
-/// An automaton passes at most one limit on the way to its parity automaton, and where there is one it passes none.
+/// An automaton passes at most one limit of the construction of its parity automaton, and none where it has a parity
+/// automaton and its Büchi form is within the limits.
 pub fn parity_excludes_limits()
     ensures { ParityExcludesLimits }
 {}
@@ -34,7 +35,8 @@ pub fn complement_exists()
     ensures { ComplementExists }
 {}
 
-/// The parity automaton of an automaton has no more sets than the useful states of its Büchi form ask for.
+/// The parity automaton of an automaton is deterministic and complete with a parity min odd condition, and has at most 2N +
+/// 1 sets, where N is the number of useful states of its Büchi form, or 1 if there are none.
 pub fn parity_has_few_sets()
     ensures { ParityHasFewSets }
 {}

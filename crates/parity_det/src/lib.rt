@@ -2,7 +2,7 @@
 //!
 //! A caller sees `determinise` and `parity`, whose states are the compact Safra trees that a Büchi automaton leads to
 //! (Safra 1988, Piterman 2007), and `complement`. What is made is defined in `specs/Determinisation` and
-//! `specs/Complements`, state by state; what it accepts is said in the words of acceptance alone.
+//! `specs/Complements`, state by state; its language is stated by the definition of acceptance alone.
 #![tactic(auto)]
 
 mod complements;

@@ -21,7 +21,7 @@ pub(crate) fn width(trees: &[SafraTree]) -> u32
     most
 }
 
-/// Marks by the events of steps, among trees with at most so many nodes.
+/// Marks from the events of steps, where trees have at most `most` nodes.
 #[derive(Drop)]
 pub(crate) struct EventMarks {
     pub(crate) most: u32,
@@ -44,7 +44,7 @@ impl Marking for EventMarks {
     }
 }
 
-/// The least of 2f for the least red f and 2g + 1 for the least green g, or twice the number of nodes where there is neither.
+/// The least of 2f for the least red f and 2g + 1 for the least green g, or twice `most` where there is neither.
 fn mark(event: Event, most: u32) -> u64
     ensures { result ≡ mark_of most event }
 {

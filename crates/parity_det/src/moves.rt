@@ -13,7 +13,7 @@ use letter_classes::{Taking, taken_at};
 use safra_trees::{Move, Moves};
 
 /// The moves from these states at the valuation of this number: the edges under labels that are true there, accepting where
-/// they are in set 0. They take the room of the list, whatever stood in it.
+/// they are in set 0. They replace the items of `list`, whose memory is used again.
 pub(crate) fn moves_at(
     list: Moves,
     a: &Automaton,
@@ -28,7 +28,7 @@ pub(crate) fn moves_at(
     taken_at::<EdgeMoves>(list, a, set, number)
 }
 
-/// The moves that edges allow.
+/// Of an edge, its move.
 struct EdgeMoves;
 
 impl Taking for EdgeMoves {

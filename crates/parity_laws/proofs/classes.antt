@@ -1,4 +1,4 @@
--- What explorations class by class give.
+-- Explorations class by class make determinised automata.
 pub mod Expanded
 pub mod Explored
 pub mod Guards

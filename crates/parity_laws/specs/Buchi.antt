@@ -7,7 +7,7 @@ use Rattle.aut_base.specs.Word.{NameSet}
 use Rattle.aut_core.specs.Deterministic.{is_met}
 use Rattle.safra_trees.specs.declared.moves.Move.{Move}
 
--- what is asked is that set 0 is met again and again
+-- the condition is `Inf(0)`, and starts and targets of edges are states
 pub record IsBuchiForm (b : Automaton) : Type 0 where
   pub formula : b.formula ≡ Inf 0 false
   pub starts : (s : ℕ) → Contains b.starts s → s < b.states

@@ -13,7 +13,7 @@ use Rattle.parity_laws.specs.Determinised.{TracksTrees}
 abbrev pub dualised : Automaton → Automaton
 dualised a = record a { formula = dual a.formula }
 
--- Of each lasso word exactly one of the two accepts it, and so the one accepts just what the other doesn't.
+-- Each lasso word is accepted by exactly one of the two automata.
 pub record AreComplementLanguages (a made : Automaton) : Type 0 where
   pub one : (u v : List NameSet) → 0 < length v → Accepts a u v ⊎ Accepts made u v
   pub never_both : (u v : List NameSet) → Accepts a u v → Accepts made u v → ⊥
@@ -23,10 +23,10 @@ pub record AreComplementLanguages (a made : Automaton) : Type 0 where
 abbrev pub DualIsComplement : Type 0
 DualIsComplement = (a : Automaton) → IsWellFormed a → IsDeterministic a → IsComplete a → AreComplementLanguages a (dualised a)
 
--- What accepts the same as an automaton has its complements.
+-- A complement of an automaton is a complement of every automaton with the same language.
 abbrev pub ComplementsOfTheSame : Type 0
 ComplementsOfTheSame = (a b made : Automaton) → ((u v : List NameSet) → Accepts b u v ↔ Accepts a u v) → AreComplementLanguages b made → AreComplementLanguages a made
 
--- So the dual condition on a determinised automaton gives the complement of what it was made of.
+-- So a determinised automaton with the dual condition is the complement of the Büchi automaton that it was made of.
 abbrev pub DeterminisedDualIsComplement : Type 0
 DeterminisedDualIsComplement = (b d : Automaton) (trees : List (List Node)) (most : ℕ) → IsBuchiForm b → TracksTrees b d trees most → AreComplementLanguages b (dualised d)

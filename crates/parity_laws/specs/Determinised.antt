@@ -20,8 +20,8 @@ pub record IsStepEdge (b : Automaton) (trees : List (List Node)) (most : ℕ) (x
   pub tree : tree_at trees e.to ≡ next_tree b.states (moves_at b x) (tree_at trees e.from)
   pub marks : e.marks ≡ priority b.states most (moves_at b x) (tree_at trees e.from) ∷ []
 
--- The states of d are places in a list of trees, of at most so many nodes each, the first one that of the starts. Each
--- letter meets exactly one edge of each state, and that edge is a step. The condition is parity min odd.
+-- The states of d are the indices of a list of trees with at most `most` nodes each, of which the first is that of the
+-- starts. Each letter meets exactly one edge of each state, and that edge is a step. The condition is parity min odd.
 pub record TracksTrees (b d : Automaton) (trees : List (List Node)) (most : ℕ) : Type 0 where
   pub states : d.states ≡ length trees
   pub starts : d.starts ≡ 0 ∷ []

@@ -45,7 +45,7 @@ determinised = record {
   formula = parity_min_odd 5;
 }
 
--- All that the laws ask is so of the example, and so what they say.
+-- The premises of the laws hold of the example, and so do their conclusions.
 pub record WorkedDeterminisation : Type 0 where
   pub buchi : IsBuchiForm finitely_often
   pub explored : IsTreeExploration finitely_often determinised its_trees 2

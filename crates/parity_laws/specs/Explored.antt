@@ -1,4 +1,5 @@
--- Determinisation class by class: letters at which the labels that matter have the same truths go one way.
+-- Determinisation class by class: one edge for all letters that the labels of the edges from the root's states don't tell
+-- apart.
 use Rattle.std.specs.Prelude.{◌≡◌, ◌+◌, ◌<◌, ◌≤◌, ◌&&◌, ℕ, Bool, List, [], ◌∷◌, Contains, filter, length, map, slice_index_or}
 use Rattle.std.specs.List.{range_with_len}
 use Rattle.aut_base.specs.Automaton.{Automaton, LabelledEdge}
@@ -22,12 +23,13 @@ root_labels b t = map (λ e. e.label) (filter (λ e. holds t 0 e.from) b.edges)
 abbrev pub root_moves : Automaton → List Node → (ℕ → Bool) → List Move
 root_moves b t on = map move_of (filter (λ e. holds t 0 e.from && truth on e.label) b.edges)
 
--- the edge of a state for a class: its label, where it leads, and the priority of the step under these moves
+-- the edge of a state for a class: it has the label of the class, and as its mark the priority of the step under these
+-- moves
 abbrev pub tree_class_edge : Automaton → List Node → ℕ → ℕ → LabelTree → ℕ → List Move → LabelledEdge
 tree_class_edge b t most i label to moves = record { from = i; label = label; to = to; marks = priority b.states most moves t ∷ [] }
 
--- The edges of state i of d: one for each class under the labels that matter, in the order of the classes. It leads to the
--- step of the state's tree under the moves of the class, which are read off at some valuation that meets it.
+-- The edges of state i of d: one for each class of valuations under the root's labels, in the order of the classes. It
+-- leads to the step of the state's tree under the moves of the class, which are those at some valuation in it.
 pub record IsExpanded (b d : Automaton) (trees : List (List Node)) (most i : ℕ) : Type 0 where
   pub classes : List LabelTree
   pub are : AreClassesOf (root_labels b (tree_at trees i)) classes
@@ -39,7 +41,8 @@ pub record IsExpanded (b d : Automaton) (trees : List (List Node)) (most i : ℕ
   pub edges : edges_from i d.edges
       ≡ map (λ k. tree_class_edge b (tree_at trees i) most i (slice_index_or classes k True) (to k) (root_moves b (tree_at trees i) (valuation k))) (range_with_len 0 (length classes))
 
--- The states of d are places in a list of trees, the first one that of the starts; each is expanded class by class.
+-- The states of d are the indices of a list of trees, of which the first is that of the starts; each state is expanded
+-- class by class.
 pub record IsTreeExploration (b d : Automaton) (trees : List (List Node)) (most : ℕ) : Type 0 where
   pub names : d.names ≡ b.names
   pub states : d.states ≡ length trees

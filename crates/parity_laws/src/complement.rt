@@ -2,12 +2,13 @@
 
 ghost use Rattle.parity_laws.specs.Complement.{ComplementsOfTheSame, DeterminisedDualIsComplement, DualIsComplement};
 
-/// Of a deterministic and complete automaton and the one with the dual condition exactly one accepts each lasso word.
+/// A deterministic and complete automaton with the dual condition accepts exactly the lasso words that the automaton
+/// doesn't.
 pub fn dual_is_complement()
     ensures { DualIsComplement }
 {}
 
-/// What accepts the same as an automaton has its complements.
+/// A complement of an automaton is a complement of every automaton with the same language.
 pub fn complements_of_the_same()
     ensures { ComplementsOfTheSame }
 {}

@@ -1,4 +1,4 @@
-//! A worked example, which meets what the laws ask.
+//! A worked example, to which the laws apply.
 
 ghost use Rattle.parity_laws.specs.Example.{WorkedDeterminisation};
 

@@ -1,6 +1,7 @@
-//! Laws of determinised automata (Safra 1988, Piterman 2007) over the repository's own acceptance, which no code runs.
+//! Laws of determinised automata (Safra 1988, Piterman 2007), by the definition of acceptance in `aut_base`. No code runs
+//! them.
 //!
-//! Each is the contract of a public function that does nothing else, and stands in `specs`.
+//! Each is the contract of a public function that does nothing else, and is defined in `specs`.
 #![tactic(auto)]
 
 mod complement;

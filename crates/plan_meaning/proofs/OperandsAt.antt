@@ -1,4 +1,4 @@
--- Operands at their places.
+-- Operands by their index.
 use Rattle.std.proofs.Common.{◌≡◌, ◌∙◌, ℕ, ◌<◌, List, All, Some, ap, arith, length, length-append, map, subst}
 use Rattle.std.specs.Prelude.{◌++◌}
 use Rattle.std.specs.List.{slice_index_or}
@@ -9,13 +9,13 @@ use Rattle.filter_plan.specs.Words.{file_list, operands}
 use Rattle.filter_plan.specs.declared.plan.Plan.{Plan}
 use Rattle.plan_meaning.specs.Operands.{IsOfReadSize, place_of_refuted}
 
--- the operand at a place is one of them
+-- the operand of an index has the size of an automaton that is read
 pub sized_at : (ops : List SymbolicAutomaton) (place : ℕ) (one : SymbolicAutomaton) → place < length ops → All IsOfReadSize (map automaton_of ops) → slice_index_or ops place one ≡ one
     → IsOfReadSize (automaton_of one)
 sized_at ops place one within sized there = subst IsOfReadSize (get_or-map automaton_of ops place one (automaton_of one) within ∙ ap automaton_of there)
     (sized place (automaton_of one) (omega (arith, within, length-map ops automaton_of)))
 
--- that of a refutation is there
+-- where there is a refutation, the index of its operand is within the list
 pub refuted_within : (p : Plan) (file : List ℕ) (ops : List SymbolicAutomaton) → length (map automaton_of ops) ≡ length (operands p) → refuted p.output ≡ Some file → place_of_refuted p < length ops
 refuted_within p file ops number is =
     let last = file_list (refuted p.output) in

@@ -1,4 +1,4 @@
--- Lists of what options ask for, each where it stands: as code has them, and as definitions do.
+-- The lists of items of options that are given, in code and in definitions.
 use Rattle.std.proofs.Common.{◌≡◌, ◌∙◌, ◌<◌, ◌+◌, ℕ, Bool, true, false, List, [], ◌∷◌, ◌++◌, Option, Some, None, ap, append_assoc, drop, get_or, length, map, refl, subst, sym, take}
 use Rattle.std.specs.Prelude.{IfSome, IsSomeAnd, MatchOption, filter_map}
 use Rattle.std.specs.Bool.{then_some}
@@ -10,12 +10,12 @@ use Rattle.plan_meaning.specs.Standing.{those_standing}
 
 -- ---- the list as far as a loop has come
 
--- one item more
+-- after one more item
 pub standing_up_to_next : {C S : Type 0} (spec : C → S) (xs : List (Option C)) (i : ℕ) (d o : Option C) → i < length xs → get_or xs i d ≡ o
     → filter_map (option_map spec) (take (i + 1) xs) ≡ filter_map (option_map spec) (take i xs) ++ filter_map (option_map spec) (o ∷ [])
 standing_up_to_next spec xs i d o lt is = ap (filter_map (option_map spec)) (take_more xs i d lt ∙ ap (λ x. take i xs ++ x ∷ []) is) ∙ filter_map-append (option_map spec) (take i xs) (o ∷ [])
 
--- what stands before an item, the item, and what stands behind it
+-- the list split at an item: the items before it, the item, and those after it
 pub parted : {C S : Type 0} (spec : C → S) (xs : List (Option C)) (i : ℕ) (d o : Option C) → i < length xs → get_or xs i d ≡ o → (f : C) → o ≡ Some f
     → filter_map (option_map spec) xs ≡ filter_map (option_map spec) (take i xs) ++ spec f ∷ filter_map (option_map spec) (drop (i + 1) xs)
 parted spec xs i d o lt is f some =
@@ -48,7 +48,7 @@ pub by_flag : {C S : Type 0} (spec : C → S) (asked : Bool) (f : C) (r : Option
 by_flag spec true f r is = ap (option_map spec) is
 by_flag spec false f r is = ap (option_map spec) is
 
--- ---- what holds of an item that stands
+-- ---- what holds of an item that is given
 
 -- by an option, where something is known of its value
 pub of_option : {B C : Type 0} (Q : B → Type 0) (P : C → Type 0) (wrap : B → C) → ((x : B) → Q x → P (wrap x)) → (o : Option B) (r : Option C)

@@ -34,7 +34,7 @@ use Rattle.plan_meaning.specs.Standing.{those_standing}
 use Rattle.plan_meaning.specs.declared.fault.PlanFault.{PlanFault}
 use Rattle.plan_meaning.specs.declared.fault.PlanFault.TheVariants as fault
 
--- a change, with what it combines automata with
+-- a change, with its operand, proposition or form
 pub data Change : Type 0 where
   Product : Automaton → Change
   ProductOr : Automaton → Change
@@ -47,7 +47,7 @@ pub data Change : Type 0 where
 
 -- ---- one change
 
--- the automaton under its condition in disjunctive form
+-- the automaton with its condition in disjunctive normal form
 abbrev pub in_disjunctive_form : Automaton → Automaton
 in_disjunctive_form a = record a { formula = of_terms (terms a.formula) }
 
@@ -71,7 +71,7 @@ Makes Complement a made = IsComplementAutomaton a made
 Makes (Bring f) a made = IsMadeInForm f a made
 Makes Complete a made = made ≡ completed a
 
--- a count of the change is the first that passes its limit
+-- the limit is the first that a count of the change passes
 abbrev pub PassesBuchi : Limit → Automaton → Type 0
 PassesBuchi limit.Terms a = NeedsTooManyTerms a.formula
 PassesBuchi limit.BuchiStates a = (NeedsTooManyTerms a.formula → ⊥) × (MOST_BUCHI_STATES < buchi_states a)
@@ -85,7 +85,7 @@ abbrev pub PassesDnf : Limit → Automaton → Type 0
 PassesDnf limit.Terms a = HasTooManyTerms a
 PassesDnf _ a = ⊥
 
--- those of the Büchi form, and then the first that its subset construction meets
+-- for a monitor: the limits of the Büchi form, and then the first limit that its subset construction meets
 abbrev pub PassesMonitor : Limit → Automaton → Type 0
 PassesMonitor limit.Terms a = PassesBuchi limit.Terms a
 PassesMonitor limit.BuchiStates a = PassesBuchi limit.BuchiStates a
@@ -134,12 +134,12 @@ limits_of_change Complete = []
 
 -- ---- the changes of a plan
 
--- the change into a form, where one is asked for
+-- the change into the form, if one is asked for
 abbrev pub form_change : Form → Option Change
 form_change form.AsIs = None
 form_change f = Some (Bring f)
 
--- the operations in the order in which they are made, each where its option stands,
+-- the operations in the order in which they are made, each if its option is given,
 abbrev pub operation_options : Plan → List Automaton → List (Option Change)
 operation_options p ops = option_map Product (operand_at p.product (place_of_product p) ops)
     ∷ option_map ProductOr (operand_at p.product_or (place_of_product_or p) ops)
@@ -149,7 +149,7 @@ operation_options p ops = option_map Product (operand_at p.product (place_of_pro
     ∷ then_some p.complement Complement
     ∷ []
 
--- and behind them the form and completion
+-- and after them the form and completion
 abbrev pub change_options : Plan → List Automaton → List (Option Change)
 change_options p ops = operation_options p ops ++ (form_change p.form ∷ then_some p.complete Complete ∷ [])
 
@@ -173,13 +173,13 @@ abbrev pub StopsIn : Limit → List Change → Automaton → Type 0
 StopsIn which [] a = ⊥
 StopsIn which (c ∷ cs) a = PassesIn which c a ⊎ ((next : Automaton) × MakesWithin c a next × StopsIn which cs next)
 
--- what each answer says
+-- what each answer of `change` means
 abbrev pub Changed : Result Automaton PlanFault → List Change → Automaton → Type 0
 Changed (Ok made) cs a = MakesAll cs a made
 Changed (Err (fault.Limit which)) cs a = StopsIn which cs a
 Changed (Err fault.Memory) cs a = Unit {0}
 
--- the same of an answer with an automaton under guards
+-- the same for an answer with a symbolic automaton
 abbrev pub ChangedTo : Result SymbolicAutomaton PlanFault → List Change → Automaton → Type 0
 ChangedTo result cs a = Changed (result_map_both automaton_of (λ fault. fault) result) cs a
 
@@ -196,7 +196,8 @@ pub record SomePrefix (says : List NameSet → List NameSet → Type 0) (u v : L
   pub said : says stem cycle
   pub same : (k : ℕ) → k < n → letter_at stem cycle k ≡ letter_at u v k
 
--- what a form makes of a language: a monitor has each word of which no finite part is ruled out
+-- what a form makes of a language: a monitor its safety closure, the words each of whose prefixes is a prefix of some word
+-- of it, and any other form the language itself
 abbrev pub said_in_form : Form → Language → Language
 said_in_form form.AsIs says u v = says u v
 said_in_form form.Deterministic says u v = says u v
@@ -206,8 +207,8 @@ said_in_form form.RemoveFin says u v = says u v
 said_in_form form.Dnf says u v = says u v
 said_in_form form.Monitor says u v = (n : ℕ) → SomePrefix says u v n
 
--- one change of a language: to what both accept, or to what one of the two accepts, or to that with a name hidden, or to the
--- words that it doesn't have
+-- what a change makes of a language: the intersection with that of the operand, the union with it, the language with a name
+-- hidden, its complement, what the form makes of it, or the language itself
 abbrev pub said_by : Change → Language → Language
 said_by (Product b) says u v = says u v × Accepts b u v
 said_by (ProductOr b) says u v = says u v ⊎ Accepts b u v
@@ -222,7 +223,7 @@ abbrev pub said_by_all : List Change → Language → Language
 said_by_all [] says = says
 said_by_all (c ∷ cs) says = said_by_all cs (said_by c says)
 
--- what the set operation of a plan says of a word: first whether the automaton accepts it, and then product, product-or, sum,
--- the hiding of a proposition, the complement and the form
+-- the language that a plan asks for: that of the automaton, changed by product, product-or, sum, the hiding of a
+-- proposition, the complement and the form
 abbrev pub set_operation : Plan → List Automaton → Automaton → Language
 set_operation p ops a = said_by_all (changes_of p ops) (λ u v. Accepts a u v)

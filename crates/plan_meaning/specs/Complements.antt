@@ -1,4 +1,4 @@
--- What is kept of complements, each of the operand of its option.
+-- The complements that are kept from one automaton to the next, each that of the operand of its option.
 use Rattle.std.specs.Prelude.{◌≡◌, ◌+◌, ◌*◌, ◌≤◌, List, Option, IfSome, is_some, true}
 use Rattle.aut_base.specs.Automaton.{Automaton}
 use Rattle.aut_base.specs.declared.limit.Limit.{Limit}
@@ -11,7 +11,7 @@ use Rattle.plan_meaning.specs.Limits.{PassesUnlessDeterministic}
 use Rattle.plan_meaning.specs.Operands.{operand_at, place_of_equivalent_to, place_of_included_in, refuted_operand}
 use Rattle.plan_meaning.specs.declared.complements.Complements.{Complements}
 
--- It is the complement of the automaton, which passes no limit on the way.
+-- `co` is the complement of `b`, whose construction passes no limit.
 pub record IsKeptComplement (b co : Automaton) : Type 0 where
   pub complements : AreComplementLanguages b co
   pub shape : IsComplementAutomaton b co
@@ -19,17 +19,17 @@ pub record IsKeptComplement (b co : Automaton) : Type 0 where
   pub sets : co.sets ≤ b.sets + (2 * MOST_NODES + 1)
   pub within : (which : Limit) → PassesUnlessDeterministic which b → ⊥
 
--- where something is kept it is the complement of this automaton
+-- if a complement is kept, it is that of this automaton
 abbrev pub KeepsComplement : Automaton → Option SymbolicAutomaton → Type 0
 KeepsComplement b kept = IfSome kept (λ co. IsKeptComplement b (automaton_of co))
 
--- What is kept for an option is the complement of its operand.
+-- If a complement is kept for an option, it is that of the option's operand.
 pub record AreComplementsKept (p : Plan) (ops : List Automaton) (cs : Complements) : Type 0 where
   pub included_in : IfSome (operand_at p.included_in place_of_included_in ops) (λ b. KeepsComplement b cs.included_in)
   pub equivalent_to : IfSome (operand_at p.equivalent_to (place_of_equivalent_to p) ops) (λ b. KeepsComplement b cs.equivalent_to)
   pub refuted : IfSome (refuted_operand p ops) (λ b. KeepsComplement b cs.refuted)
 
--- What was kept is kept still, and is the same.
+-- A complement that was kept before is kept unchanged.
 abbrev pub StaysKept : Option SymbolicAutomaton → Option SymbolicAutomaton → Type 0
 StaysKept old new = is_some old ≡ true → new ≡ old
 

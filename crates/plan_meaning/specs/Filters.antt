@@ -23,7 +23,7 @@ use Rattle.word_syntax.specs.Grammar.{WordPattern}
 use Rattle.word_syntax.specs.Matching.{AcceptTogether, AcceptsPattern}
 use Rattle.word_syntax.specs.Writing.{word_pattern}
 
--- a filter, with what it compares automata with
+-- a filter, with its operand, pattern or range
 pub data Filter : Type 0 where
   AcceptsWord : WordPattern → Filter
   RejectsWord : WordPattern → Filter
@@ -55,7 +55,7 @@ Holds (Edges r) a = IsInRange r (length a.edges)
 Holds (Sets r) a = IsInRange r a.sets
 Holds (Names r) a = IsInRange r (length a.names)
 
--- a count that the filter looks at is the first that passes its limit; labels are in canonical form
+-- the limit is the first that a count of the filter passes, on the automaton with canonical labels
 abbrev pub PassesLimitOf : Limit → Filter → Automaton → Type 0
 PassesLimitOf which (AcceptsWord p) a = PassesOfWord which (canonical a) p
 PassesLimitOf which (RejectsWord p) a = PassesOfWord which (canonical a) p
@@ -98,7 +98,7 @@ pub record LacksWithin (f : Filter) (a : Automaton) : Type 0 where
 
 -- ---- the filters of a plan
 
--- the filters in the order in which they are examined, each where its option stands
+-- the filters in the order in which they are examined, each if its option is given
 abbrev pub filter_options : Plan → List Automaton → List (Option Filter)
 filter_options p ops = option_map (λ pattern. AcceptsWord (word_pattern pattern)) p.accept_word
     ∷ option_map (λ pattern. RejectsWord (word_pattern pattern)) p.reject_word
@@ -156,11 +156,11 @@ IsKept p ops a = IsKeptBy p.invert (filters p ops) a
 abbrev pub IsDropped : Plan → List Automaton → Automaton → Type 0
 IsDropped p ops a = IsDroppedBy p.invert (filters p ops) a
 
--- no verdict is reached
+-- a filter passes a limit before a verdict is reached
 abbrev pub IsOverFilters : Limit → Plan → List Automaton → Automaton → Type 0
 IsOverFilters which p ops a = PassesAt which (filters p ops) a
 
--- what each answer to an automaton says
+-- what each answer of `judge` means
 abbrev pub Judged : Result Bool PlanFault → Plan → List Automaton → Automaton → Type 0
 Judged (Ok true) p ops a = IsKept p ops a
 Judged (Ok false) p ops a = IsDropped p ops a

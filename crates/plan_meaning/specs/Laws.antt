@@ -1,4 +1,5 @@
--- What the definitions amount to: a plan says one thing of each automaton.
+-- Laws of plans: there is one verdict on each automaton, the changes make one automaton or pass one limit, and only listed
+-- limits are passed.
 use Rattle.std.specs.Prelude.{◌≡◌, List, Contains}
 use Rattle.aut_base.specs.Automaton.{Automaton}
 use Rattle.aut_base.specs.declared.limit.Limit.{Limit}
@@ -18,11 +19,11 @@ IsVerdict Kept p ops a = IsKept p ops a
 IsVerdict Dropped p ops a = IsDropped p ops a
 IsVerdict (Over which) p ops a = IsOverFilters which p ops a
 
--- There is no more than one verdict,
+-- There is at most one verdict,
 abbrev pub VerdictIsOne : Type 0
 VerdictIsOne = (p : Plan) (ops : List Automaton) (a : Automaton) (v w : Verdict) → IsVerdict v p ops a → IsVerdict w p ops a → v ≡ w
 
--- and no automaton on which there is none.
+-- and there is one on each automaton (said by double negation).
 abbrev pub AVerdictExists : Type 0
 AVerdictExists = (p : Plan) (ops : List Automaton) (a : Automaton) → ((v : Verdict) → IsVerdict v p ops a → ⊥) → ⊥
 
@@ -36,7 +37,7 @@ pub record PassTheirOwn : Type 0 where
   pub change : (c : Change) (which : Limit) (a : Automaton) → PassesIn which c a → Contains (limits_of_change c) which
   pub inclusion : (which : Limit) (a b : Automaton) → PassesOfInclusion which a b → Contains limits_of_inclusion which
 
--- Changes make no more than one automaton, or else pass no more than one limit.
+-- A list of changes makes at most one automaton, or else passes at most one limit, and never both.
 pub record AreDetermined (cs : List Change) (a : Automaton) : Type 0 where
   pub made : (m n : Automaton) → MakesAll cs a m → MakesAll cs a n → m ≡ n
   pub either : (m : Automaton) (which : Limit) → MakesAll cs a m → StopsIn which cs a → ⊥
@@ -45,7 +46,7 @@ pub record AreDetermined (cs : List Change) (a : Automaton) : Type 0 where
 abbrev pub ChangesAreDetermined : Type 0
 ChangesAreDetermined = (cs : List Change) (a : Automaton) → AreDetermined cs a
 
--- It isn't so that the changes of a plan neither make anything of an automaton nor pass a limit.
+-- Of each automaton the changes of a plan make an automaton, or they pass a limit (said by double negation).
 abbrev pub ChangesExist : Type 0
 ChangesExist = (p : Plan) (ops : List Automaton) (a : Automaton) → ((made : Automaton) → MakesAll (changes_of p ops) a made → ⊥)
     → ((which : Limit) → StopsIn which (changes_of p ops) a → ⊥) → ⊥

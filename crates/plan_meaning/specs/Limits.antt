@@ -1,5 +1,5 @@
--- Which limit is passed where an automaton is determinised, and where two are put together or compared: the first of these
--- whose count is more than its number.
+-- Which limit is passed where an automaton is determinised, and where two are combined or compared: the first whose count
+-- is exceeded.
 use Rattle.std.specs.Prelude.{◌≡◌, ◌⊎◌, ◌<◌, ◌≤◌, List, [], ◌∷◌, ◌++◌, length}
 use Rattle.aut_base.specs.Acceptance.{Accepts}
 use Rattle.aut_base.specs.Automaton.{Automaton}
@@ -18,7 +18,7 @@ use Rattle.parity_det.specs.declared.fault.CompFault.TheVariants as comp
 use Rattle.word_syntax.specs.Grammar.{WordPattern}
 use Rattle.word_syntax.specs.Matching.{word_automaton}
 
--- ---- the limits that there are: of two automata put together, of one determinised, and of two compared
+-- ---- the limits that there are: of two automata combined, of one determinised, and of two compared
 
 abbrev pub limits_of_product : List Limit
 limits_of_product = limit.Names ∷ limit.Pairs ∷ []
@@ -44,7 +44,7 @@ PassesOfBoth limit.Names a b = HaveManyNames a b
 PassesOfBoth limit.Pairs a b = HaveFewNames a b × HasMorePairs MOST_PAIRS (over_both a b a) (over_both a b b)
 PassesOfBoth _ a b = ⊥
 
--- the same of the two made complete
+-- a product-or of two automata: their names joined, then the pairs of their completions that are reached
 abbrev pub PassesOfEither : Limit → Automaton → Automaton → Type 0
 PassesOfEither limit.Names a b = HaveManyNames a b
 PassesOfEither limit.Pairs a b = HaveFewNames a b × HasMorePairs MOST_PAIRS (over_both a b (completed a)) (over_both a b (completed b))
@@ -66,7 +66,7 @@ PassesOfWord which a p =
     ((which ≡ limit.Names) × (MOST_NAMES < length p.names))
     ⊎ ((length p.names ≤ MOST_NAMES) × PassesOfBoth which a (canonical (word_automaton p)))
 
--- those of the Büchi form, and then the first that its determinisation meets
+-- a parity automaton: the limits of the Büchi form, and then the first limit that its determinisation meets
 abbrev pub PassesParityLimit : Limit → Automaton → Type 0
 PassesParityLimit limit.Terms a = det.PassesParity comp.Terms a
 PassesParityLimit limit.BuchiStates a = det.PassesParity comp.BuchiStates a
@@ -75,7 +75,7 @@ PassesParityLimit limit.Nodes a = det.PassesParity comp.Nodes a
 PassesParityLimit limit.Classes a = det.PassesParity comp.Classes a
 PassesParityLimit _ a = ⊥
 
--- the same, where the automaton isn't deterministic; else none
+-- a complement or a deterministic form: the same where the automaton isn't deterministic, else none
 abbrev pub PassesUnlessDeterministic : Limit → Automaton → Type 0
 PassesUnlessDeterministic which a = (core.IsDeterministic a → ⊥) × PassesParityLimit which a
 
@@ -95,10 +95,10 @@ pub record PassesWithComplement (which : Limit) (a b : Automaton) : Type 0 where
 abbrev pub PassesOfInclusion : Limit → Automaton → Automaton → Type 0
 PassesOfInclusion which a b = PassesUnlessDeterministic which b ⊎ (((other : Limit) → PassesUnlessDeterministic other b → ⊥) × PassesWithComplement which a b)
 
--- it passes none
+-- the test of inclusion passes no limit
 abbrev pub IsWithinInclusion : Automaton → Automaton → Type 0
 IsWithinInclusion a b = (which : Limit) → PassesOfInclusion which a b → ⊥
 
--- whether both accept the same: whether the one is included, and where it is, whether the other is
+-- language equivalence: whether the one is included in the other, and where it is, whether the other is included in the one
 abbrev pub PassesOfEquivalence : Limit → Automaton → Automaton → Type 0
 PassesOfEquivalence which a b = PassesOfInclusion which a b ⊎ (((other : Limit) → PassesOfInclusion other a b → ⊥) × IsIncluded a b × PassesOfInclusion which b a)

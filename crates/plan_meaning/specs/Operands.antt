@@ -7,7 +7,7 @@ use Rattle.filter_plan.specs.Table.{refuted}
 use Rattle.filter_plan.specs.Words.{file_list, operands}
 use Rattle.filter_plan.specs.declared.plan.Plan.{Plan}
 
--- the places of operands in the list: behind those of the options before
+-- the index of each operand in the list: the number of operands of the options before
 abbrev pub place_of_included_in : ℕ
 place_of_included_in = 0
 
@@ -29,16 +29,16 @@ place_of_sum p = place_of_product_or p + length (file_list p.product_or)
 abbrev pub place_of_refuted : Plan → ℕ
 place_of_refuted p = place_of_sum p + length (file_list p.sum)
 
--- the operand at a place, where its option stands
+-- the operand of this index, if its option is given
 abbrev pub operand_at : Option (List ℕ) → ℕ → List Automaton → Option Automaton
 operand_at None place ops = None
 operand_at (Some name) place ops = slice_get ops place
 
--- the operand that automata are refuted against
+-- the operand of `--refute`, if that option is given
 abbrev pub refuted_operand : Plan → List Automaton → Option Automaton
 refuted_operand p ops = operand_at (refuted p.output) (place_of_refuted p) ops
 
--- An automaton has no more states and sets than one may have that is read.
+-- The automaton has no more states and sets than an automaton that is read may have.
 pub record IsOfReadSize (a : Automaton) : Type 0 where
   pub states : a.states ≤ MOST_STATES
   pub sets : a.sets ≤ MOST_SETS

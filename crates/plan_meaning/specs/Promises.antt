@@ -1,4 +1,4 @@
--- What the form of a plan promises of the automaton that is made.
+-- What holds of the automaton that is made, by the form that the plan asks for.
 use Rattle.std.specs.Prelude.{◌≡◌, ◌⊎◌, ◌+◌, Bool, true, false, List}
 use Rattle.acc_forms.specs.Atoms.{has_fin}
 use Rattle.acc_forms.specs.Joined.{conj}
@@ -15,7 +15,7 @@ use Rattle.filter_plan.specs.declared.plan.Plan.{Plan}
 use Rattle.plan_meaning.specs.Changes.{Change, MakesAll, operation_options}
 use Rattle.plan_meaning.specs.Standing.{those_standing}
 
--- one set, to be met again and again
+-- one set, and the condition `Inf(0)`
 pub record IsBuchi (a : Automaton) : Type 0 where
   pub sets : a.sets ≡ 1
   pub formula : a.formula ≡ FormulaTree.Inf 0 false
@@ -41,7 +41,7 @@ IsOfForm form.RemoveFin a = has_fin a.formula ≡ false
 IsOfForm form.Dnf a = IsDisjunctive a.formula
 IsOfForm form.Monitor a = IsDeterministicSafety a
 
--- One of this form was completed, and has a set more, that may be met finitely often alone.
+-- An automaton of this form was completed by a sink with a set of its own, in which a run may be only finitely often.
 pub record HasSinkSet (f : Form) (made : Automaton) : Type 0 where
   pub before : Automaton
   pub formed : IsOfForm f before
@@ -66,7 +66,7 @@ KeepsForm form.Monitor complete made = IsDeterministic made × OrHasSinkSet form
 abbrev pub KeepsPromises : Plan → Automaton → Type 0
 KeepsPromises p made = KeepsForm p.form p.complete made × (p.complete ≡ true → IsComplete made)
 
--- the operations, which stand before the form
+-- the operations, which are made before the form
 abbrev pub changes_before_form : Plan → List Automaton → List Change
 changes_before_form p ops = those_standing (operation_options p ops)
 

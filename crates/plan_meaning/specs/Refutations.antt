@@ -28,7 +28,7 @@ pub record IsRefutedOr (a b : Automaton) (answer : Option Refutation) : Type 0 w
   pub within : IsWithinInclusion a b
   pub found : MatchOption answer (IsIncluded a b) (IsRefutation a b)
 
--- what each answer says of the two
+-- what each answer of `refute` means
 abbrev pub Refuted : Result (Option Refutation) PlanFault → Automaton → Automaton → Type 0
 Refuted (Ok answer) a b = IsRefutedOr a b answer
 Refuted (Err (fault.Limit which)) a b = PassesOfInclusion which a b

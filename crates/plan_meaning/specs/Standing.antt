@@ -1,4 +1,4 @@
--- What options of a plan ask for, each where it stands.
+-- The items of a list of options that are given, in order.
 use Rattle.std.specs.Prelude.{List, Option, filter_map}
 
 abbrev pub those_standing : {A : Type 0} → List (Option A) → List A

@@ -1,13 +1,13 @@
-//! What holds of all changes.
+//! Laws of changes.
 
 ghost use Rattle.plan_meaning.specs.Laws.{ChangesAreDetermined, ChangesExist};
 
-/// Changes make no more than one automaton, or else pass no more than one limit.
+/// A list of changes makes at most one automaton, or else passes at most one limit, and never both.
 pub fn changes_are_determined()
     ensures { ChangesAreDetermined }
 {}
 
-/// The changes of a plan make something of each automaton, or pass a limit.
+/// Of each automaton the changes of a plan make an automaton, or they pass a limit (said by double negation).
 pub fn changes_exist()
     ensures { ChangesExist }
 {}

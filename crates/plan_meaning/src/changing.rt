@@ -25,10 +25,10 @@ use list::{Change, changes, make};
 use std::alloc::Global;
 
 // Why so: 'What is made is one automaton, said twice' in docs/DECISIONS.md.
-/// What a plan makes of an automaton: its product, product-or and sum with the operands of the plan, a proposition
-/// hidden, its reached states alone, its complement, its form, and the automaton made complete, in this order. Each is
-/// made only where its option stands, and an automaton that isn't changed isn't copied. Refused where a count of a change passes its limit, before anything behind
-/// that change is looked at.
+/// What a plan makes of an automaton: its product, product-or and sum with the operands of the plan, a proposition hidden,
+/// its reached states alone, its complement, its form, and its completion, in this order. Each is made only if its option
+/// is given, and an automaton that isn't changed isn't copied. Refused where a count of a change passes its limit, before
+/// any later change is begun.
 pub fn change(
     alloc: Global,
     plan: &Plan,

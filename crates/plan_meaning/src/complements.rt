@@ -1,4 +1,4 @@
-//! Complements of operands, each made when it is first asked for and kept from then on.
+//! Complements of operands, each made when it is first needed and kept from then on.
 
 ghost use Rattle.std.specs.Prelude.{◌≡◌, IfErr, OnOk, is_some, true};
 ghost use Rattle.aut_core.specs.SymbolicAutomata.{automaton_of};
@@ -15,8 +15,8 @@ use parity_det::{CompFault, complement};
 use std::alloc::Global;
 
 // Why so: 'Complements of operands are kept beside the session, and lent to each call' in docs/DECISIONS.md.
-/// The complements of the operands of `--included-in`, `--equivalent-to` and `--refute`, as far as they were asked for. An
-/// operand that isn't deterministic is dear to complement, and many automata are compared with it.
+/// The complements of the operands of `--included-in`, `--equivalent-to` and `--refute`, as far as they were needed. An
+/// operand that isn't deterministic is expensive to complement, and many automata are compared with it.
 #[derive(Drop)]
 pub struct Complements {
     pub(crate) included_in: Option<Automaton>,
@@ -25,7 +25,7 @@ pub struct Complements {
 }
 
 impl Complements {
-    /// None of them.
+    /// No complement yet.
     pub fn new() -> Self
         ensures { AreFresh result }
     {

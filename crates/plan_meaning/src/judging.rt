@@ -22,8 +22,8 @@ use std::alloc::Global;
 
 // Why so: 'A filter is examined within limits, whatever comes out' in docs/DECISIONS.md.
 /// Whether an automaton is kept: whether all filters of the plan hold, or where it inverts, whether one doesn't. Refused as
-/// a limit where a filter passes one and all before it hold. Behind one that doesn't hold nothing is computed. The complement
-/// of an operand is made where the automaton is first compared with it, and kept.
+/// a limit where a filter passes one and all before it hold. No filter is examined after one that doesn't hold. The
+/// complement of an operand is made where the automaton is first compared with it, and kept.
 pub fn judge(
     alloc: Global,
     plan: &Plan,

@@ -1,4 +1,4 @@
-//! What holds of the verdict on an automaton.
+//! Laws of the verdict on an automaton, and of limits.
 
 ghost use Rattle.plan_meaning.specs.Laws.{OneLimitOfInclusion, VerdictIsOne, PassTheirOwn, AVerdictExists};
 
@@ -8,12 +8,12 @@ pub fn verdict_is_one()
     ensures inclusion { OneLimitOfInclusion }
 {}
 
-/// There is no automaton on which there is no verdict.
+/// There is a verdict on each automaton (said by double negation).
 pub fn a_verdict_exists()
     ensures { AVerdictExists }
 {}
 
-/// No limits are passed but those that are listed for a filter, a change and the comparison of two automata.
+/// A filter, a change and a comparison of two automata pass no limits but those that are listed for them.
 pub fn only_own_limits()
     ensures { PassTheirOwn }
 {}

@@ -1,10 +1,11 @@
-//! What a plan asks of one automaton: the verdict of its filters, and what its operations, its form and completion make of it.
+//! What a plan asks of one automaton: the verdict of its filters, and what its operations, its form and its completion make
+//! of it.
 //!
 //! A caller sees `judge`, `change` and `refute`, the operands that they take, the complements of operands that are kept
 //! from one automaton to the next, and why they may refuse. `specs/Operands` says which operand belongs to which option,
-//! `specs/Filters` what the verdict is, `specs/Changes` what is made and which words it accepts, `specs/Promises` what a form
-//! promises, `specs/Refutations` what refutes inclusion, and `specs/Limits` which limits may be passed where an automaton is
-//! determinised, or two are put together or compared.
+//! `specs/Filters` what the verdict is, `specs/Changes` what is made and which words it accepts, `specs/Promises` what a
+//! form promises, `specs/Refutations` what refutes inclusion, and `specs/Limits` which limits may be passed where an
+//! automaton is determinised, or two are combined or compared.
 #![tactic(auto)]
 
 mod change_laws;

@@ -13,7 +13,7 @@ use filter_plan::{Output, Plan, file_count};
 /// Automata, in order.
 pub type Automata = Seq<Automaton>;
 
-/// The operand of `--included-in`, where it stands.
+/// The operand of `--included-in`, if that option is given.
 pub(crate) fn included_in_operand<'a>(plan: &Plan, operands: &'a Automata) -> Option<&'a Automaton>
     requires { AreOperands plan.now (map automaton_of operands.now) }
     ensures is { option_map (λ a. automaton_of a.now) result ≡ operand_at plan.now.included_in place_of_included_in (map automaton_of operands.now) }
@@ -22,7 +22,7 @@ pub(crate) fn included_in_operand<'a>(plan: &Plan, operands: &'a Automata) -> Op
     operand_at(&plan.included_in, 0, operands)
 }
 
-/// The operand of `--equivalent-to`, where it stands.
+/// The operand of `--equivalent-to`, if that option is given.
 pub(crate) fn equivalent_to_operand<'a>(
     plan: &Plan,
     operands: &'a Automata,
@@ -34,7 +34,7 @@ pub(crate) fn equivalent_to_operand<'a>(
     operand_at(&plan.equivalent_to, file_count(&plan.included_in), operands)
 }
 
-/// The operand of `--intersect`, where it stands.
+/// The operand of `--intersect`, if that option is given.
 pub(crate) fn intersect_operand<'a>(plan: &Plan, operands: &'a Automata) -> Option<&'a Automaton>
     requires { AreOperands plan.now (map automaton_of operands.now) }
     ensures is { option_map (λ a. automaton_of a.now) result ≡ operand_at plan.now.intersect (place_of_intersect plan.now) (map automaton_of operands.now) }
@@ -43,7 +43,7 @@ pub(crate) fn intersect_operand<'a>(plan: &Plan, operands: &'a Automata) -> Opti
     operand_at(&plan.intersect, place_of_intersect(plan), operands)
 }
 
-/// The operand of `--product`, where it stands.
+/// The operand of `--product`, if that option is given.
 pub(crate) fn product_operand<'a>(plan: &Plan, operands: &'a Automata) -> Option<&'a Automaton>
     requires { AreOperands plan.now (map automaton_of operands.now) }
     ensures is { option_map (λ a. automaton_of a.now) result ≡ operand_at plan.now.product (place_of_product plan.now) (map automaton_of operands.now) }
@@ -52,7 +52,7 @@ pub(crate) fn product_operand<'a>(plan: &Plan, operands: &'a Automata) -> Option
     operand_at(&plan.product, place_of_product(plan), operands)
 }
 
-/// The operand of `--product-or`, where it stands.
+/// The operand of `--product-or`, if that option is given.
 pub(crate) fn product_or_operand<'a>(plan: &Plan, operands: &'a Automata) -> Option<&'a Automaton>
     requires { AreOperands plan.now (map automaton_of operands.now) }
     ensures is { option_map (λ a. automaton_of a.now) result ≡ operand_at plan.now.product_or (place_of_product_or plan.now) (map automaton_of operands.now) }
@@ -61,7 +61,7 @@ pub(crate) fn product_or_operand<'a>(plan: &Plan, operands: &'a Automata) -> Opt
     operand_at(&plan.product_or, place_of_product_or(plan), operands)
 }
 
-/// The operand of `--sum`, where it stands.
+/// The operand of `--sum`, if that option is given.
 pub(crate) fn sum_operand<'a>(plan: &Plan, operands: &'a Automata) -> Option<&'a Automaton>
     requires { AreOperands plan.now (map automaton_of operands.now) }
     ensures is { option_map (λ a. automaton_of a.now) result ≡ operand_at plan.now.sum (place_of_sum plan.now) (map automaton_of operands.now) }
@@ -70,7 +70,7 @@ pub(crate) fn sum_operand<'a>(plan: &Plan, operands: &'a Automata) -> Option<&'a
     operand_at(&plan.sum, place_of_sum(plan), operands)
 }
 
-/// The operand of `--refute`, where it stands.
+/// The operand of `--refute`, if that option is given.
 pub(crate) fn refuted_operand<'a>(plan: &Plan, operands: &'a Automata) -> Option<&'a Automaton>
     requires { AreOperands plan.now (map automaton_of operands.now) }
     ensures is { option_map (λ a. automaton_of a.now) result ≡ refuted_operand plan.now (map automaton_of operands.now) }
@@ -82,7 +82,7 @@ pub(crate) fn refuted_operand<'a>(plan: &Plan, operands: &'a Automata) -> Option
     }
 }
 
-/// The operand at this place, where the option stands.
+/// The operand of this index, if the option is given.
 fn operand_at<'a>(
     name: &Option<Text>,
     place: usize,
@@ -99,7 +99,7 @@ fn operand_at<'a>(
     }
 }
 
-/// Behind the operands of the options that are read before.
+/// The index of an operand: the number of operands of the options that are read before.
 fn place_of_intersect(plan: &Plan) -> usize
     ensures is { result ≡ place_of_intersect plan.now }
     ensures few { result ≤ 2 }

@@ -19,7 +19,7 @@ use std::alloc::Global;
 #[derive(Debug, Drop)]
 pub struct Refutation {
     pub word: Lasso,
-    /// Those of the automaton, and then those of the operand that it lacks.
+    /// The names of the automaton, and then those of the operand that the automaton doesn't have.
     pub names: Names,
 }
 
@@ -47,7 +47,7 @@ pub fn refute(
     }
 }
 
-/// The same, of this operand.
+/// As `refute`, given the operand.
 fn refuted_by(
     alloc: Global,
     a: &Automaton,

@@ -1,4 +1,4 @@
--- Paths of moves put together and taken apart, and whether a move of them is accepting.
+-- Paths of moves joined and split, and whether a move of them is accepting.
 use Rattle.std.proofs.Common.{◌≡◌, ◌∙◌, ℕ, Bool, true, List, [], ◌∷◌, ◌++◌, Contains, ap, refl, sym, subst}
 use Rattle.std.specs.List.{list_any}
 use Rattle.std.proofs.lemmas.Bool.{or_left, or_right}
@@ -12,12 +12,12 @@ path_join p r q [] ys (e ∷ es) fs first second = absurd first
 path_join p r q (x ∷ xs) ys [] fs first second = absurd first
 path_join p r q (x ∷ xs) ys (e ∷ es) fs first second = (first.0, first.1, path_join e.to r q xs ys es fs first.2 second)
 
--- one move more
+-- a path with one move appended
 pub path_push : (p r q : ℕ) (xs : List (List Move)) (ms : List Move) (es : List Move) (e : Move)
     → IsMovePath p xs es r → Contains ms e → r ≡ e.from → e.to ≡ q → IsMovePath p (xs ++ ms ∷ []) (es ++ e ∷ []) q
 path_push p r q xs ms es e leads there from to = path_join p r q xs (ms ∷ []) es (e ∷ []) leads (from, there, to)
 
--- a path that reads one list and then another, in two
+-- a path over one list of letters and then another, split in two
 pub record Halves (p q : ℕ) (xs ys : List (List Move)) (es : List Move) : Type 0 where
   pub middle : ℕ
   pub front : List Move

@@ -1,4 +1,4 @@
--- Trees after letters: that they are trees, and what holds the states.
+-- Trees after letters: they have the invariant, and hold states below n only.
 use Rattle.std.proofs.Common.{◌≡◌, ◌∙◌, ℕ, ◌<◌, true, List, [], ◌∷◌, ◌++◌, ap, arith, inl, inr, length, refl, subst, sym}
 use Rattle.std.proofs.lemmas.Bool.{cases_lt, true≢false}
 use Rattle.std.proofs.lemmas.List.{get_or_past}
@@ -21,7 +21,7 @@ pub after_join : (n : ℕ) (t : List Node) (u v : List (List Move)) → tree_aft
 after_join n t [] v = refl
 after_join n t (ms ∷ u) v = after_join n (next_tree n ms t) u v
 
--- what holds a state is in the tree
+-- a name that holds a state is a name of the tree
 pub holds_within : (t : List Node) (x s : ℕ) → holds t x s ≡ true → x < length t
 holds_within t x s h = elim (cases_lt x (length t)) [
   | inl within ↦ within

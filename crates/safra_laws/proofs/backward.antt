@@ -1,4 +1,4 @@
--- What a green name says of the automaton.
+-- From a stable green name of the trees to an accepting run of the automaton.
 pub mod Accepted
 pub mod Cycles
 pub mod Starts

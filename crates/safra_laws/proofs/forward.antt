@@ -1,4 +1,4 @@
--- What an accepting run says of the trees beside it.
+-- From an accepting run to a stable green name of the trees along it.
 pub mod Names
 pub mod RunSteps
 pub mod Runs

@@ -51,7 +51,8 @@ pub record WorkedPriorities : Type 0 where
   pub round_of_a : priorities 2 2 tree_with_child (letter_a ∷ []) ≡ 3 ∷ []
   pub round_with_b : priorities 2 2 tree_with_child (letter_b ∷ letter_a ∷ letter_a ∷ []) ≡ 2 ∷ 4 ∷ 4 ∷ []
 
--- All that the laws ask of a round is so of the round `a`: of the run that stays in state 1, and of the trees.
+-- The premises of the laws hold of the round `a`, of the run that stays in state 1, and of the trees; and so do their
+-- conclusions.
 pub record WorkedRound : Type 0 where
   pub is_tree : IsTree tree_with_child
   pub canonical : IsCanonicalTree 2 tree_with_child

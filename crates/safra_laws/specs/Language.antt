@@ -1,5 +1,5 @@
--- The language of trees, both ways: what a green name and an odd priority say of the automaton, and what an accepting run
--- says of the trees.
+-- The language of trees, both ways: from a green name and an odd priority to an accepting run of the automaton, and from an
+-- accepting run to these.
 use Rattle.std.specs.Prelude.{◌≡◌, ◌<◌, ℕ, true, List, [], ◌∷◌, ◌++◌}
 use Rattle.std.specs.List.{list_any}
 use Rattle.aut_base.specs.Word.{copies}
@@ -9,8 +9,8 @@ use Rattle.safra_trees.specs.declared.moves.Move.{Move}
 use Rattle.safra_laws.specs.Priorities.{IsOdd, least_priority}
 use Rattle.safra_laws.specs.Rounds.{GoalsBelow, HasGreenName, IsAccepted, IsMovePath, NamesAtMost, tree_after}
 
--- Where a run and the trees come back together, and the run has an accepting move, some name is green in the round and
--- neither it nor a lower one is red there.
+-- Where a run with an accepting move and the trees both come back after a round, some name is green in the round and
+-- neither it nor a lower one is red there: a stable green name (`HasGreenName`).
 abbrev pub AcceptedIsGreen : Type 0
 AcceptedIsGreen = (n p : ℕ) (t : List Node) (round : List (List Move)) (es : List Move) → IsTree t → holds t 0 p ≡ true → GoalsBelow n round
     → IsMovePath p round es p → tree_after n t round ≡ t → list_any (λ e. e.accepting) es ≡ true → HasGreenName n t round
@@ -25,31 +25,31 @@ pub record HasCycle (name : ℕ) (t : List Node) (round : List (List Move)) : Ty
   pub leads : IsMovePath state (copies rounds round) path state
   pub accepts : list_any (λ e. e.accepting) path ≡ true
 
--- Where the trees come back and a name is such, it holds a state with an accepting cycle behind the letter at which it is
--- green, over the round begun there.
+-- Where the trees come back after a round with a stable green name, that name, after the letter at which it is green, holds
+-- a state with an accepting cycle over the round begun there.
 abbrev pub GreenHasCycle : Type 0
 GreenHasCycle = (n : ℕ) (t : List Node) (round : List (List Move)) → IsTree t → tree_after n t round ≡ t → (green : HasGreenName n t round)
     → HasCycle green.name (tree_after n t (green.before ++ green.letter ∷ [])) (green.behind ++ (green.before ++ green.letter ∷ []))
 
--- So the automaton accepts, where the trees began with its starts.
+-- So the automaton accepts, where the first tree was that of its starts.
 abbrev pub GreenIsAccepted : Type 0
 GreenIsAccepted = (n : ℕ) (starts : List ℕ) (stem round : List (List Move)) → tree_after n (tree_after n (first_tree n starts) stem) round ≡ tree_after n (first_tree n starts) stem
     → HasGreenName n (tree_after n (first_tree n starts) stem) round → IsAccepted starts stem round
 
--- Such a name makes the least priority of the round odd, where no tree has more names than priorities allow for.
+-- A stable green name makes the least priority of the round odd, where no tree has more than `most` names.
 abbrev pub GreenIsOdd : Type 0
 GreenIsOdd = (n most : ℕ) (t : List Node) (round : List (List Move)) → IsTree t → NamesAtMost n most t round → HasGreenName n t round → IsOdd (least_priority n most t round)
 
--- Where the least priority is odd there is such a name.
+-- Where the least priority of a round is odd, the round has a stable green name.
 abbrev pub OddIsGreen : Type 0
 OddIsGreen = (n most : ℕ) (t : List Node) (round : List (List Move)) → IsOdd (least_priority n most t round) → HasGreenName n t round
 
--- Where a run and the trees come back together, and the run has an accepting move, the least priority is odd.
+-- Where a run with an accepting move and the trees both come back after a round, the least priority of the round is odd.
 abbrev pub AcceptedIsOdd : Type 0
 AcceptedIsOdd = (n most p : ℕ) (t : List Node) (round : List (List Move)) (es : List Move) → IsTree t → holds t 0 p ≡ true → GoalsBelow n round → IsMovePath p round es p
     → tree_after n t round ≡ t → NamesAtMost n most t round → list_any (λ e. e.accepting) es ≡ true → IsOdd (least_priority n most t round)
 
--- Where the trees come back with an odd least priority, the automaton accepts.
+-- Where the trees come back after a round whose least priority is odd, the automaton accepts.
 abbrev pub OddIsAccepted : Type 0
 OddIsAccepted = (n most : ℕ) (starts : List ℕ) (stem round : List (List Move)) → tree_after n (tree_after n (first_tree n starts) stem) round ≡ tree_after n (first_tree n starts) stem
     → IsOdd (least_priority n most (tree_after n (first_tree n starts) stem) round) → IsAccepted starts stem round

@@ -21,11 +21,11 @@ RootIsReached = (n : ℕ) (starts : List ℕ) (w : List (List Move)) (q : ℕ) �
 abbrev pub TreesAreFew : Type 0
 TreesAreFew = (n : ℕ) (starts : List ℕ) (w : List (List Move)) → length (tree_after n (first_tree n starts) w) ≤ n
 
--- the same moves from the states of the root, in any order and any number
+-- both letters have the same moves from the states of the root, in any order and multiplicity
 abbrev pub SameRootMoves : List Move → List Move → List Node → Type 0
 SameRootMoves ms ns t = (m : Move) → holds t 0 m.from ≡ true → Contains ms m ↔ Contains ns m
 
--- They are all that a step and its priority depend on.
+-- A step and its priority depend on these moves alone.
 abbrev pub RootMovesAreEnough : Type 0
 RootMovesAreEnough = (n most : ℕ) (ms ns : List Move) (t : List Node) → IsTree t → SameRootMoves ms ns t
     → (next_tree n ms t ≡ next_tree n ns t) × (priority n most ms t ≡ priority n most ns t)

@@ -1,18 +1,18 @@
-//! A worked example, which meets what the laws ask.
+//! A worked example, to which the laws apply.
 
 ghost use Rattle.safra_laws.specs.Example.{WorkedPriorities, WorkedRound, WorkedTrees};
 
-/// The trees of an automaton of two states, and which names are green and red between them.
+/// The trees of an automaton of two states, and which names are green and red in the steps between them.
 pub fn worked_trees()
     ensures { WorkedTrees }
 {}
 
-/// The priorities of two rounds of them, one with an odd least one and one with an even one.
+/// The priorities along two rounds of these trees: the least is odd in one, and even in the other.
 pub fn worked_priorities()
     ensures { WorkedPriorities }
 {}
 
-/// The round of one letter that comes back: all that the laws ask of a round, and what they say of it.
+/// A round of one letter after which the trees come back: the premises of the laws hold of it, and so do their conclusions.
 pub fn worked_round()
     ensures { WorkedRound }
 {}

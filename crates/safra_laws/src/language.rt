@@ -1,50 +1,51 @@
-//! The language of trees: what green names and priorities say of the automaton, and what its runs say of them.
+//! The language of trees: from green names and priorities to an accepting run of the automaton, and back. A stable green
+//! name of a round (`HasGreenName`) is one that is green at some letter of it, while neither it nor a lower name is red at
+//! any.
 
 ghost use Rattle.safra_laws.specs.Language.{AcceptedIsGreen, AcceptedIsOdd, GreenHasCycle, GreenIsAccepted, GreenIsOdd, OddIsAccepted, OddIsGreen};
 ghost use Rattle.safra_laws.specs.Priorities.{PrioritiesAreBelow, PriorityByFirst};
 
-/// Where a run and the trees come back together, and the run has an accepting move, some name is green while neither it nor
-/// a lower one is ever red.
+/// Where a run with an accepting move and the trees both come back after a round, the round has a stable green name.
 pub fn accepted_is_green()
     ensures { AcceptedIsGreen }
 {}
 
-/// Where the trees come back and a name is such, it holds a state with an accepting cycle.
+/// Where the trees come back after a round, a stable green name of it holds a state with an accepting cycle.
 pub fn green_has_cycle()
     ensures { GreenHasCycle }
 {}
 
-/// Where the trees come back and a name is such, the automaton accepts.
+/// Where the trees come back after a round with a stable green name, the automaton accepts.
 pub fn green_is_accepted()
     ensures { GreenIsAccepted }
 {}
 
-/// A priority is one of 2 * most + 1 sets.
+/// A priority is the number of one of 2 * most + 1 acceptance sets.
 pub fn priorities_are_below()
     ensures { PrioritiesAreBelow }
 {}
 
-/// A step has the priority by the first of its red and the first of its green names.
+/// The priority of a step follows from the least of its red and the least of its green names.
 pub fn priority_by_first()
     ensures { PriorityByFirst }
 {}
 
-/// Such a name makes the least priority odd.
+/// A stable green name makes the least priority of the round odd.
 pub fn green_is_odd()
     ensures { GreenIsOdd }
 {}
 
-/// Where the least priority is odd there is such a name.
+/// Where the least priority of a round is odd, the round has a stable green name.
 pub fn odd_is_green()
     ensures { OddIsGreen }
 {}
 
-/// Where a run and the trees come back together, and the run has an accepting move, the least priority is odd.
+/// Where a run with an accepting move and the trees both come back after a round, the least priority of the round is odd.
 pub fn accepted_is_odd()
     ensures { AcceptedIsOdd }
 {}
 
-/// Where the trees come back with an odd least priority, the automaton accepts.
+/// Where the trees come back after a round whose least priority is odd, the automaton accepts.
 pub fn odd_is_accepted()
     ensures { OddIsAccepted }
 {}

@@ -1,6 +1,6 @@
 //! Laws of compact Safra trees (Safra 1988, Piterman 2007) over letters that are lists of moves, which no code runs.
 //!
-//! Each is the contract of a public function that does nothing else, and stands in `specs`.
+//! Each is the contract of a public function that does nothing else, and is defined in `specs`.
 #![tactic(auto)]
 
 mod example;

@@ -23,18 +23,18 @@ pub fn trees_are_few()
     ensures { TreesAreFew }
 {}
 
-/// A step, and its priority, depends on the set of moves from the root's states alone: not on their order or number, nor
+/// A step and its priority depend only on the set of moves from the root's states: not on their order or multiplicity, nor
 /// on other moves.
 pub fn root_moves_are_enough()
     ensures { RootMovesAreEnough }
 {}
 
-/// The tree of the starts has its sets in the order of their states, and its root is its own parent.
+/// The tree of the starts is canonical: each node lists its states in rising order, and the root is its own parent.
 pub fn first_is_canonical()
     ensures { FirstIsCanonical }
 {}
 
-/// So has the step of such a tree.
+/// The step of a canonical tree is canonical.
 pub fn steps_keep_canonical()
     ensures { StepsKeepCanonical }
 {}

@@ -6,7 +6,7 @@ use Rattle.aut_base.specs.declared.limit.TheConstants.{MOST_NODES}
 use Rattle.safra_trees.specs.Step.{above}
 use Rattle.safra_trees.specs.Trees.{Node, has}
 
--- the number at a place, 0 past the end
+-- the number of this index, 0 past the end
 abbrev pub at : List ℕ → ℕ → ℕ
 at xs i = slice_index_or xs i 0
 
@@ -27,8 +27,8 @@ node_of parents states places x = record { parent = at parents x; states = place
 abbrev pub nodes_of : List ℕ → List ℕ → List ℕ → List Node
 nodes_of parents states places = map (node_of parents states places) (range_with_len 0 (length parents))
 
--- what holds of each tree that is stored: there are few nodes, a parent has a lower name, the states rise, and each node
--- is the place of some state
+-- the invariant of a stored tree: there are few nodes, a parent has a lower name, the states are in rising order, and each
+-- node is the place of some state
 pub record IsStored (parents states places : List ℕ) : Type 0 where
   pub few : length parents ≤ MOST_NODES
   pub root : at parents 0 ≡ 0

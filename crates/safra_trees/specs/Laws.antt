@@ -16,7 +16,7 @@ StoredTreesAreTrees = (tree : SafraTree) → IsTree (tree_of tree)
 abbrev pub SameListSameTree : Type 0
 SameListSameTree = (one other : SafraTree) → tree_of one ≡ tree_of other → one ≡ other
 
--- They compare as equal exactly where they are the same list of nodes.
+-- Two stored trees compare as equal exactly where they are the same list of nodes.
 abbrev pub EqualTreesAreOneList : Type 0
 EqualTreesAreOneList = (one other : SafraTree) → (same_nodes (tree_of one) (tree_of other) ≡ true) ↔ (tree_of one ≡ tree_of other)
 
@@ -38,7 +38,7 @@ abbrev pub nested : List Node
 nested = record { parent = 0; states = 0 ∷ 1 ∷ [] } ∷ record { parent = 0; states = 1 ∷ [] } ∷ []
 
 -- Under `stay` the first tree gains a state, then a node for what came by an accepting move; then that node's own fresh
--- child covers it, so it is green. Under `leave` it goes, and is red.
+-- child covers it, so it is green. Under `leave` it is removed, and is red.
 pub record WorkedSteps : Type 0 where
   pub first : first_tree 2 (0 ∷ []) ≡ waiting
   pub second : pruned (grown 2 stay_moves waiting) ≡ arrived

@@ -1,4 +1,4 @@
--- When two lists of nodes are the same, and what is hashed of one.
+-- Equality of trees as lists of nodes, and what is hashed of a tree.
 use Rattle.std.proofs.Common.{◌≡◌, ◌↔◌, ◌∙◌, ◌==◌, ◌&&◌, ◌++◌, ℕ, zero, suc, Bool, IsTrue, true, List, [], ◌∷◌, ap, cond, inl, inr, length, map, nat_eq, refl, sym}
 use Rattle.std.proofs.lemmas.Bool.{and_from, and_parts, cases_Bool, eq-eqb, eqb-true, true≢false}
 use Rattle.std.proofs.lemmas.Cmp.{and_equiv, lists_equiv, nat_eq_equiv, nat_list_eq_equiv, on_equiv}
@@ -41,7 +41,7 @@ itself : (x : List Node) → same_nodes x x ≡ true
 itself [] = refl
 itself (m ∷ x) = and_from (same_node m m) (same_nodes x x) (node_itself m) (itself x)
 
--- the test tells
+-- the test is true exactly where the lists are equal
 pub same_tells : (x y : List Node) → (same_nodes x y ≡ true) ↔ (x ≡ y)
 same_tells x y = (told x y, λ same. ap (same_nodes x) (sym same) ∙ itself x)
 

@@ -11,14 +11,15 @@ pub record Forest : Type 0 where
   pub parent : ℕ → ℕ
   pub holds : ℕ → ℕ → Bool
 
--- the states that moves, or the accepting ones of them, lead to from what a node holds
+-- whether a move, or an accepting move, leads to state s from a state that node x holds
 abbrev pub goes : List Move → List Node → ℕ → ℕ → Bool
 goes ms t x s = list_any (λ m. holds t x m.from && (m.to == s)) ms
 
 abbrev pub goes_accepting : List Move → List Node → ℕ → ℕ → Bool
 goes_accepting ms t x s = list_any (λ m. m.accepting && (holds t x m.from && (m.to == s))) ms
 
--- each node holds where the moves lead, and has one more child, which holds where its accepting ones lead
+-- each node holds the successors of its states, and gets a fresh youngest child, which holds their successors by accepting
+-- moves
 abbrev pub grown : ℕ → List Move → List Node → Forest
 grown n ms t = record {
   bound = n;
@@ -43,18 +44,18 @@ is_child f x y = nat_lt 0 y && (f.parent y == x)
 abbrev pub held_by_older : Forest → ℕ → ℕ → Bool
 held_by_older f s y = list_any (λ z. is_child f (f.parent y) z && f.holds z s) (range_with_len 0 y)
 
--- what a node keeps: no older sibling of it or of an ancestor holds it
+-- horizontal merge: a node keeps a state that it holds where no older sibling of it or of an ancestor holds that state
 abbrev pub retains : Forest → ℕ → ℕ → Bool
 retains f y s = f.holds y s && not (list_any (held_by_older f s) (y ∷ ancestors f y))
 
--- the children together keep all that the node keeps
+-- the children together keep all that the node keeps; by the vertical merge they are then removed
 abbrev pub covered : Forest → ℕ → Bool
 covered f x = list_all (λ s. list_any (λ z. is_child f x z && retains f z s) (range_with_len 0 f.size)) (filter (retains f x) (range_with_len 0 f.bound))
 
 abbrev pub survives : Forest → ℕ → Bool
 survives f y = list_any (retains f y) (range_with_len 0 f.bound) && not (list_any (covered f) (ancestors f y))
 
--- the names that stay, and how many of them are below a name: its new name
+-- the names that pass a test, and how many of them are below a name: its new name, where the test is survival
 abbrev pub names_where : (ℕ → Bool) → ℕ → List ℕ
 names_where p k = filter p (range_with_len 0 k)
 
@@ -79,8 +80,8 @@ pub record Own (t : List Node) (x : ℕ) : Type 0 where
   pub here : holds t x state ≡ true
   pub nowhere : (c : ℕ) → 0 < c → c < length t → (node_at t c).parent ≡ x → holds t c state ≡ false
 
--- what holds of each tree that steps give: parents have lower names, children hold what their parents hold, siblings
--- share nothing, and no node is empty or covered by its children
+-- the invariant of trees: parents have lower names, children hold only what their parents hold, siblings share nothing, and
+-- no node is empty or covered by its children
 pub record IsTree (t : List Node) : Type 0 where
   pub lower : (c : ℕ) → 0 < c → c < length t → (node_at t c).parent < c
   pub inside : (c s : ℕ) → 0 < c → c < length t → holds t c s ≡ true → holds t (node_at t c).parent s ≡ true

@@ -19,7 +19,7 @@ has xs s = list_any (λ x. x == s) xs
 abbrev pub holds : List Node → ℕ → ℕ → Bool
 holds t x s = has (node_at t x).states s
 
--- the states of the root, which are all that stand in the tree
+-- the states of the root, which are all states of the tree
 abbrev pub root_states : List Node → List ℕ
 root_states t = (node_at t 0).states
 

@@ -1,4 +1,4 @@
--- The list that a tree is.
+-- A stored tree as the list of its nodes.
 use Rattle.std.specs.Prelude.{List}
 use Rattle.safra_trees.specs.Flat.{nodes_of}
 use Rattle.safra_trees.specs.Trees.{Node}

@@ -9,7 +9,7 @@ ghost use Rattle.safra_trees.specs.inner.Claims.{claim, claimant, first_of, key,
 use crate::Move;
 use std::alloc::AllocError;
 
-/// For each of so many states its place, `none` where it has none.
+/// For each of `count` states its place, the deepest node that holds it; `none` where no node does.
 pub(crate) fn places_by_state(
     room: Vec<u32>,
     count: usize,
@@ -33,8 +33,9 @@ pub(crate) fn places_by_state(
     Ok(found)
 }
 
-/// For each state the first name in the order that a move lets claim it, or twice the number of nodes where none does.
-/// A move from a place lets that place claim its goal, and its fresh child where it is accepting.
+/// For each state the name that claims it, or twice the number of nodes where none does. A move from a state claims its
+/// goal for the place of that state, or for the place's fresh child where it is accepting. Of several claims the first in
+/// the order counts.
 pub(crate) fn claims(
     room: Vec<u32>,
     order: &[u32],
@@ -64,7 +65,7 @@ pub(crate) fn claims(
     Ok(claims)
 }
 
-/// The name that a move from a place lets claim its goal: the place, or its fresh child.
+/// The name for which a move from a place claims its goal: the place, or its fresh child where the move is accepting.
 fn claimant(nodes: u32, place: u32, one: &Move) -> u32
     requires few { nodes ≤ MOST_NODES }
     requires place { place < nodes }
@@ -73,7 +74,7 @@ fn claimant(nodes: u32, place: u32, one: &Move) -> u32
     if one.accepting { nodes + place } else { place }
 }
 
-/// Which of two claims comes first.
+/// Which of two claims comes first in the order.
 fn first_of(order: &[u32], one: u32, other: u32) -> u32
     requires few { length order.now ≤ MOST_NODES }
     requires order { All (λ x. x < MOST_NODES) order.now }
@@ -86,7 +87,7 @@ fn first_of(order: &[u32], one: u32, other: u32) -> u32
     }
 }
 
-/// The number of an old or a fresh name in the order of both.
+/// The number of an old or a fresh name in the order, a fresh one right before its parent.
 fn key(order: &[u32], name: u32) -> u32
     requires few { length order.now ≤ MOST_NODES }
     requires order { All (λ x. x < MOST_NODES) order.now }

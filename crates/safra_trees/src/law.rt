@@ -2,7 +2,8 @@
 
 ghost use Rattle.safra_trees.specs.Laws.{EqualTreesAreOneList, SameListSameTree, StoredTreesAreTrees, WorkedSteps};
 
-/// Every tree has what the step relies on: no node is empty or covered, and siblings share no state.
+/// Every tree has the invariant that the step relies on: parents have lower names, a child holds only what its parent
+/// holds, siblings share no state, and no node is empty or covered by its children.
 pub fn stored_trees_are_trees()
     ensures { StoredTreesAreTrees }
 {}
@@ -17,7 +18,7 @@ pub fn equal_trees_are_one_list()
     ensures { EqualTreesAreOneList }
 {}
 
-/// The step as it goes on a small automaton.
+/// The trees and events of a small automaton, worked out step by step.
 pub fn worked_steps()
     ensures { WorkedSteps }
 {}

@@ -1,7 +1,7 @@
 //! Compact Safra trees with accepting edges, and their step (Safra 1988, Piterman 2007).
 //!
-//! A tree says where the runs of a Büchi automaton may be after a word. A letter takes a tree to the next one, and is
-//! known here by the moves that it allows. What a tree and a step are is defined in `specs/Trees` and `specs/Step`.
+//! A tree says where the runs of a Büchi automaton may be after a word. A letter leads from a tree to the next one; here it
+//! is the list of the moves that it allows. What a tree and a step are is defined in `specs/Trees` and `specs/Step`.
 #![tactic(auto)]
 
 mod claims;

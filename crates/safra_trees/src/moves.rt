@@ -2,7 +2,7 @@
 
 use aut_base::Seq;
 
-/// A move from a state to a state, accepting or not. It is what an edge is where its letter is known.
+/// A move from a state to a state, accepting or not. An edge of the automaton is such a move for each letter that meets it.
 #[derive(Clone, Copy, Debug, PartialEq, Eq)]
 pub struct Move {
     pub from: u32,

@@ -7,7 +7,8 @@ ghost use Rattle.safra_trees.specs.inner.Order.{IsOrder, IsShifted};
 
 use std::alloc::AllocError;
 
-/// For each name its number in the order: children before their parents, older ones with all below them first.
+/// For each name its number in the order: children before their parents, and an older sibling with its descendants before a
+/// younger one.
 pub(crate) fn claiming_order(room: Vec<u32>, parents: &[u32]) -> Result<Vec<u32>, AllocError>
     requires few { length parents.now ≤ MOST_NODES }
     requires lower { (x : ℕ) → 0 < x → x < length parents.now → at parents.now x < x }
@@ -28,7 +29,7 @@ pub(crate) fn claiming_order(room: Vec<u32>, parents: &[u32]) -> Result<Vec<u32>
     Ok(order)
 }
 
-/// Numbers from this one on go up by one.
+/// Adds one to each number that is `number` or above.
 fn make_room(order: &mut [u32], number: u32)
     requires { All (λ x. x < MOST_NODES) order.old }
     ensures { (z : ℕ) → z < length order.old → IsShifted number (at order.old) (at order.new) z }

@@ -1,4 +1,4 @@
-//! Passes over the old and the fresh names: which stay, and where the states of the others end up.
+//! Passes over the old and the fresh names: which survive, and which nodes own the states of the others.
 
 ghost use Rattle.std.specs.Prelude.{◌≡◌, ◌+◌, ◌^◌, ◌<◌, ◌≤◌, ◌&&◌, ℕ, All, IfOk, cond, length, map, nat_lt, not};
 ghost use Rattle.std.specs.List.{list_any, range_with_len};
@@ -26,7 +26,7 @@ pub(crate) fn grown_parent(parents: &[u32], name: u32) -> u32
     }
 }
 
-/// For each of so many names whether it claims a state.
+/// For each of `size` names whether it claims a state.
 pub(crate) fn claiming(room: Vec<bool>, size: u32, claims: &[u32]) -> Result<Vec<bool>, AllocError>
     ensures size { IfOk result (λ own. length own.items ≡ size) }
     ensures own { IfOk result (λ own. (y : ℕ) → y < size → flag own.items y ≡ has claims.now y) }
@@ -43,7 +43,8 @@ pub(crate) fn claiming(room: Vec<bool>, size: u32, claims: &[u32]) -> Result<Vec
     Ok(own)
 }
 
-/// For each name the node at which its states end up: an ancestor where that gives its children up, else the name itself.
+/// For each name the node that owns its states: the name itself, or the ancestor into which it is merged since that one is
+/// covered by its children.
 pub(crate) fn owners(room: Vec<u32>, parents: &[u32], own: &[bool]) -> Result<Vec<u32>, AllocError>
     requires few { length parents.now ≤ MOST_NODES }
     requires lower { (x : ℕ) → 0 < x → x < length parents.now → at parents.now x < x }
@@ -61,7 +62,7 @@ pub(crate) fn owners(room: Vec<u32>, parents: &[u32], own: &[bool]) -> Result<Ve
     Ok(owners)
 }
 
-/// The home of a name by those of lower names.
+/// The owner of a name, from the owners of lower names.
 fn owner_of(parents: &[u32], own: &[bool], owners: &[u32], name: u32) -> u32
     requires few { length parents.now ≤ MOST_NODES }
     requires lower { (x : ℕ) → 0 < x → x < length parents.now → at parents.now x < x }
@@ -83,7 +84,7 @@ fn owner_of(parents: &[u32], own: &[bool], owners: &[u32], name: u32) -> u32
     owner
 }
 
-/// For each of so many names whether the states of a claim end up at it.
+/// For each name whether it survives: whether it owns some claim.
 pub(crate) fn surviving(
     room: Vec<bool>,
     owners: &[u32],
@@ -107,16 +108,16 @@ pub(crate) fn surviving(
     Ok(stay)
 }
 
-/// How the names that stay close up.
+/// The new names of the nodes that survive.
 #[derive(Drop)]
 pub(crate) struct NewNames {
-    /// For each name the number of those before it that stay.
+    /// For each name the number of surviving names below it.
     pub(crate) ranks: Vec<u32>,
-    /// The number of all that stay.
+    /// The number of surviving names.
     pub(crate) count: u32,
 }
 
-/// The ranks of the names that stay.
+/// Renumbers the surviving names, without gaps.
 pub(crate) fn new_names(room: Vec<u32>, stay: &[bool]) -> Result<NewNames, AllocError>
     requires { length stay.now < 2 ^ 32 }
     ensures ranks { IfOk result (λ made. made.ranks.items ≡ map (rank (flag stay.now)) (range_with_len 0 (length stay.now))) }
@@ -135,7 +136,7 @@ pub(crate) fn new_names(room: Vec<u32>, stay: &[bool]) -> Result<NewNames, Alloc
     Ok(NewNames { ranks, count })
 }
 
-/// The parents of the names that stay, by their new names. There is room for so many at once.
+/// The parents of the surviving nodes, by new names. The list has capacity for all `count` of them from the start.
 pub(crate) fn new_parents(
     alloc: Global,
     parents: &[u32],
@@ -159,7 +160,7 @@ pub(crate) fn new_parents(
     Ok(made)
 }
 
-/// The first of the names below a number that doesn't stay.
+/// The least old name that doesn't survive.
 pub(crate) fn least_gone(stay: &[bool], nodes: u32) -> Option<u32>
     requires { nodes ≤ length stay.now }
     ensures { result ≡ least (names_where (λ y. not (flag stay.now y)) nodes) }
@@ -172,7 +173,7 @@ pub(crate) fn least_gone(stay: &[bool], nodes: u32) -> Option<u32>
     None
 }
 
-/// The first name that stays and claims nothing.
+/// The least name that survives and claims nothing, since its children cover it.
 pub(crate) fn least_covered(stay: &[bool], own: &[bool]) -> Option<u32>
     requires size { length stay.now ≡ length own.now }
     requires fit { length own.now < 2 ^ 32 }
@@ -186,14 +187,14 @@ pub(crate) fn least_covered(stay: &[bool], own: &[bool]) -> Option<u32>
     None
 }
 
-/// The states that have a place, and their places by new names.
+/// The states that some node holds, and their places by new names.
 #[derive(Drop)]
 pub(crate) struct NewPlaces {
     pub(crate) states: Vec<u32>,
     pub(crate) places: Vec<u32>,
 }
 
-/// The states that some name claims, each with the new name of the node at which it ends up.
+/// The states that some name claims, each with the new name of the node that owns the claim.
 pub(crate) fn new_places(
     alloc: Global,
     claims: &[u32],
@@ -220,7 +221,7 @@ pub(crate) fn new_places(
     Ok(NewPlaces { states, places })
 }
 
-/// How many states some name claims, so that their lists take no more room than that.
+/// How many states some name claims, which is the capacity of their lists.
 fn claimed(claims: &[u32], names: usize) -> usize {
     let mut count = 0usize;
     'states: for claim in claims {

@@ -1,25 +1,25 @@
-//! The lists that a step fills on its way.
+//! The working lists of a step.
 
 use std::alloc::Global;
 
 // Why so: 'A step of a tree fills lists that stay' in docs/DECISIONS.md.
-/// The lists that a step fills on its way. Whoever takes many steps keeps them from one to the next, which then needs memory for
-/// the new tree alone. What stands in them before a step plays no part in it.
+/// The working lists of a step. A caller that takes many steps keeps them from one to the next, which then needs memory for
+/// the new tree alone. What they contain before a step has no effect on it.
 #[derive(Drop)]
 pub struct Scratch {
     /// For each name its number in the order in which nodes claim.
     pub(crate) order: Vec<u32>,
-    /// For each state its place, or the number of nodes where it has none.
+    /// For each state its place, the deepest node that holds it, or the number of nodes where none does.
     pub(crate) places: Vec<u32>,
     /// For each state the name that claims it, or the number of names where none does.
     pub(crate) claims: Vec<u32>,
     /// For each name whether it claims a state.
     pub(crate) own: Vec<bool>,
-    /// For each name the node at which its states end up.
+    /// For each name the node that owns its states.
     pub(crate) owners: Vec<u32>,
-    /// For each name whether it stays.
+    /// For each name whether it survives.
     pub(crate) stay: Vec<bool>,
-    /// For each name the number of those before it that stay.
+    /// For each name the number of surviving names below it.
     pub(crate) ranks: Vec<u32>,
 }
 

@@ -1,4 +1,4 @@
-//! The states that a tree and moves name, and their places among these.
+//! States renumbered by their index in a list, the sight: all states that a tree and moves mention, in rising order.
 
 ghost use Rattle.std.specs.Prelude.{◌≡◌, ◌^◌, ◌++◌, ◌<◌, ◌≤◌, ℕ, All, Contains, IfOk, flat_map, length, map};
 ghost use Rattle.std.specs.List.Sorted.{IsStrictlyIncreasing};
@@ -10,7 +10,7 @@ use crate::{Move, Moves};
 use aut_base::{Memory, Numbers, in_order};
 use std::alloc::{AllocError, Global};
 
-/// These states and the ends of these moves in rising order, each once.
+/// The sight: these states and the ends of these moves in rising order, each once.
 pub(crate) fn in_sight(alloc: Global, states: &[u32], moves: &[Move]) -> Result<Numbers, AllocError>
     ensures { IfOk result (λ sight. IsSight states.now moves.now sight) }
 {
@@ -22,7 +22,7 @@ pub(crate) fn in_sight(alloc: Global, states: &[u32], moves: &[Move]) -> Result<
     Ok(in_order(Numbers::from_vec(found)))
 }
 
-/// How many there are.
+/// The number of states in sight.
 pub(crate) fn count_of(sight: &[u32]) -> usize
     requires { IsStrictlyIncreasing sight.now }
     ensures is { result ≡ length sight.now }
@@ -31,7 +31,7 @@ pub(crate) fn count_of(sight: &[u32]) -> usize
     sight.len()
 }
 
-/// The place of a state.
+/// The index of a state in the sight.
 fn place_in(sight: &[u32], state: u32) -> u32
     requires rises { IsStrictlyIncreasing sight.now }
     requires there { Contains sight.now state }
@@ -44,7 +44,7 @@ fn place_in(sight: &[u32], state: u32) -> u32
     }
 }
 
-/// The places of states.
+/// The indices of states in the sight.
 pub(crate) fn places_in(
     alloc: Global,
     sight: &[u32],
@@ -62,7 +62,7 @@ pub(crate) fn places_in(
     Ok(places)
 }
 
-/// The moves between the places of their ends.
+/// The moves with each end replaced by its index in the sight.
 pub(crate) fn moves_in(alloc: Global, sight: &[u32], moves: &[Move]) -> Result<Moves, Memory>
     requires rises { IsStrictlyIncreasing sight.now }
     requires there { All (λ e. IsSeen sight.now e) moves.now }
@@ -80,7 +80,7 @@ pub(crate) fn moves_in(alloc: Global, sight: &[u32], moves: &[Move]) -> Result<M
     Ok(found)
 }
 
-/// The states at places.
+/// The states of these indices in the sight.
 pub(crate) fn states_at(
     alloc: Global,
     sight: &[u32],

@@ -8,8 +8,8 @@ use crate::SafraTree;
 use aut_base::{Memory, Numbers, in_order};
 use std::alloc::Global;
 
-/// The tree of an automaton before a word: one node with the starts, or none where there are none. It is that of any automaton
-/// that has these starts, however many states it has.
+/// The tree of an automaton before a word: one node with the starts, or none where there are none. It depends on the starts
+/// alone, not on the number of states.
 pub fn start(alloc: Global, starts: &Numbers) -> Result<SafraTree, Memory>
     ensures tree { IfOk result (λ tree. (n : ℕ) → All (λ s. s < n) starts.now → tree_of tree ≡ first_tree n starts.now) }
     ensures states { IfOk result (λ tree. (n : ℕ) → All (λ s. s < n) starts.now → All (λ s. s < n) (root_states (tree_of tree))) }

@@ -22,12 +22,12 @@ use aut_base::{MOST_NODES, Numbers};
 use std::alloc::{AllocError, Global};
 use std::mem;
 
-/// The step of a tree under the moves of a letter: the new tree, and the least names that were red and green. It is that of any
-/// automaton that has the states of the tree and of the moves, however many states it has. `Nodes` comes exactly where the new tree
-/// has more than `aut_base::MOST_NODES` nodes.
+/// The step of a tree under the moves of a letter: the new tree, and the least names that were red and green. It doesn't
+/// depend on how many states the automaton has. But for want of memory, `Nodes` is answered exactly where the new tree has
+/// more than `aut_base::MOST_NODES` nodes.
 ///
-/// It takes memory and, but for the logarithm of a sort, time in the states of the tree, the moves, and the square of the nodes,
-/// however great their numbers are.
+/// Memory and, but for the logarithm of a sort, time grow with the number of states of the tree, the number of moves, and
+/// the square of the number of nodes; how great the numbers of the states are plays no part.
 pub fn step(alloc: Global, tree: &SafraTree, moves: &Moves) -> Result<(SafraTree, Event), TreeFault>
     ensures tree { IfOk result (λ made. (n : ℕ) → AreStates n moves.now (tree_of tree.now) → tree_of made.0 ≡ pruned (grown n moves.now (tree_of tree.now))) }
     ensures states { IfOk result (λ made. (n : ℕ) → AreStates n moves.now (tree_of tree.now) → All (λ s. s < n) (root_states (tree_of made.0))) }
@@ -45,7 +45,7 @@ pub fn step(alloc: Global, tree: &SafraTree, moves: &Moves) -> Result<(SafraTree
     Ok((named, found.1))
 }
 
-/// The tree with the places of its states in their stead.
+/// The tree with each state replaced by its index in the sight.
 fn small_tree(alloc: Global, sight: &[u32], tree: &SafraTree) -> Result<SafraTree, AllocError>
     requires rises { IsStrictlyIncreasing sight.now }
     requires there { All (λ s. Contains sight.now s) (root_states (tree_of tree.now)) }
@@ -62,7 +62,7 @@ fn small_tree(alloc: Global, sight: &[u32], tree: &SafraTree) -> Result<SafraTre
     })
 }
 
-/// The tree with the states at its places.
+/// The tree with each index replaced by the state of this index in the sight.
 fn named_tree(alloc: Global, sight: &[u32], small: &SafraTree) -> Result<SafraTree, AllocError>
     requires rises { IsStrictlyIncreasing sight.now }
     requires below { All (λ x. x < length sight.now) (root_states (tree_of small.now)) }
@@ -78,10 +78,11 @@ fn named_tree(alloc: Global, sight: &[u32], small: &SafraTree) -> Result<SafraTr
     })
 }
 
-/// The step of a tree of an automaton with so many states, for whoever takes many: the new tree and the event that `step` gives.
+/// As `step`, for a caller that takes many steps with one automaton: `states` is the number of its states, and `room` has
+/// the working lists.
 ///
-/// It takes time in the moves, the states of the automaton, and the square of the nodes. Lists on its way are filled in the room,
-/// whose lists are empty again after a fault.
+/// Time grows with the number of moves, the number of states of the automaton, and the square of the number of nodes. After
+/// a fault the working lists are empty.
 pub fn step_in_room(
     alloc: Global,
     states: u32,
@@ -100,7 +101,7 @@ pub fn step_in_room(
     stepped(alloc, states as usize, tree, moves, room)
 }
 
-/// The same of so many states as there are numbers, at most.
+/// As `step_in_room`, for up to 2^32 states.
 fn stepped(
     alloc: Global,
     states: usize,
@@ -147,7 +148,7 @@ fn stepped(
     Ok((new, event))
 }
 
-/// Which names claim states, and which stay.
+/// Fills the working lists: which names claim states, which own them, and which survive.
 fn passes(
     states: usize,
     tree: &SafraTree,

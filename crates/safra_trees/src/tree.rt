@@ -7,10 +7,10 @@ use aut_base::Numbers;
 use std::hash::{Hash, Hasher};
 
 // Why so: 'Safra trees' in docs/DECISIONS.md.
-/// A compact Safra tree, or none. Contracts see it by `tree_of` of `specs/View` as the list of its nodes.
+/// A compact Safra tree, or the empty one. Contracts see it by `tree_of` of `specs/View` as the list of its nodes.
 ///
-/// Each state stands in one list, with the deepest node that holds it. So two trees are equal exactly where they are the
-/// same list of nodes.
+/// Each state is stored once, with the deepest node that holds it. So two trees are equal exactly where they are the same
+/// list of nodes.
 #[derive(Debug, Drop)]
 pub struct SafraTree {
     /// For each name that of the parent; the root, whose name is 0, is its own.
@@ -41,7 +41,7 @@ impl SafraTree {
         self.parents.len() as u32
     }
 
-    /// The states of the root in their order: all that stand in the tree.
+    /// The states of the root in their order, which are all states of the tree.
     pub fn root_states(&self) -> &[u32]
         ensures { result.now ≡ root_states (tree_of self.now) }
     {

@@ -1,4 +1,4 @@
--- Where two runs part, and what flags tell of it.
+-- The square that decides whether an automaton is unambiguous: its start pairs, their flags, and what it accepts.
 pub mod Decided
 pub mod Flagged
 pub mod Parted

@@ -1,4 +1,4 @@
--- Runs by the places of their edges, put together and taken apart, and runs of deterministic automata.
+-- Runs as lists of edge indices (tracks), joined and split, and runs of deterministic automata.
 pub mod Accepted
 pub mod Deterministic
 pub mod Nth

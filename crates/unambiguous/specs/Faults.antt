@@ -1,4 +1,4 @@
--- Faults of a product, as those of the decision.
+-- The faults of the square, as faults of the decision whether an automaton is unambiguous.
 use Rattle.aut_ops.specs.declared.fault.PairFault.{PairFault}
 use Rattle.aut_ops.specs.declared.fault.PairFault.TheVariants as pair
 use Rattle.unambiguous.specs.declared.fault.SquareFault.{SquareFault}

@@ -1,4 +1,4 @@
--- What holds of unambiguous automata.
+-- Laws of unambiguous automata.
 use Rattle.std.specs.Prelude.{◌≡◌, ◌↔◌, ℕ, ◌<◌, List, [], ◌∷◌, length}
 use Rattle.aut_base.specs.Acceptance.{Accepts}
 use Rattle.aut_base.specs.Automaton.{Automaton, LabelledEdge}
@@ -11,7 +11,8 @@ use Rattle.lasso_emptiness.specs.Emptiness.{AcceptsNothing}
 use Rattle.unambiguous.specs.Runs.{AcceptingRun, IsUnambiguous}
 use Rattle.unambiguous.specs.Parted.{IsParted}
 
--- The square begun where two runs may have parted accepts no lasso word exactly where the automaton is unambiguous.
+-- An automaton is unambiguous exactly where its square, started in the pairs in which two runs may have diverged, accepts
+-- no lasso word.
 abbrev pub PartedDecides : Type 0
 PartedDecides = (a : SymbolicAutomaton) (s : Automaton) → IsWellFormedSymbolic a → IsParted a s → AcceptsNothing s ↔ IsUnambiguous (automaton_of a)
 
@@ -19,14 +20,14 @@ PartedDecides = (a : SymbolicAutomaton) (s : Automaton) → IsWellFormedSymbolic
 abbrev pub DeterministicIsUnambiguous : Type 0
 DeterministicIsUnambiguous = (a : Automaton) → IsDeterministic a → IsUnambiguous a
 
--- one state, and one edge back to it, twice
+-- a self-loop, and the automaton of one state that has it twice
 abbrev pub self_loop : LabelledEdge
 self_loop = record { from = 0; label = LabelTree.True; to = 0; marks = [] }
 
 abbrev pub twice : Automaton
 twice = record { names = []; starts = 0 ∷ []; states = 1; edges = self_loop ∷ self_loop ∷ []; sets = 0; formula = FormulaTree.True }
 
--- It isn't unambiguous.
+-- An automaton that lists one edge twice isn't unambiguous.
 abbrev pub TwiceIsAmbiguous : Type 0
 TwiceIsAmbiguous = IsUnambiguous twice → ⊥
 
@@ -34,6 +35,6 @@ TwiceIsAmbiguous = IsUnambiguous twice → ⊥
 abbrev pub RunsAreAcceptance : Type 0
 RunsAreAcceptance = (a : Automaton) (u v : List NameSet) → 0 < length v → Accepts a u v ↔ AcceptingRun a u v
 
--- The places of the edges fix the start, and so all states: runs that differ differ in the places of their edges.
+-- The indices of the edges determine the start, and so all states: two different runs differ in the index of some edge.
 abbrev pub PlacesFixStart : Type 0
 PlacesFixStart = (a : Automaton) (u v : List NameSet) → 0 < length v → (r t : AcceptingRun a u v) → ((n : ℕ) → nth r.way r.cycle n ≡ nth t.way t.cycle n) → r.start ≡ t.start

@@ -1,4 +1,4 @@
--- Accepting runs over lasso words, as places in the list of edges, and unambiguous automata.
+-- Accepting runs over lasso words, as lists of edge indices, and unambiguous automata.
 use Rattle.std.specs.Prelude.{◌≡◌, ℕ, ◌<◌, true, List, [], ◌∷◌, ◌++◌, map, Contains, length, Some, slice_get}
 use Rattle.std.specs.Option.{option_map_or}
 use Rattle.aut_base.specs.Automaton.{LabelledEdge, Automaton}
@@ -6,11 +6,11 @@ use Rattle.aut_base.specs.Formula.{met}
 use Rattle.aut_base.specs.Label.{truth, holds_at}
 use Rattle.aut_base.specs.Word.{NameSet, copies, nth}
 
--- the marks of the edge at this place
+-- the marks of the edge of this index
 abbrev pub edge_marks : Automaton → ℕ → List ℕ
 edge_marks a m = option_map_or (λ (e : LabelledEdge). e.marks) (slice_get a.edges m) []
 
--- a path from `p` to `q` along the edges at these places, which reads these letters
+-- a path from `p` to `q` along the edges of these indices, which reads these letters
 abbrev pub IsEdgePath : Automaton → ℕ → List NameSet → List ℕ → ℕ → Type 0
 IsEdgePath a p [] [] q = p ≡ q
 IsEdgePath a p [] (m ∷ ms) q = ⊥
@@ -33,7 +33,7 @@ pub record AcceptingRun (a : Automaton) (u v : List NameSet) : Type 0 where
   pub returns : IsEdgePath a state (copies rounds v) cycle state
   pub meets : met (map (edge_marks a) cycle) a.formula ≡ true
 
--- Two accepting runs over one lasso word go along the edges at the same places. Edges are told apart by their places: two equal
--- edges at two places are two.
+-- Two accepting runs over one lasso word take the same edges. Edges are told apart by their index: an edge that is listed
+-- twice counts as two.
 abbrev pub IsUnambiguous : Automaton → Type 0
 IsUnambiguous a = (u v : List NameSet) → 0 < length v → (r t : AcceptingRun a u v) (n : ℕ) → nth r.way r.cycle n ≡ nth t.way t.cycle n

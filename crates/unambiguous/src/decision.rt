@@ -13,9 +13,9 @@ use aut_core::Automaton;
 use lasso_emptiness::accepts_some;
 use std::alloc::Global;
 
-/// Whether on no lasso word two accepting runs of the automaton differ in an edge. Edges are compared by their places, so two
-/// equal edges at two places are two. Takes time and space linear in the edges of the product of the automaton with itself,
-/// and then what emptiness takes.
+/// Whether on no lasso word two accepting runs of the automaton differ in an edge. Edges are told apart by their index in
+/// the list of edges, so an edge that is listed twice counts as two. Takes time and space linear in the edges of the
+/// product of the automaton with itself, and then what emptiness takes.
 pub fn is_unambiguous(alloc: Global, a: &Automaton) -> Result<bool, SquareFault>
     requires sets { a.now.sets + a.now.sets + 1 < 2 ^ 32 }
     ensures answer { IfOk result (λ found. IsTrue found ↔ IsUnambiguous (automaton_of a.now)) }

@@ -1,4 +1,4 @@
-//! Why it could not be said whether an automaton is unambiguous.
+//! Why it was not decided whether an automaton is unambiguous.
 
 ghost use Rattle.std.specs.Prelude.{◌≡◌};
 ghost use Rattle.aut_ops.specs.declared.fault.PairFault.{PairFault};
@@ -8,7 +8,7 @@ ghost use Rattle.unambiguous.specs.declared.fault.SquareFault.{SquareFault};
 use aut_base::Memory;
 use aut_ops::PairFault;
 
-/// Why it could not be said whether an automaton is unambiguous.
+/// Why it was not decided whether an automaton is unambiguous.
 #[derive(Clone, Copy, Debug, PartialEq, Eq)]
 pub enum SquareFault {
     /// More pairs of states are reached than `aut_base::MOST_PAIRS`.
@@ -28,7 +28,7 @@ impl From<Memory> for SquareFault {
 impl From<PairFault> for SquareFault {
     ghost from_gives = { λ came fault. fault ≡ square_fault came };
 
-    /// An automaton has the names of its square, so these are never too many.
+    /// The square has the names of the automaton, so `Names` never occurs.
     fn from(came: PairFault) -> SquareFault {
         match came {
             PairFault::Pairs => SquareFault::Pairs,

@@ -1,8 +1,9 @@
-//! What holds of unambiguous automata.
+//! Laws of unambiguous automata.
 
 ghost use Rattle.unambiguous.specs.Laws.{DeterministicIsUnambiguous, PartedDecides, PlacesFixStart, RunsAreAcceptance, TwiceIsAmbiguous};
 
-/// The square begun where two runs may have parted accepts no lasso word exactly where the automaton is unambiguous.
+/// An automaton is unambiguous exactly where its square, started in the pairs in which two runs may have diverged, accepts
+/// no lasso word.
 pub fn parted_decides()
     ensures { PartedDecides }
 {}
@@ -12,17 +13,17 @@ pub fn deterministic_is_unambiguous()
     ensures { DeterministicIsUnambiguous }
 {}
 
-/// An automaton with one edge twice isn't.
+/// An automaton that lists one edge twice isn't unambiguous.
 pub fn twice_is_ambiguous()
     ensures { TwiceIsAmbiguous }
 {}
 
-/// The words that have an accepting run are those that are accepted.
+/// A lasso word has an accepting run, as a list of edge indices, exactly where it is accepted.
 pub fn runs_are_acceptance()
     ensures { RunsAreAcceptance }
 {}
 
-/// The places of the edges fix the start of an accepting run.
+/// The indices of the edges of an accepting run determine its start.
 pub fn places_fix_start()
     ensures { PlacesFixStart }
 {}

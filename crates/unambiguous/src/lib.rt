@@ -1,7 +1,7 @@
 //! Whether an automaton is unambiguous: on no lasso word two of its accepting runs differ in an edge.
 //!
-//! A caller sees `is_unambiguous` and laws. Accepting runs and what is unambiguous are defined in `specs/Runs`, where two runs part
-//! in `specs/Parted`.
+//! A caller sees `is_unambiguous` and laws. Accepting runs and unambiguous automata are defined in `specs/Runs`, the square
+//! that decides it in `specs/Parted`.
 #![tactic(auto)]
 
 mod decision;

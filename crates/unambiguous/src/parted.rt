@@ -1,4 +1,4 @@
-//! The square of an automaton, begun where two runs part.
+//! The product of an automaton with itself (its square), started in the pairs in which two runs have diverged.
 
 ghost use Rattle.std.specs.Prelude.{◌≡◌, ◌+◌, ◌<◌, ◌≤◌, ◌^◌, ℕ, All, IfOk, IsErrOf, OnOk, Some, length, slice_get};
 ghost use Rattle.aut_base.specs.declared.limit.TheConstants.{MOST_PAIRS};
@@ -15,8 +15,9 @@ use aut_ops::square;
 use indexmap::IndexSet;
 use std::alloc::Global;
 
-/// The product of the automaton with itself, begun in the pairs behind which two runs have parted: those of different states, and
-/// those of a state with itself to which two edges at different places lead at once.
+/// The product of the automaton with itself, started in the reached pairs in which two runs have diverged: those of
+/// different states, and those of a state with itself to which twins lead, two edges with the same source that some letter
+/// meets.
 pub(crate) fn parted_square(alloc: Global, a: &Automaton) -> Result<Automaton, SquareFault>
     requires sets { a.now.sets + a.now.sets + 1 < 2 ^ 32 }
     ensures parted { IfOk result (λ made. IsParted a.now (automaton_of made)) }
@@ -41,7 +42,7 @@ pub(crate) fn parted_square(alloc: Global, a: &Automaton) -> Result<Automaton, S
     )?)
 }
 
-/// The places of the pairs of different states, and of a flagged state with itself.
+/// The indices of the pairs of different states, and of those of a flagged state with itself.
 fn partings(alloc: Global, pairs: &IndexSet<(u32, u32)>, flags: &[bool]) -> Result<Numbers, Memory>
     requires few { length pairs.now.keys ≤ MOST_PAIRS }
     requires within { All (λ pair. pair.0 < length flags.now) pairs.now.keys }
@@ -57,7 +58,7 @@ fn partings(alloc: Global, pairs: &IndexSet<(u32, u32)>, flags: &[bool]) -> Resu
     Ok(starts)
 }
 
-/// The pair at this place.
+/// The pair of this index.
 fn pair_at(pairs: &IndexSet<(u32, u32)>, place: usize) -> (u32, u32)
     requires { place < length pairs.now.keys }
     ensures { slice_get pairs.now.keys place ≡ Some result }
@@ -65,7 +66,7 @@ fn pair_at(pairs: &IndexSet<(u32, u32)>, place: usize) -> (u32, u32)
     pairs.as_slice()[place]
 }
 
-/// Whether the states differ, or are one that is flagged.
+/// Whether the two states differ, or are the same flagged state.
 fn have_parted(pair: (u32, u32), flags: &[bool]) -> bool
     requires { pair.0 < length flags.now }
     ensures { result ≡ parts flags.now pair }

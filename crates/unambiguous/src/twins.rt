@@ -1,4 +1,4 @@
-//! Edges at two places that lead at once from one state to one state.
+//! Twins: two edges with the same source and the same target, both of which some letter meets.
 
 ghost use Rattle.std.specs.Prelude.{◌≡◌, ◌↔◌, ◌<◌, IfOk, IsTrue, Some, length, slice_get};
 ghost use Rattle.label_guards.specs.Store.{Has, Keeps};
@@ -10,8 +10,8 @@ use indexmap::IndexSet;
 use label_guards::Guards;
 use std::alloc::Global;
 
-/// For each state whether two edges at different places lead there at one letter from one state, which is paired with itself.
-/// The store of the pairs knows already what two such edges have in common.
+/// For each state whether twins lead to it from a state whose pair with itself is listed. The conjunctions of their guards
+/// are in the store of the square already.
 pub(crate) fn twin_ends(
     alloc: Global,
     guards: &mut Guards,
@@ -36,7 +36,7 @@ pub(crate) fn twin_ends(
     Ok(flags)
 }
 
-/// Whether the edge at this place has a twin behind it. The edges of one state stand together.
+/// Whether the edge of this index has a twin of a higher index. The edges of a state are consecutive in the list.
 fn has_twin(
     guards: &mut Guards,
     a: &Automaton,
@@ -66,7 +66,7 @@ fn has_twin(
     Ok(false)
 }
 
-/// The edge at this place.
+/// The edge of this index.
 fn link_at(links: &[Link], place: usize) -> &Link
     requires { place < length links.now }
     ensures { Some result.now ≡ slice_get links.now place }
@@ -74,14 +74,14 @@ fn link_at(links: &[Link], place: usize) -> &Link
     &links[place]
 }
 
-/// Whether the state is paired with itself.
+/// Whether the pair of the state with itself is listed.
 fn is_paired(pairs: &IndexSet<(u32, u32)>, state: u32) -> bool
     ensures { result ≡ is_doubled pairs.now.keys state }
 {
     pairs.contains(&(state, state))
 }
 
-/// Whether the edges lead to one state, and some letter meets both.
+/// Whether the edges lead to the same state, and some letter meets both.
 fn meet(guards: &mut Guards, link: &Link, other: &Link) -> Result<bool, Memory>
     requires first { Has guards.old link.now.guard }
     requires second { Has guards.old other.now.guard }

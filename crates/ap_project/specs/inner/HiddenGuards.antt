@@ -1,4 +1,4 @@
--- Guards with a proposition hidden, and a table of them.
+-- Guards with a proposition hidden, and the table of those that were computed.
 use Rattle.std.specs.Prelude.{◌≡◌, ◌<◌, ℕ, Bool, true, false, All, Contains, List, [], Some, cond, length, nat_eq, slice_get}
 use Rattle.std.specs.List.{slice_index_or}
 use Rattle.std.specs.Map.{lookup}
@@ -15,38 +15,38 @@ use Rattle.label_guards.specs.declared.guard.Guard.{Guard}
 abbrev pub hidden_in : Store → Hide → ℕ → Guard → (ℕ → Bool) → Bool
 hidden_in s how prop g on = hidden_value how (truth_in s g (with_prop on prop false)) (truth_in s g (with_prop on prop true))
 
--- h of store t is g of store s with the proposition hidden; each other proposition is in t the one at its place in the list
+-- h of store t is g of store s with the proposition hidden; proposition k of s is proposition `to[k]` of t
 pub record IsHiddenGuard (s t : Store) (how : Hide) (prop : ℕ) (to : List ℕ) (g h : Guard) : Type 0 where
   pub from : Has s g
   pub has : Has t h
   pub truth : (on : ℕ → Bool) → truth_in t h on ≡ hidden_in s how prop g (λ k. on (slice_index_or to k 0))
 
--- places in a list of so many items, if it has any
+-- indices of a list of `count` items, if it has any
 abbrev pub ArePlacesWithin : ℕ → List ℕ → Type 0
 ArePlacesWithin count places = 0 < count → All (λ place. place < count) places
 
--- the place of each name of the first list in the second, for those that the second has
+-- the index in the second list of each name of the first, for the names that the second has
 pub record ArePlacesOfNames (names others : List (List ℕ)) (to : List ℕ) : Type 0 where
   pub count : length to ≡ length names
   pub within : ArePlacesWithin (length others) to
   pub places : (k : ℕ) (name : List ℕ) → slice_get names k ≡ Some name → Contains others name → slice_get others (slice_index_or to k 0) ≡ Some name
 
--- the name at a place
+-- the name of this index
 abbrev pub name_at : List (List ℕ) → ℕ → List ℕ
 name_at names k = slice_index_or names k []
 
--- the edge of a link, with its label after the proposition is hidden
+-- the edge of a link, with the proposition hidden in its label
 abbrev pub hidden_link : Hide → ℕ → SymbolicAutomaton → Link → LabelledEdge
 hidden_link how prop a l = record (edge_of a.store l) { label = hidden_label how (name_at a.names prop) a.names (label_in a.store l.guard) }
 
--- whether the guards have the same number
+-- whether two guards of a store are the same
 abbrev pub same_guard : Guard → Guard → Bool
 same_guard g h = nat_eq g.place h.place
 
--- the table with one guard more
+-- the new table is the old one with `found` inserted for `g`
 abbrev pub IsGuardInserted : (old new : List (Guard × Guard)) (g found : Guard) → Type 0
 IsGuardInserted old new g found = (q : Guard) → lookup (same_guard q) new ≡ cond (same_guard g q) (Some found) (lookup (same_guard q) old)
 
--- each guard of the table is the one under which it stands, with the proposition hidden
+-- each guard of the table is its key with the proposition hidden
 abbrev pub AreHidden : Store → Store → Hide → ℕ → List ℕ → List (Guard × Guard) → Type 0
 AreHidden s t how prop to entries = (g h : Guard) → lookup (same_guard g) entries ≡ Some h → IsHiddenGuard s t how prop to g h

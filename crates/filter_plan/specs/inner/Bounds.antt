@@ -1,4 +1,4 @@
--- The two ends of a range, as they stand before and behind its dots.
+-- The two ends of a range, as the texts before and after its dots.
 use Rattle.std.specs.Prelude.{◌≡◌, ◌⊎◌, ℕ, List, [], Option, Some, None}
 use Rattle.filter_plan.specs.Numbers.{IsNumber}
 use Rattle.filter_plan.specs.declared.range.Range.{Range}

@@ -1,4 +1,4 @@
--- What an entry of the code's table makes `clap` know.
+-- The `clap` rule of an entry of the code's table.
 use Rattle.std.specs.Prelude.{Some, if◌then◌else◌}
 use Rattle.clap.specs.Words.{Rule, new_rule}
 use Rattle.clap.specs.declared.builder.action.ArgAction.TheVariants.{Set, SetTrue}

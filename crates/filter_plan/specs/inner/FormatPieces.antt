@@ -4,7 +4,7 @@ use Rattle.std.specs.Option.{option_map}
 use Rattle.filter_plan.specs.declared.format.Piece.{Piece}
 use Rattle.filter_plan.specs.declared.format.Piece.TheVariants.{Byte, States, Edges, Sets, Word}
 
--- what a `%` with this byte behind it writes
+-- the piece that `%` and this byte spell
 abbrev pub escape : ℕ → Option Piece
 escape c = if c == 37 then Some (Byte 37)
     else (if c == 115 then Some States
@@ -16,7 +16,7 @@ abbrev pub escape_piece : List ℕ → Option (Piece × List ℕ)
 escape_piece [] = None
 escape_piece (c ∷ rest) = option_map (λ p. (p, rest)) (escape c)
 
--- the first piece, and what stands behind it
+-- the first piece, and the rest of the text after it
 abbrev pub first_piece : List ℕ → Option (Piece × List ℕ)
 first_piece [] = None
 first_piece (b ∷ rest) = if b == 37 then escape_piece rest else Some (Byte b, rest)

@@ -7,16 +7,16 @@ use Rattle.filter_plan.specs.contracts.plan.Form.{the_type}
 use Rattle.filter_plan.specs.declared.plan.Form.{Form}
 use Rattle.filter_plan.specs.declared.plan.Form.TheVariants.{Deterministic, Parity, Buchi, RemoveFin, Dnf, Monitor}
 
--- which flags stand where the plan has this form
+-- which flags are given where the plan has this form
 abbrev pub flags_of : Form → List Bool
 flags_of form = sameb the_type form Deterministic ∷ sameb the_type form Parity ∷ sameb the_type form Buchi ∷ sameb the_type form RemoveFin ∷ sameb the_type form Dnf ∷ sameb the_type form Monitor ∷ []
 
--- which flags stand
+-- which flags of forms are given
 abbrev pub standing : List Row → List Bool
 standing rows = is_on (values_of (codes "deterministic") rows) ∷ is_on (values_of (codes "parity") rows) ∷ is_on (values_of (codes "buchi") rows) ∷ is_on
     (values_of (codes "remove-fin") rows) ∷ is_on (values_of (codes "dnf-acceptance") rows) ∷ is_on (values_of (codes "monitor") rows) ∷ []
 
--- each flag stands where the plan has its form
+-- each flag is given exactly where the plan has its form
 pub record IsForm (rows : List Row) (form : Form) : Type 0 where
   pub deterministic : IsTrue (is_on (values_of (codes "deterministic") rows)) ↔ (form ≡ Deterministic)
   pub parity : IsTrue (is_on (values_of (codes "parity") rows)) ↔ (form ≡ Parity)

@@ -1,4 +1,4 @@
--- The plan that the options and streams give, before the rules between options; and its files of operands.
+-- The plan that the options and streams give, without the rules between options; and its files of operands.
 use Rattle.std.specs.Prelude.{◌≡◌, List}
 use Rattle.clap.specs.Words.{Row}
 use Rattle.filter_plan.specs.Table.{EachGives, table}

@@ -1,4 +1,4 @@
--- What files of operands are read as.
+-- The files of operands that the options give.
 use Rattle.std.specs.Prelude.{List, codes}
 use Rattle.clap.specs.Words.{Row}
 use Rattle.filter_plan.specs.Table.{IsFile, ReadsOption, values_of}

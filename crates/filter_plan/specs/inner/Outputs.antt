@@ -1,4 +1,4 @@
--- The options for what is printed.
+-- What is printed of a kept automaton, by the options.
 use Rattle.std.specs.Prelude.{List, codes}
 use Rattle.clap.specs.Words.{Row}
 use Rattle.filter_plan.specs.Formats.{IsFormat}

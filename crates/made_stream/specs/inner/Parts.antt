@@ -13,14 +13,14 @@ part_front part.State = codes "State: "
 part_front part.Edge = codes "[0] "
 part_front part.Last = codes "[0] "
 
--- the number of a part, in a ring of so many states and about a state
+-- the number in a part, for a ring of `ring` states and a part about `state`
 abbrev pub part_number : ℕ → ℕ → Part → ℕ
 part_number ring state part.Head = ring
 part_number ring state part.State = state
 part_number ring state part.Edge = state
 part_number ring state part.Last = 0
 
--- the fixed bytes behind the number
+-- the fixed bytes after the number
 abbrev pub part_back : ℕ → Part → List ℕ
 part_back ring part.Head = codes "\nStart: 0\nAP: 1 \"a\"\nAcceptance: 1 Inf(0)\n--BODY--\n"
 part_back ring part.State = codes "\n"
@@ -31,20 +31,20 @@ part_back ring part.Last = if ring % 2 == 1 then codes " {0}\n--END--\n" else co
 unfoldable pub ring_part_text : ℕ → ℕ → Part → List ℕ
 ring_part_text ring state p = part_front p ++ (decimal (part_number ring state p) ++ part_back ring p)
 
--- the rest of a ring behind the line of a state, which so many other states follow
+-- the rest of a ring after the line of a state that `more` other states follow
 unfoldable pub behind_state : ℕ → ℕ → ℕ → List ℕ
 behind_state ring state zero = ring_part_text ring state part.Last
 behind_state ring state (suc more) =
     ring_part_text ring (state + 1) part.Edge
     ++ (ring_part_text ring (state + 1) part.State ++ behind_state ring (state + 1) more)
 
--- the rest of a ring behind a part
+-- the rest of a ring after a part
 unfoldable pub behind_part : ℕ → ℕ → Part → List ℕ
 behind_part ring state part.Head = ring_part_text ring state part.State ++ behind_state ring state (ring - 1 - state)
 behind_part ring state part.State = behind_state ring state (ring - 1 - state)
 behind_part ring state part.Edge = ring_part_text ring state part.State ++ behind_state ring state (ring - 1 - state)
 behind_part ring state part.Last = []
 
--- the rings behind this one, up to the last
+-- the rings after this one, up to the last
 unfoldable pub rings_behind : ℕ → ℕ → List ℕ
 rings_behind count ring = flat_map ring_text (range_with_len (ring + 1) (count - ring))

@@ -18,7 +18,7 @@ pub(super) fn digit_count(number: u32) -> usize
     }
 }
 
-/// The digit of a number at a place, from 0.
+/// The decimal digit of a number at an index, counted from 0 at its first digit.
 pub(super) fn digit_at(number: u32, place: usize) -> u8
     requires few { number < 100000 }
     requires within { place < length (decimal number) }
@@ -27,7 +27,7 @@ pub(super) fn digit_at(number: u32, place: usize) -> u8
     digit_before(number, digit_count(number) - 1 - place)
 }
 
-/// The digit of a number which so many others follow.
+/// The digit of a number that is followed by `others` more digits.
 fn digit_before(number: u32, others: usize) -> u8
     requires { others < length (decimal number) }
     ensures { slice_get (decimal number) (length (decimal number) - 1 - others) ≡ Some result }

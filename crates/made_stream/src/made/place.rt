@@ -16,11 +16,11 @@ pub(super) enum Part {
     State,
     /// The line of the edge that leads to the state.
     Edge,
-    /// The line of the edge of the last state, and the end.
+    /// The line of the edge of the last state, and the end of the automaton.
     Last,
 }
 
-/// The place of a byte: in a ring of so many states, in a part that speaks of a state, behind `given` bytes of the part.
+/// The place of a byte: in the ring of `ring` states, in the part `part` about `state`, after `given` bytes of that part.
 #[derive(Clone, Copy, Debug)]
 pub(super) struct Place {
     ring: u32,
@@ -84,7 +84,7 @@ impl Place {
         })
     }
 
-    /// The place of the first byte behind the part, if any is there.
+    /// The place of the first byte after the part, if there is any.
     fn behind(self, count: u32) -> Option<Self>
         requires { count ≤ MOST_MADE }
         ensures { left_at count result ≡ behind_part self.ring self.state self.part ++ rings_behind count self.ring }
@@ -146,7 +146,7 @@ fn front(part: Part) -> &'static [u8]
     }
 }
 
-/// The fixed bytes of a part behind its number, in a ring of so many states.
+/// The fixed bytes of a part after its number, in a ring of `ring` states.
 fn back(ring: u32, part: Part) -> &'static [u8]
     ensures { result.now ≡ part_back ring part }
 {

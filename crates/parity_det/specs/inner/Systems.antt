@@ -1,4 +1,5 @@
--- What the functions of the construction say to one another.
+-- Definitions for the contracts of private functions: moves of a class, the event and mark of its step, and the limit that
+-- is met first.
 use Rattle.std.specs.Prelude.{◌≡◌, ℕ, Bool, List, Some, slice_get}
 use Rattle.aut_base.specs.Automaton.{Automaton, LabelledEdge}
 use Rattle.aut_core.specs.SymbolicAutomata.{SymbolicAutomaton, automaton_of}
@@ -13,7 +14,7 @@ use Rattle.safra_trees.specs.Trees.{Node}
 use Rattle.safra_trees.specs.declared.event.Event.{Event}
 use Rattle.safra_trees.specs.declared.moves.Move.{Move}
 
--- the moves of those of the edges that are read
+-- the moves of the edges of the list that pass the test
 abbrev pub moves_of : (LabelledEdge → Bool) → List LabelledEdge → List Move
 moves_of = taken_of move_of
 
@@ -21,7 +22,7 @@ moves_of = taken_of move_of
 abbrev pub IsClassEvent : SymbolicAutomaton → List Node → ℕ → Event → Type 0
 IsClassEvent c t k event = (v : List Bool) → slice_get (tree_classes (automaton_of c) t) k ≡ Some v → event ≡ event_of c.states (class_moves (automaton_of c) t v) t
 
--- the mark of the step of an event, among those of trees with at most so many nodes
+-- the mark of a step with this event, where trees have at most `most` nodes
 abbrev pub mark_of : ℕ → Event → ℕ
 mark_of most event = priority_by most event.red event.green
 

@@ -1,4 +1,4 @@
--- A state that is expanded class by class: each letter meets one of its edges and no two, and the edge is a step.
+-- A state that is expanded class by class: each letter meets exactly one of its edges, and that edge is a step.
 use Rattle.std.proofs.Common.{◌≡◌, ◌∙◌, ◌<◌, ◌==◌, ℕ, zero, suc, Bool, true, List, [], ◌∷◌, All, AllPairs, Contains, Some, ap, arith, get_or, length, refl, slice_index_or, subst, sym}
 use Rattle.std.proofs.lemmas.Bool.{eq-eqb}
 use Rattle.std.proofs.lemmas.List.FromFn.{get_or-range_with_len, length-range_with_len}
@@ -55,7 +55,7 @@ module _ (b d : Automaton) (trees : List (List Node)) (most i : ℕ) (x : IsExpa
       let found = from_map edge_for (range_with_len 0 (length x.classes)) e inside in
       record { place = found.0; below = omega (arith, (from_range 0 (length x.classes) found.0 found.1).1); is = found.2 }
 
-  -- the letter meets the class whose edge it meets
+  -- a letter is in the class whose edge it meets
   meets_place : (k : ℕ) → k < length x.classes → (letter : NameSet) → is_met d.names letter (edge_for k) ≡ true → MeetsClass x.classes (holds_at d.names letter) k
   meets_place k below letter meets = is_meets x.classes (holds_at d.names letter) k below meets
 
@@ -97,7 +97,7 @@ module _ (b d : Automaton) (trees : List (List Node)) (most i : ℕ) (x : IsExpa
       let each = (x.are.alike (holds_at d.names letter) (x.valuation k) k k (meets_place k below letter meets) (x.met k below)).0 refl in
       same_root_moves b t (x.valuation k) letter (subst (λ ns. All (λ l. truth (holds_at ns letter) l ≡ truth (x.valuation k) l) (root_labels b t)) names each)
 
-  -- the edge of a class is a step under each letter that meets it
+  -- the edge of a class is a step under each letter of the class
   class_step : d.names ≡ b.names → IsTree t → (k : ℕ) → k < length x.classes → (letter : NameSet)
       → is_met d.names letter (edge_for k) ≡ true → IsStepEdge b trees most letter (edge_for k)
   class_step names tree k below letter meets =

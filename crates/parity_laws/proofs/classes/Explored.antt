@@ -1,4 +1,4 @@
--- What is explored class by class is determinised.
+-- An automaton that is explored class by class is determinised.
 use Rattle.std.proofs.Common.{◌<◌, ℕ, true, List, ap, arith, length, refl}
 use Rattle.aut_base.proofs.lists.Members.{each_there}
 use Rattle.aut_base.specs.Automaton.{Automaton, LabelledEdge}

@@ -1,4 +1,5 @@
--- Where the labels of the edges that leave the root's states have the same truths, the moves from those states are the same.
+-- At letters where the labels of the edges from the root's states have the same truths, the moves from those states are the
+-- same.
 use Rattle.std.proofs.Common.{◌≡◌, ◌∙◌, ◌&&◌, ℕ, Bool, true, List, All, Contains, ap, filter, subst, sym}
 use Rattle.std.proofs.lemmas.List.Elements.{All-contains}
 use Rattle.std.proofs.lemmas.Bool.{and_from, and_parts}

@@ -1,4 +1,5 @@
--- A deterministic automaton whose states go on, with the dual condition: of each word exactly one of the two accepts it.
+-- A deterministic complete automaton, and the one with the dual condition: each lasso word is accepted by exactly one of
+-- the two.
 use Rattle.std.proofs.Common.{◌≡◌, ◌∙◌, ◌+◌, ◌*◌, ◌<◌, ◌⊎◌, ℕ, true, not, List, [], ◌∷◌, ◌++◌, Contains, ap, arith, inl, inr, length, refl, slice_index_or, subst, sym}
 use Rattle.std.proofs.lemmas.Bool.{cases_Bool, not-true, true≢false}
 use Rattle.std.proofs.lemmas.List.Elements.{All-contains, Contains-get_or}
@@ -21,7 +22,7 @@ use Rattle.parity_laws.specs.Complement.{AreComplementLanguages, ComplementsOfTh
 opposite : (cycle : List (List ℕ)) (f : FormulaTree) → met cycle f ≡ true → met cycle (dual f) ≡ true → ⊥
 opposite cycle f one two = true≢false (sym one ∙ not-true (met cycle f) (sym (met-dual cycle f) ∙ two))
 
--- two runs over one lasso word, to the same turns and rounds, go round the same cycle
+-- two runs over one lasso word, taken to the same turns and rounds, have the same cycle
 one_cycle : (d : Automaton) → IsDeterministic d → (u v : List NameSet) (turns rounds : ℕ) (first second : LassoRun d u v turns rounds) → first.cycle ≡ second.cycle
 one_cycle d det u v turns rounds first second =
     let w = u ++ copies turns v in

@@ -1,5 +1,5 @@
--- What the determinised automaton accepts, the Büchi automaton does: its cycle comes back to its tree with an odd least
--- priority.
+-- A word that the determinised automaton accepts is accepted by the Büchi automaton: the cycle comes back to its tree, and
+-- the least priority on it is odd.
 use Rattle.std.proofs.Common.{◌≡◌, ◌∙◌, ◌+◌, ◌*◌, ◌<◌, ℕ, zero, suc, true, List, [], ◌∷◌, ◌++◌, Contains, ap, append_assoc, arith, inl, inr, length, map, refl, subst, sym}
 use Rattle.std.proofs.lemmas.List.{length-map, map-append}
 use Rattle.std.proofs.Math.Nat.{mul-pos}
@@ -34,7 +34,7 @@ each_below n most t (ms ∷ w) m there = elim (there_cases (priority n most ms t
   | inr later ↦ each_below n most (next_tree n ms t) w m later
 ]
 
--- what is accepted over the moves of the letters is accepted by the automaton
+-- a word is accepted by the automaton where the moves of its letters are
 accepted_of : (b : Automaton) → IsBuchiForm b → (u v : List NameSet) (turns rounds : ℕ) → 0 < length v → 0 < rounds
     → IsAccepted b.starts (map (moves_at b) (u ++ copies turns v)) (map (moves_at b) (copies rounds v)) → Accepts b u v
 accepted_of b buchi u v turns rounds endless positive a =

@@ -1,5 +1,6 @@
--- What the Büchi automaton accepts, the determinised one does. Its run over the stem and copies of the cycle comes to a closed
--- path, whose round the Büchi automaton's cycle goes round as often; so its least priority is odd.
+-- A word that the Büchi automaton accepts is accepted by the determinised one. The latter's run over the stem and copies of
+-- the cycle reaches a closed path; the Büchi automaton's cycle, repeated as often, reads the same letters, and so the least
+-- priority on the path is odd.
 use Rattle.std.proofs.Common.{◌≡◌, ◌∙◌, ◌+◌, ◌*◌, ◌<◌, ℕ, true, false, List, [], ◌++◌, Contains, ap, length, map, subst, sym}
 use Rattle.std.specs.List.{list_any}
 use Rattle.std.proofs.Math.Nat.{mul-pos}
@@ -29,7 +30,7 @@ use Rattle.parity_laws.proofs.runs.Runs.{closes, run}
 use Rattle.parity_laws.specs.Buchi.{IsBuchiForm, move_of, moves_at}
 use Rattle.parity_laws.specs.Determinised.{TracksTrees, tree_at}
 
--- a cycle that meets the condition, gone more often, has an accepting move
+-- a cycle that meets the condition, repeated some times, has an accepting move
 accepting_copies : (b : Automaton) → IsBuchiForm b → (k : ℕ) (cycle : List LabelledEdge) → 0 < k → met (map (λ e. e.marks) cycle) b.formula ≡ true
     → list_any (λ (m : Move). m.accepting) (map move_of (copies k cycle)) ≡ true
 accepting_copies b buchi k cycle positive meets =

@@ -72,7 +72,7 @@ edges_of_path b p q (x ∷ xs) (m ∷ ms) path =
       is = ap (λ (w : Move). w ∷ map move_of rest.edges) e.is ∙ ap (λ ws. m ∷ ws) rest.is;
     }
 
--- set 0 is met where a move is accepting
+-- a cycle is in set 0 exactly where one of its moves is accepting
 pub met_buchi : (es : List LabelledEdge) → met (map (λ (e : LabelledEdge). e.marks) es) (Inf 0 false) ≡ list_any (λ (m : Move). m.accepting) (map move_of es)
 met_buchi es = list_any-map (is_in 0) (λ (e : LabelledEdge). e.marks) es ∙ sym (list_any-map (λ (m : Move). m.accepting) move_of es)
 

@@ -51,7 +51,7 @@ odd_met most ms odd =
       })
     ])
 
--- a mark that isn't too high is carried
+-- some mark is carried, where each is one of the sets
 some_carried : (most : ℕ) (ms : List ℕ) → 0 < length ms → ((m : ℕ) → Contains ms m → m < most + most + 1) → ((k : ℕ) → k < most + most + 1 → IsCarried (single ms) k → ⊥) → ⊥
 some_carried most [] some high none = omega (arith, some)
 some_carried most (m ∷ ms) some high none = none m (high m (first_there m ms)) (carried_from (m ∷ ms) m (first_there m ms))

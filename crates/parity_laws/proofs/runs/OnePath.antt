@@ -8,7 +8,7 @@ use Rattle.aut_base.specs.Automaton.{Automaton, LabelledEdge}
 use Rattle.aut_base.specs.Word.{NameSet}
 use Rattle.aut_core.specs.Deterministic.{AreApart, IsDeterministic, is_met}
 
--- a letter doesn't meet two edges of one state, at two places
+-- a letter doesn't meet two edges of one state that have different indices
 never_two : (d : Automaton) → IsDeterministic d → (e f : LabelledEdge) (i j : ℕ) (x : NameSet) → slice_get d.edges i ≡ Some e → slice_get d.edges j ≡ Some f → i < j
     → e.from ≡ f.from → is_met d.names x e ≡ true → is_met d.names x f ≡ true → ⊥
 never_two d det e f i j x at_i at_j less from meets too =
@@ -31,7 +31,7 @@ one_edge d det e f x there also from meets too =
       ])
     ]
 
--- the same edges and the same end
+-- two paths have the same edges and the same end
 pub record SamePath (es fs : List LabelledEdge) (q r : ℕ) : Type 0 where
   pub edges : es ≡ fs
   pub ends : q ≡ r

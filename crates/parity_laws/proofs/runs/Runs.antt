@@ -1,4 +1,4 @@
--- The runs of an automaton in which each state goes on under each letter, and where they close over a cycle.
+-- The runs of an automaton in which each state has a successor at each letter, and where they close over a cycle.
 use Rattle.std.proofs.Common.{◌≡◌, ◌∙◌, ◌+◌, ◌-◌, ◌<◌, ℕ, zero, suc, true, List, [], ◌∷◌, ◌++◌, Contains, ap, arith, refl, subst, sym}
 use Rattle.aut_base.proofs.runs.Paths.{path_join}
 use Rattle.aut_base.proofs.numbers.Pigeonhole.{pigeons}
@@ -7,7 +7,7 @@ use Rattle.aut_base.specs.Automaton.{Automaton, LabelledEdge}
 use Rattle.aut_base.specs.Word.{NameSet, copies}
 use Rattle.aut_core.specs.Deterministic.{HasSuccessor, is_met}
 
--- the states below `size` go on among themselves
+-- each state below `size` has a successor at each letter, and that is below `size` too
 pub record IsClosed (d : Automaton) (size : ℕ) : Type 0 where
   pub total : (i : ℕ) (x : NameSet) → i < size → HasSuccessor d i x
   pub within : (e : LabelledEdge) (x : NameSet) → Contains d.edges e → is_met d.names x e ≡ true → e.to < size
@@ -30,7 +30,7 @@ module _ (d : Automaton) (size : ℕ) (closed : IsClosed d size) where
     pub state : ℕ
     pub below : state < size
 
-  -- the state after the letters, and after them so many times
+  -- the state after the letters, and after so many repetitions of them
   abbrev next : List NameSet → Within → Within
   next v a = let r = run a.state a.below v in record { state = r.stop; below = r.below }
 
@@ -55,7 +55,7 @@ module _ (d : Automaton) (size : ℕ) (closed : IsClosed d size) where
       let e : suc (j + k) ≡ suc j + k = omega arith in
       times_more v j k (next v a) ∙ ap (λ i. times v i a) e
 
-  -- from a state a run comes to a closed path, over copies of the same letters
+  -- from a state a run over copies of the same letters reaches a closed path
   pub record Closes (i : ℕ) (v : List NameSet) : Type 0 where
     pub before : ℕ
     pub more : ℕ

@@ -49,7 +49,7 @@ which on zero meets = inl (refl, not_true (on 0) (same_Some (not (on 0)) true me
 which on (suc zero) meets = inr (refl, same_Some (on 0) true meets)
 which on (suc (suc i)) meets = absurd (none-some true meets)
 
--- labels that tell `a` from its absence, and nothing else
+-- the labels of the list tell letters with `a` from those without, and tell nothing else apart
 record TellsA (list : List LabelTree) : Type 0 where
   there : Contains list when_a
   alike : (on also : ℕ → Bool) → on 0 ≡ also 0 → All (λ l. truth on l ≡ truth also l) list
@@ -153,7 +153,7 @@ buchi = record {
   ends = each_of (λ (e : LabelledEdge). e.to < 2) finitely_often.edges (omega arith, (omega arith, (omega arith, tt)));
 }
 
--- by way of the second state to the third, and there round
+-- through the second state to the third, which has the cycle
 always_accepted : Accepts determinised [] (on ∷ [])
 always_accepted = record {
   endless = omega arith;

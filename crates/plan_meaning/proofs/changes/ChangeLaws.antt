@@ -1,4 +1,4 @@
--- Changes make no more than one automaton, or else pass no more than one limit.
+-- A list of changes makes at most one automaton, or else passes at most one limit, and never both.
 use Rattle.std.proofs.Common.{◌≡◌, ◌∙◌, ◌<◌, ◌⊎◌, List, [], ◌∷◌, ap, arith, inl, inr, refl, subst, sym}
 use Rattle.acc_forms.specs.Joined.{conj, disj}
 use Rattle.aut_base.specs.Automaton.{Automaton}
@@ -142,7 +142,7 @@ one_of_monitor which other a h k = joined (of_monitor which a h) (of_monitor oth
     joined (inr (inr x)) (inr (inl y)) = absurd (omega (arith, y.2, x.meets.few))
     joined (inr (inr x)) (inr (inr y)) = x.shown ∙ ap limit_of ((monitor_excludes_limits a).others x.fault y.fault x.meets y.meets) ∙ sym y.shown
 
--- the limit that a fault of determinisation tells
+-- the limit that a fault of determinisation names
 abbrev pub limit_of_fault : CompFault → Limit
 limit_of_fault comp.Terms = limit.Terms
 limit_of_fault comp.BuchiStates = limit.BuchiStates
@@ -188,7 +188,7 @@ one_limit Complete which other a h k = absurd h
 
 -- ---- all changes
 
--- what holds behind a change holds of what it makes
+-- what holds of one automaton that a change makes holds of any that it makes
 behind : (c : Change) (a next other : Automaton) (P : Automaton → Type 0) → MakesWithin c a next → MakesWithin c a other → P other → P next
 behind c a next other P h k p = subst P (one_made c a other next k.makes h.makes) p
 

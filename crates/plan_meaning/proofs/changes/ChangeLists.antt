@@ -22,7 +22,7 @@ module _ (xs : List (Option coded.Change)) (i : ℕ) (d o : Option coded.Change)
   made_on next this = subst (λ (cs : List Change). IsMadeAsPromised cs a next) (sym (standing_up_to_next change_of xs i d o lt is))
       (made_then (changes_asked (take i xs)) (changes_asked (o ∷ [])) a b next before this)
 
-  -- this one stops
+  -- this change ends in a fault, and so does the list
   pub stops_here : (came : PlanFault) (r : Result SymbolicAutomaton PlanFault) → IsErrAnd r (λ y. y ≡ came) → StepsChanges (changes_asked (o ∷ [])) b (Err came) → StepsChanges (changes_asked xs) a r
   stops_here came r passed this =
       let start = changes_asked (take (i + 1) xs) in
@@ -33,17 +33,17 @@ module _ (xs : List (Option coded.Change)) (i : ℕ) (d o : Option coded.Change)
       (subst (λ (cs : List Change). StepsChanges cs a stop) (sym (standing_up_to_next change_of xs i d o lt is))
       (steps_then (changes_asked (take i xs)) (changes_asked (o ∷ [])) a b stop before this)))
 
--- ---- sizes of what is asked for from a place on
+-- ---- sizes for the changes from an index on
 
 module _ (xs : List (Option coded.Change)) (i : ℕ) (d : Option coded.Change) (a : Automaton) (lt : i < length xs) (sizes : IsOfSizeFor (changes_asked (drop i xs)) a) where
   opened : (o : Option coded.Change) → get_or xs i d ≡ o → IsOfSizeFor (changes_asked (o ∷ drop (i + 1) xs)) a
   opened o is = subst (λ (os : List (Option coded.Change)). IsOfSizeFor (changes_asked os) a) (drop_more xs i d lt ∙ ap (λ x. x ∷ drop (i + 1) xs) is) sizes
 
-  -- this one can be made
+  -- this change can be made
   pub can_be_made : (c : coded.Change) → get_or xs i d ≡ Some c
       → IsPossible (change_of c) × IsOfSizeBefore (change_of c) a × ((made : Automaton) → IsOfSizeBehind (change_of c) made → IsOfSizeFor (changes_asked (drop (i + 1) xs)) made)
   can_be_made c is = opened (Some c) is
 
-  -- this one isn't asked for
+  -- this change isn't asked for
   pub left_out : get_or xs i d ≡ None → IsOfSizeFor (changes_asked (drop (i + 1) xs)) a
   left_out is = opened None is

@@ -1,4 +1,4 @@
--- An automaton under its condition in disjunctive form.
+-- An automaton with its condition in disjunctive normal form.
 use Rattle.std.proofs.Common.{◌≡◌, ◌∙◌, ℕ, true, List, [], ◌∷◌, ◌++◌, flat_map, map, refl, subst, sym}
 use Rattle.std.specs.List.{AllByRecursion}
 use Rattle.acc_forms.proofs.TermLaws.{met-of_terms, met-terms}
@@ -16,7 +16,7 @@ use Rattle.aut_core.specs.OtherNames.{AcceptTheSame}
 use Rattle.fin_removal.proofs.Conditions.{below_parts, of_terms_holds}
 use Rattle.plan_meaning.specs.Changes.{in_disjunctive_form}
 
--- ---- its terms speak of the same sets
+-- ---- its terms have the same sets
 
 module _ (n : ℕ) where
   abbrev TermBelow : List Literal → Type 0

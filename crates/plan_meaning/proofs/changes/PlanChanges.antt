@@ -13,7 +13,7 @@ use Rattle.plan_meaning.specs.Operands.{IsOfReadSize, operand_at, place_of_produ
 use Rattle.plan_meaning.specs.Standing.{those_standing}
 use Rattle.plan_meaning.specs.inner.Stepping.{HasRoom, IsOfComplementSize, IsOfLastSize, IsOfProductOrSize, IsOfProductSize, IsOfSizeBefore, IsOfSizeBehind, IsOfSizeFor, IsOfSumSize, IsPossible}
 
--- it combines automata with an operand, and brings them into a form that is one
+-- the operand of the change is one of the plan's, and its form isn't `AsIs`
 abbrev pub IsOfPlan : List Automaton → Change → Type 0
 IsOfPlan ops (Product b) = Contains ops b
 IsOfPlan ops (ProductOr b) = Contains ops b
@@ -24,7 +24,7 @@ IsOfPlan ops Complement = Unit {0}
 IsOfPlan ops (Bring f) = f ≡ form.AsIs → ⊥
 IsOfPlan ops Complete = Unit {0}
 
--- ---- what holds of the change of an option, where it stands
+-- ---- what holds of the change of an option, if that is given
 
 record IfAsked (P : Change → Type 0) (o : Option Change) : Type 0 where
   holds : IfSome o P
@@ -112,14 +112,14 @@ record Leads (Before Behind : Automaton → Type 0) (c : Change) : Type 0 where
   before : (a : Automaton) → Before a → IsOfSizeBefore c a
   behind : (a : Automaton) → IsOfSizeBehind c a → Behind a
 
--- so can those that are asked for, one after the other
+-- the changes that are asked for can be made of automata of this size, one after the other
 record AreReady (Size : Automaton → Type 0) (os : List (Option Change)) : Type 0 where
   ready : (a : Automaton) → Size a → IsOfSizeFor (those_standing os) a
 
 ends : AreReady IsOfLastSize []
 ends = record { ready = λ a h. h }
 
--- one that leads to the next size, or isn't asked for
+-- with one more change before them, which leads to that size or isn't asked for
 led : (Before Behind : Automaton → Type 0) (o : Option Change) (os : List (Option Change)) → IfAsked (Leads Before Behind) o → ((a : Automaton) → Before a → Behind a) → AreReady Behind os
     → AreReady Before (o ∷ os)
 led Before Behind None os leads grows rest = record { ready = λ a h. rest.ready a (grows a h) }

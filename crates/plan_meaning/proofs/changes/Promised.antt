@@ -39,7 +39,7 @@ completed_buchi a is = by_cases (lacks_nothing a)
       formula = ap (λ (b : Bool). cond b (conj a.formula (Fin a.sets false)) a.formula) unmet ∙ is.formula;
     }
 
--- a form that speaks of the condition alone
+-- a form that depends on the condition alone
 completed_condition : (f : Form) (P : FormulaTree → Type 0) → ((x : Automaton) → P x.formula → IsOfForm f x) → (a : Automaton) → IsOfForm f a → P a.formula → OrHasSinkSet f true (completed a)
 completed_condition f P of a formed holds = by_cases (lacks_nothing a)
   where
@@ -62,7 +62,7 @@ completed_no_fin a is = completed_condition form.RemoveFin (λ (f : FormulaTree)
 completed_disjunctive : (a : Automaton) → IsDisjunctive a.formula → OrHasSinkSet form.Dnf true (completed a)
 completed_disjunctive a is = completed_condition form.Dnf IsDisjunctive (λ x h. h) a is is
 
--- a sink is added to a monitor wherever a letter is missing, with its set
+-- the sink that is added to a monitor, where a letter meets no edge, has a set of its own
 completed_safety : (a : Automaton) → IsDeterministicSafety a → OrHasSinkSet form.Monitor true (completed a)
 completed_safety a is = by_cases (lacks_nothing a)
   where
@@ -127,13 +127,13 @@ keeps form.Monitor true a made is (Completed same deterministic stays) = (determ
 
 -- ---- the changes of a plan
 
--- what the last of the changes make
+-- some automaton that the first changes make, and of which the rest make the result
 behind : (os rest : List (Option Change)) (a made : Automaton) → MakesAsPromised (those_standing (os ++ rest)) a made → (b : Automaton) × MakesAsPromised (those_standing rest) b made
 behind [] rest a made h = (a, h)
 behind (None ∷ os) rest a made h = behind os rest a made h
 behind (Some c ∷ os) rest a made h = behind os rest h.0 made h.3
 
--- the changes before these and what they make
+-- the same, with what the first changes make
 between : (os rest : List (Option Change)) (a made : Automaton) → MakesAsPromised (those_standing (os ++ rest)) a made
     → (b : Automaton) × MakesAll (those_standing os) a b × MakesAsPromised (those_standing rest) b made
 between [] rest a made h = (a, refl, h)

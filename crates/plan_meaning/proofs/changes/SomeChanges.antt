@@ -1,4 +1,4 @@
--- The changes of a plan make something of an automaton, or pass a limit.
+-- Of an automaton the changes of a plan make an automaton, or they pass a limit.
 use Rattle.std.proofs.Common.{◌≡◌, ◌≤◌, List, [], ◌∷◌, inl, inr, length, refl}
 use Rattle.std.proofs.lemmas.Bool.{cases_lt}
 use Rattle.std.specs.List.{AllByRecursion}

@@ -62,7 +62,7 @@ one_alike Complement L M h u v some = ((λ x m. x ((h u v some).1 m)), (λ x l. 
 one_alike (Bring f) L M h u v some = form_alike f L M h u v some
 one_alike Complete L M h u v some = h u v some
 
--- what changes make of two languages that say the same
+-- changes make the same of two languages with the same words
 pub all_alike : (cs : List Change) (L M : Language) → SayTheSame L M → SayTheSame (said_by_all cs L) (said_by_all cs M)
 all_alike [] L M h u v some = h u v some
 all_alike (c ∷ cs) L M h u v some = all_alike cs (said_by c L) (said_by c M) (one_alike c L M h) u v some
@@ -77,7 +77,7 @@ all_then : (cs ds : List Change) (a b made : Automaton) → MakesAsPromised cs a
 all_then [] ds a b made first second = subst (λ (x : Automaton). MakesAsPromised ds x made) first second
 all_then (c ∷ cs) ds a b made first second = (first.0, first.1, first.2, all_then cs ds first.0 b made first.3 second)
 
--- without the promises
+-- what the changes make, leaving out the promises
 pub makes_all : (cs : List Change) (a made : Automaton) → MakesAsPromised cs a made → MakesAll cs a made
 makes_all [] a made h = h
 makes_all (c ∷ cs) a made h = (h.0, h.1, makes_all cs h.0 made h.3)
@@ -100,13 +100,13 @@ stops_behind : (which : Limit) (cs ds : List Change) (a b : Automaton) → Makes
 stops_behind which [] ds a b made stops = subst (λ (x : Automaton). StopsIn which ds x) made stops
 stops_behind which (c ∷ cs) ds a b made stops = inr (made.0, made.1, stops_behind which cs ds made.0 b made.2 stops)
 
--- a step behind what was made
+-- a step after changes that were made
 pub steps_then : (cs ds : List Change) (a b : Automaton) (r : Result SymbolicAutomaton PlanFault) → IsMadeAsPromised cs a b → StepsChanges ds b r → StepsChanges (cs ++ ds) a r
 steps_then cs ds a b (Ok made) first second = made_then cs ds a b (automaton_of made) first second
 steps_then cs ds a b (Err (fault.Limit which)) first second = stops_behind which cs ds a b (makes_all cs a b first.all) second
 steps_then cs ds a b (Err fault.Memory) first second = tt
 
--- a fault that a step passes on: no step behind it is made
+-- a fault that a step passes on: no later step is made
 pub steps_end : (cs ds : List Change) (a : Automaton) (came : PlanFault) (r : Result SymbolicAutomaton PlanFault) → IsErrAnd r (λ y. y ≡ came) → StepsChanges cs a (Err came)
     → StepsChanges (cs ++ ds) a r
 steps_end cs ds a came r passed steps = hands_on r came (StepsChanges (cs ++ ds) a) passed (ended came steps)

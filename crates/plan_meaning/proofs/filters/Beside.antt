@@ -72,7 +72,7 @@ module _ (a b co : Automaton) (kept : IsKeptComplement b co) where
   compared true few pairs said = (inclusion_within few pairs, λ all. (included_where_none a b co kept.complements).1 all (said.0 refl))
   compared false few pairs said = (inclusion_within few pairs, (included_where_none a b co kept.complements).0 (λ word. true≢false (sym (said.1 word))))
 
--- what a refusal of the complement says
+-- a refusal to make the complement is one of the comparison
 pub complement_refused : (a b : Automaton) (f : CompFault) → IsRefusal b f → FindsBeside (Err (fault_of_parity f)) a b
 complement_refused a b comp.Terms h = inl h
 complement_refused a b comp.BuchiStates h = inl h

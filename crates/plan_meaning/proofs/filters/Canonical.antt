@@ -1,4 +1,4 @@
--- Filters don't see whether labels are canonical.
+-- A filter holds of an automaton exactly where it holds of that with canonical labels, and passes the same limits.
 use Rattle.std.proofs.Common.{◌≡◌, ℕ, ◌<◌, Bool, true, false, List, [], ◌∷◌, length, Result, Ok, Err, get_or, sym, ap, ◌∙◌, subst, arith}
 use Rattle.std.proofs.lemmas.List.{get_or-map, length-map}
 use Rattle.std.proofs.lemmas.List.Elements.{Contains-get_or}
@@ -23,7 +23,7 @@ use Rattle.plan_meaning.specs.declared.fault.PlanFault.TheVariants as fault
 use Rattle.word_syntax.specs.Grammar.{WordPattern}
 use Rattle.word_syntax.specs.Matching.{AcceptTogether, AcceptsPattern}
 
--- the edge at a place
+-- the edge of an index
 same_place : (a : Automaton) (k : ℕ) (d : LabelledEdge) → k < length a.edges → get_or (canonical a).edges k d ≡ settled a (get_or a.edges k d)
 same_place a k d within = get_or-map (settled a) a.edges k d d within
 
@@ -120,7 +120,7 @@ holds_other (Edges r) a below h = subst (λ (n : ℕ). Holds (States r) (record 
 holds_other (Sets r) a below h = h
 holds_other (Names r) a below h = h
 
--- limits look at canonical labels anyway
+-- limits are defined on canonical labels, so they are the same
 passes_one : (which : Limit) (f : Filter) (a : Automaton) → PassesLimitOf which f (canonical a) → PassesLimitOf which f a
 passes_one which (AcceptsWord p) a h = subst (λ (x : Automaton). PassesOfWord which x p) (canonical-twice a) h
 passes_one which (RejectsWord p) a h = subst (λ (x : Automaton). PassesOfWord which x p) (canonical-twice a) h
@@ -173,7 +173,7 @@ verdict_of (Ok false) p ops a formed h = dropped_by p.invert (filters p ops) a (
 verdict_of (Err (fault.Limit which)) p ops a formed h = passes_at which (filters p ops) a (labels_below a formed) h
 verdict_of (Err fault.Memory) p ops a formed h = tt
 
--- the same of an automaton of a store
+-- the same for a symbolic automaton
 pub verdict_read : (r : Result Bool PlanFault) (p : Plan) (ops : List Automaton) (core a read : Automaton) → core ≡ canonical a → a ≡ read → IsWellFormed a → Judged r p ops core → Judged r p ops read
 verdict_read r p ops core a read is same formed h =
     subst (λ (x : Automaton). Judged r p ops x) same (verdict_of r p ops a formed (subst (λ (x : Automaton). Judged r p ops x) is h))

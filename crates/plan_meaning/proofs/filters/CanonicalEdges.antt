@@ -1,4 +1,4 @@
--- Letters meet edges alike under canonical labels.
+-- A letter meets an edge exactly where it meets that with the canonical label.
 use Rattle.std.proofs.Common.{◌≡◌, Contains, length}
 use Rattle.std.proofs.lemmas.List.Elements.{All-contains}
 use Rattle.aut_base.proofs.canonical.CanonicalAutomata.{relabelled}

@@ -1,4 +1,4 @@
--- Runs by places don't see whether labels are canonical.
+-- Runs as lists of edge indices are the same under canonical labels.
 use Rattle.std.proofs.Common.{◌≡◌, ◌∙◌, ℕ, List, [], ◌∷◌, Option, Some, None, ap, map, refl, subst, sym}
 use Rattle.std.specs.Option.{option_map, option_map_or}
 use Rattle.std.specs.Prelude.{slice_get}
@@ -14,7 +14,7 @@ use Rattle.plan_meaning.proofs.filters.CanonicalEdges.{same_met, settled}
 use Rattle.unambiguous.proofs.tracks.SamePlaces.{accepting_too}
 use Rattle.unambiguous.specs.Runs.{AcceptingRun, IsEdgePath, IsUnambiguous, edge_marks}
 
--- the edge at a place, in both
+-- the edge of an index, in both automata
 place_to : (a : Automaton) (m : ℕ) (e : LabelledEdge) → slice_get a.edges m ≡ Some e → slice_get (canonical a).edges m ≡ Some (settled a e)
 place_to a m e there = slice_get-map (settled a) a.edges m ∙ ap (option_map (settled a)) there
 
@@ -62,7 +62,7 @@ module _ (a : Automaton) (below : LabelsBelow a) where
         subst (λ (r : ℕ). IsEdgePath a r xs ms q) (sym (ap (λ (e : LabelledEdge). e.to) was.2)) (track_from h.0.to q xs ms h.4),
       )
 
-  -- the same places make a run of both
+  -- the same indices make a run of both automata
   abbrev run_to : (u v : List NameSet) → AcceptingRun a u v → AcceptingRun (canonical a) u v
   run_to u v r = accepting_too a (canonical a) u v r r.is_start (track_to r.start r.state _ r.way r.leads) (track_to r.state r.state _ r.cycle r.returns)
       (ap (λ (ms : List (List ℕ)). met ms a.formula) (all_marks a r.cycle) ∙ r.meets)

@@ -15,11 +15,11 @@ hold_both [] gs a h k = k
 hold_both (f ∷ fs) gs a h k = (h.0, hold_both fs gs a h.1 k)
 
 module _ (xs : List (Option coded.Filter)) (i : ℕ) (d o : Option coded.Filter) (a : Automaton) (lt : i < length xs) (is : get_or xs i d ≡ o) (held : AllHold (asked_for (take i xs)) a) where
-  -- this one holds too, or isn't asked for
+  -- this filter holds too, or isn't asked for
   pub goes_on : AllHold (asked_for (o ∷ [])) a → AllHold (asked_for (take (i + 1) xs)) a
   goes_on this = subst (λ (fs : List Filter). AllHold fs a) (sym (standing_up_to_next filter_of xs i d o lt is)) (hold_both (asked_for (take i xs)) (asked_for (o ∷ [])) a held this)
 
-  -- this one is the last that is examined
+  -- this filter is the last that is examined
   pub ends : (f : coded.Filter) (r : Result Bool PlanFault) → o ≡ Some f → (r ≡ Ok true → ⊥) → ExaminesFilter r (filter_of f) a → JudgesWithin r (asked_for xs) a
   ends f (Ok true) some not_true this = absurd (not_true refl)
   ends f (Ok false) some not_true this = record

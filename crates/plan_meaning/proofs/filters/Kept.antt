@@ -1,4 +1,4 @@
--- What is kept of complements, while filters are examined one after the other.
+-- The complements that are kept, while filters are examined one after the other.
 use Rattle.std.proofs.Common.{◌≡◌, ◌∙◌, ◌<◌, ℕ, get_or, is_some, true, length, List, [], ◌∷◌, Option, Some, IfSome, None, subst, sym}
 use Rattle.std.specs.Option.{option_map}
 use Rattle.std.specs.List.{AllByRecursion}
@@ -12,7 +12,7 @@ use Rattle.plan_meaning.specs.declared.judging.filter.Filter as coded
 use Rattle.plan_meaning.specs.declared.judging.filter.Filter.TheVariants as code
 use Rattle.plan_meaning.specs.inner.Judging.{AreFrom, IsFrom, IsFilterReady, LeavesOthers}
 
--- of the operand at a place, and back
+-- the complement that is kept for an option is that of its operand, and back
 kept_of : (o : Option Automaton) (b : Automaton) (slot : Option SymbolicAutomaton) → o ≡ Some b → IfSome o (λ x. KeepsComplement x slot) → KeepsComplement b slot
 kept_of o b slot is h = subst (λ (x : Option Automaton). IfSome x (λ y. KeepsComplement y slot)) is h
 
@@ -22,7 +22,7 @@ keeps_on o b slot is h = subst (λ (x : Option Automaton). IfSome x (λ y. Keeps
 stays : (o : Option Automaton) (old new : Option SymbolicAutomaton) → new ≡ old → IfSome o (λ x. KeepsComplement x old) → IfSome o (λ x. KeepsComplement x new)
 stays o old new same h = subst (λ (slot : Option SymbolicAutomaton). IfSome o (λ x. KeepsComplement x slot)) (sym same) h
 
--- ---- what is kept stays, over one call and the next
+-- ---- complements that are kept stay, over one call and the next
 
 stays_kept_on : (x y z : Option SymbolicAutomaton) → StaysKept x y → StaysKept y z → StaysKept x z
 stays_kept_on x y z first next some = next (subst (λ (s : Option SymbolicAutomaton). is_some s ≡ true) (sym (first some)) some) ∙ first some
@@ -63,7 +63,7 @@ module _ (p : Plan) (ops : List Automaton) where
   are_from [] h = All-nil (λ x. IfSome x (IsFrom p ops))
   are_from (x ∷ xs) h = All-cons (λ y. IfSome y (IsFrom p ops)) x xs h.0 (are_from xs h.1)
 
--- an operand that stands is what the definition says
+-- an operand that is given is the one of the definition
 pub operand_is : {B : Type 0} (P : B → Type 0) (view : B → Automaton) (found : Option B) (there : Option Automaton) → option_map view found ≡ there → IfSome found P
     → IfSome found (λ x. P x × (there ≡ Some (view x)))
 operand_is P view None there is h = tt

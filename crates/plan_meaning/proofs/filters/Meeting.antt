@@ -1,4 +1,4 @@
--- What a product says of two automata, and of an automaton and a pattern.
+-- From the search in a product to the answer on two automata, and on an automaton and a pattern.
 use Rattle.std.proofs.Common.{◌≡◌, ◌↔◌, ◌≤◌, Bool, true, false, not, Result, Ok, Err, arith, inl, inr, length, refl, subst, sym}
 use Rattle.std.specs.Prelude.{IsTrue}
 use Rattle.std.proofs.lemmas.Bool.{true≢false}
@@ -19,7 +19,7 @@ use Rattle.word_syntax.specs.Matching.{AcceptTogether, AcceptsPattern, word_auto
 
 -- ---- limits
 
--- two automata that were looked at together pass none
+-- two automata within the limits of a product pass none
 none_passed : (a b : Automaton) → HaveFewNames a b → (HasMorePairs MOST_PAIRS (over_both a b a) (over_both a b b) → ⊥) → (which : Limit) → PassesOfBoth which a b → ⊥
 none_passed a b names few limit.Names many = absurd (omega arith)
 none_passed a b names few limit.Pairs more = few more.1
@@ -63,7 +63,7 @@ module _ (p : WordPattern) (word a : Automaton) (accepts : (b : Automaton) → A
   within_word within which (inl many) = absurd (omega (arith, many.1))
   within_word within which (inr passed) = within which (subst (λ (x : Automaton). PassesOfBoth which (canonical a) x) (sym is) passed.1)
 
-  -- what is found of the automaton of a pattern is found of the pattern
+  -- the answer on the automaton of a pattern is the one on the pattern
   pub examines_word : (r : Result Bool PlanFault) → ExaminesFilter r (Intersects word) a → ExaminesFilter r (AcceptsWord p) a
   examines_word (Ok true) h = record { within = within_word h.within; holds = (accepts a).0 (swapped a word h.holds) }
   examines_word (Ok false) h = record { within = within_word h.within; fails = λ found. h.fails (swapped word a ((accepts a).1 found)) }

@@ -1,4 +1,4 @@
--- What the square of an automaton says of it.
+-- From the search in the square to the answer whether an automaton is unambiguous.
 use Rattle.std.proofs.Common.{◌≡◌, ◌↔◌, Bool, true, false, Ok, Err, refl, subst, sym}
 use Rattle.std.specs.Prelude.{IsTrue}
 use Rattle.std.proofs.lemmas.Bool.{false≢true}
@@ -25,7 +25,7 @@ pub examined : (b : Bool) (a : Automaton) → canonical a ≡ a → (HasMorePair
 examined true a settled few is = record { within = λ which h. few_within a few which (subst (PassesOfSquare which) settled h); holds = is.0 refl }
 examined false a settled few is = record { within = λ which h. few_within a few which (subst (PassesOfSquare which) settled h); fails = λ h. false≢true (is.1 h) }
 
--- a refusal of the search in it
+-- a refusal by the search in the square
 pub refused : (f : SquareFault) (a : Automaton) → canonical a ≡ a → (f ≡ square.Pairs → HasMorePairs MOST_PAIRS a a) → ExaminesFilter (Err (fault_of_square f)) filter.IsUnambiguous a
 refused square.Pairs a settled many = subst (PassesOfSquare limit.Pairs) (sym settled) (many refl)
 refused square.Memory a settled many = tt

@@ -69,7 +69,7 @@ one_limit _ which other a h k = absurd h
 
 -- ---- where filters end
 
--- the filters hold up to one that is so
+-- some filter has the property `So`, and all before it hold
 abbrev EndsIn : (Filter → Type 0) → List Filter → Automaton → Type 0
 EndsIn So [] a = ⊥
 EndsIn So (f ∷ fs) a = So f ⊎ (HoldsWithin f a × EndsIn So fs a)
@@ -84,13 +84,13 @@ fails_in fs a h = subst (λ (gs : List Filter). EndsIn (λ f. LacksWithin f a) g
 passes_in : (which : Limit) (fs : List Filter) (a : Automaton) → PassesAt which fs a → EndsIn (λ f. PassesLimitOf which f a) fs a
 passes_in which fs a h = subst (λ (gs : List Filter). EndsIn (λ f. PassesLimitOf which f a) gs a) (sym h.all) (ends_in (λ f. PassesLimitOf which f a) h.before h.filter h.after a h.held h.passes)
 
--- where all hold they end nowhere
+-- where all filters hold, none has the property
 no_end : (So : Filter → Type 0) (fs : List Filter) (a : Automaton) → ((f : Filter) → HoldsWithin f a → So f → ⊥) → AllHold fs a → EndsIn So fs a → ⊥
 no_end So [] a apart all ends = ends
 no_end So (f ∷ fs) a apart all (inl so) = apart f all.0 so
 no_end So (f ∷ fs) a apart all (inr rest) = no_end So fs a apart all.1 rest.1
 
--- they end at one filter
+-- two such filters, by two properties, are the same filter
 one_end : {G : Type 0} (So Also : Filter → Type 0) (fs : List Filter) (a : Automaton) → ((f : Filter) → HoldsWithin f a → So f → ⊥) → ((f : Filter) → HoldsWithin f a → Also f → ⊥)
     → ((f : Filter) → So f → Also f → G) → EndsIn So fs a → EndsIn Also fs a → G
 one_end So Also [] a apart other joined h k = absurd h
@@ -152,7 +152,7 @@ verdict_is_one p ops a (Over which) (Over other) h k = let same : which ≡ othe
 settled : (f : Filter) (a : Automaton) → (HoldsWithin f a → ⊥) → (LacksWithin f a → ⊥) → ((which : Limit) → PassesLimitOf which f a → ⊥) → ⊥
 settled f a holds lacks within = lacks (record { within = within; fails = λ h. holds (record { within = within; holds = h }) })
 
--- behind a filter that holds
+-- a failing list of filters fails after one more filter that holds
 fails_behind : (f : Filter) (fs : List Filter) (a : Automaton) → HoldsWithin f a → FailsAtFilter fs a → FailsAtFilter (f ∷ fs) a
 fails_behind f fs a holds h = record { before = f ∷ h.before; filter = h.filter; after = h.after; all = (λ i. f ∷ h.all i); held = (holds, h.held); fails = h.fails }
 

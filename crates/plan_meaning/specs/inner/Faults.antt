@@ -1,4 +1,4 @@
--- Faults of calls, as those of a plan.
+-- The faults of the calls that filters and changes make, as faults of a plan.
 use Rattle.acc_forms.specs.declared.fault.FormFault.{FormFault}
 use Rattle.acc_forms.specs.declared.fault.FormFault.TheVariants as form
 use Rattle.aut_base.specs.declared.limit.Limit.TheVariants as limit

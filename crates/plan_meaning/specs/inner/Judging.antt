@@ -1,4 +1,4 @@
--- The verdict on an automaton, as a truth value.
+-- Answers of filters and of the verdict as truth values or faults, for the contracts of private functions.
 use Rattle.std.specs.Prelude.{◌≡◌, Bool, true, false, List, All, filter_map, Option, Some, IfSome, Result, Ok, Err}
 use Rattle.std.specs.Option.{option_map}
 use Rattle.aut_base.specs.Automaton.{Automaton}
@@ -21,7 +21,7 @@ abbrev pub Judges : Bool → List Filter → Automaton → Type 0
 Judges true fs a = AllHold fs a
 Judges false fs a = FailsAtFilter fs a
 
--- or one passes a limit before
+-- the same of an answer that may be a fault: a limit that a filter passes while all before it hold
 abbrev pub JudgesWithin : Result Bool PlanFault → List Filter → Automaton → Type 0
 JudgesWithin (Ok b) fs a = Judges b fs a
 JudgesWithin (Err (fault.Limit which)) fs a = PassesAt which fs a
@@ -41,7 +41,7 @@ ComparesInclusion (Ok false) a b = IsWithinInclusion a b × (IsIncluded a b → 
 ComparesInclusion (Err (fault.Limit which)) a b = PassesOfInclusion which a b
 ComparesInclusion (Err fault.Memory) a b = Unit {0}
 
--- ---- the filters of code
+-- ---- the filters as code has them
 
 abbrev pub filter_of : coded.Filter → Filter
 filter_of (code.AcceptsWord pattern) = AcceptsWord (word_pattern pattern.now)
@@ -62,7 +62,7 @@ filter_of (code.Names range) = Names range.now
 abbrev pub asked_for : List (Option coded.Filter) → List Filter
 asked_for = filter_map (option_map filter_of)
 
--- it compares automata with the operand of its option, which is of the size of one that is read
+-- the filter's operand is that of its option, and has the size of an automaton that is read
 abbrev pub IsFrom : Plan → List Automaton → coded.Filter → Type 0
 IsFrom p ops (code.AcceptsWord pattern) = Unit {0}
 IsFrom p ops (code.RejectsWord pattern) = Unit {0}
@@ -81,7 +81,8 @@ IsFrom p ops (code.Names range) = Unit {0}
 abbrev pub AreFrom : Plan → List Automaton → List (Option coded.Filter) → Type 0
 AreFrom p ops filters = All (λ filter. IfSome filter (IsFrom p ops)) filters
 
--- what it compares automata with is of the size of one that is read, and what is kept for it is the complement of that
+-- the filter's operand has the size of an automaton that is read, and the complement that is kept for the filter, if any,
+-- is that of the operand
 abbrev pub IsFilterReady : coded.Filter → Complements → Type 0
 IsFilterReady (code.AcceptsWord pattern) cs = Unit {0}
 IsFilterReady (code.RejectsWord pattern) cs = Unit {0}
@@ -97,7 +98,7 @@ IsFilterReady (code.Edges range) cs = Unit {0}
 IsFilterReady (code.Sets range) cs = Unit {0}
 IsFilterReady (code.Names range) cs = Unit {0}
 
--- nothing changes of what is kept but for this filter
+-- the complements that are kept for other options are unchanged
 abbrev pub LeavesOthers : coded.Filter → Complements → Complements → Type 0
 LeavesOthers (code.IncludedIn other) old new = (new.equivalent_to ≡ old.equivalent_to) × (new.refuted ≡ old.refuted)
 LeavesOthers (code.EquivalentTo other) old new = (new.included_in ≡ old.included_in) × (new.refuted ≡ old.refuted)

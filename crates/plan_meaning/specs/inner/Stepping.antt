@@ -1,4 +1,4 @@
--- What single steps answer, of which each is to make some changes.
+-- Steps, the functions that each make a list of changes: their answers, and the sizes of automata before and after them.
 use Rattle.std.specs.Prelude.{◌≡◌, ◌≢◌, ℕ, ◌+◌, ◌-◌, ◌*◌, ◌^◌, ◌≤◌, List, [], ◌∷◌, filter_map, Option, Result, Ok, Err}
 use Rattle.std.specs.Option.{option_map}
 use Rattle.ap_project.specs.Laws.{SayTheSame}
@@ -17,7 +17,7 @@ use Rattle.plan_meaning.specs.declared.changing.list.Change.TheVariants as code
 use Rattle.plan_meaning.specs.declared.fault.PlanFault.{PlanFault}
 use Rattle.plan_meaning.specs.declared.fault.PlanFault.TheVariants as fault
 
--- what a change promises beside what it makes
+-- what a change promises of the automaton made, beside which one it is
 abbrev pub PromisesForm : Form → Automaton → Type 0
 PromisesForm form.AsIs made = Unit {0}
 PromisesForm form.Deterministic made = IsDeterministic made
@@ -42,12 +42,12 @@ abbrev pub MakesAsPromised : List Change → Automaton → Automaton → Type 0
 MakesAsPromised [] a made = made ≡ a
 MakesAsPromised (c ∷ cs) a made = (next : Automaton) × MakesWithin c a next × Promises c a next × MakesAsPromised cs next made
 
--- the changes make this of the automaton, and of what it accepts what is accepted then
+-- the changes make this automaton, and its language is what they make of the language of `a`
 pub record IsMadeAsPromised (cs : List Change) (a made : Automaton) : Type 0 where
   pub all : MakesAsPromised cs a made
   pub says : SayTheSame (λ u v. Accepts made u v) (said_by_all cs (λ u v. Accepts a u v))
 
--- what a step answers that is to make these changes
+-- the answer of a step that makes these changes
 abbrev pub StepsChanges : List Change → Automaton → Result SymbolicAutomaton PlanFault → Type 0
 StepsChanges cs a (Ok made) = IsMadeAsPromised cs a (automaton_of made)
 StepsChanges cs a (Err (fault.Limit which)) = StopsIn which cs a
@@ -60,8 +60,9 @@ pub record IsSizeWithin (most_states most_sets : ℕ) (a : Automaton) : Type 0 w
   pub states : a.states ≤ most_states
   pub sets : a.sets ≤ most_sets
 
--- of what is made by a product of automata that were read, by a product-or of that and one that was read, by a sum of that
--- and one that was read, by a complement of that, and by a form of that, beside which there is room for one more of each
+-- sizes of an automaton, each after the one before it: made by a product of automata that are read; by a product-or of that
+-- with one that is read; by a sum of that with one that is read; by a complement of that; by a form of that, so that one
+-- more state and set can be numbered; and by completion of that
 abbrev pub IsOfProductSize : Automaton → Type 0
 IsOfProductSize = IsSizeWithin MOST_PAIRS (MOST_SETS + MOST_SETS)
 
@@ -80,7 +81,7 @@ HasRoom = IsSizeWithin (2 ^ 32 - 2) (2 ^ 32 - 2)
 abbrev pub IsOfLastSize : Automaton → Type 0
 IsOfLastSize = IsSizeWithin (2 ^ 32 - 1) (2 ^ 32 - 1)
 
--- what a change takes from a plan can be made
+-- the operand of the change has the size of an automaton that is read, and its form isn't `AsIs`
 abbrev pub IsPossible : Change → Type 0
 IsPossible (Product b) = IsOfReadSize b
 IsPossible (ProductOr b) = IsOfReadSize b
@@ -102,7 +103,7 @@ IsOfSizeBefore Complement = IsOfSumSize
 IsOfSizeBefore (Bring f) = IsOfComplementSize
 IsOfSizeBefore Complete = HasRoom
 
--- and has behind it
+-- and the size that it has after it
 abbrev pub IsOfSizeBehind : Change → Automaton → Type 0
 IsOfSizeBehind (Product b) = IsOfProductSize
 IsOfSizeBehind (ProductOr b) = IsOfProductOrSize
@@ -118,7 +119,7 @@ abbrev pub IsOfSizeFor : List Change → Automaton → Type 0
 IsOfSizeFor [] a = IsOfLastSize a
 IsOfSizeFor (c ∷ cs) a = IsPossible c × IsOfSizeBefore c a × ((made : Automaton) → IsOfSizeBehind c made → IsOfSizeFor cs made)
 
--- ---- the changes of code
+-- ---- the changes as code has them
 
 abbrev pub change_of : coded.Change → Change
 change_of (code.Product b) = Product (automaton_of b.now)

@@ -1,6 +1,6 @@
 //! What a plan makes of an automaton together with others: product, product-or and sum.
 //!
-//! Where there is no operand, the automaton is handed on. The sizes in the contracts are what the next function has to know.
+//! The sizes in the contracts are what the next change has to know.
 
 ghost use Rattle.std.specs.Prelude.{[], ◌∷◌, IfOk, IfSome, map};
 ghost use Rattle.std.specs.Option.{option_map};

@@ -20,7 +20,7 @@ pub(crate) fn complemented(alloc: Global, a: &Automaton) -> Result<Automaton, Pl
     Ok(complement(alloc, a)?)
 }
 
-/// One that is deterministic is handed on.
+/// An automaton that is deterministic is returned as it is.
 pub(crate) fn deterministic(alloc: Global, a: Automaton) -> Result<Automaton, PlanFault>
     requires size { IsOfComplementSize (automaton_of a) }
     ensures steps { StepsChanges (Bring Form.Deterministic ∷ []) (automaton_of a) result }

@@ -1,4 +1,4 @@
-//! An automaton under its condition in disjunctive form.
+//! An automaton with its condition in disjunctive normal form.
 
 ghost use Rattle.std.specs.Prelude.{◌≡◌, Err, IfOk};
 ghost use Rattle.acc_forms.specs.declared.fault.FormFault.{FormFault};
@@ -11,7 +11,7 @@ use acc_forms::{FormFault, disjuncts, of_terms};
 use aut_core::Automaton;
 use std::alloc::Global;
 
-/// The automaton under the disjunction of its condition's terms.
+/// The automaton with its condition in disjunctive normal form.
 pub(crate) fn with_disjuncts(alloc: Global, a: Automaton) -> Result<Automaton, FormFault>
     ensures accepts { IfOk result (λ made. AcceptTheSame (automaton_of made) (automaton_of a)) }
     ensures shape { IfOk result (λ made. automaton_of made ≡ in_disjunctive_form (automaton_of a)) }

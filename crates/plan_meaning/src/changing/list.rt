@@ -18,7 +18,7 @@ use aut_core::Automaton;
 use filter_plan::{Form, Hidden, Plan};
 use std::alloc::Global;
 
-/// A change, with what it combines automata with.
+/// A change, with its operand, proposition or form.
 #[derive(Clone, Copy)]
 pub(crate) enum Change<'a> {
     Product(&'a Automaton),
@@ -32,7 +32,7 @@ pub(crate) enum Change<'a> {
 }
 
 // Why so: 'Filters and changes of a plan are lists, in code as in the definitions' in docs/DECISIONS.md.
-/// The changes of a plan, in the order in which they are made, each where its option stands.
+/// The changes of a plan, in the order in which they are made, each if its option is given.
 pub(crate) fn changes<'a>(plan: &'a Plan, operands: &'a Automata) -> [Option<Change<'a>>; 8]
     requires { AreOperands plan.now (map automaton_of operands.now) }
     ensures { changes_asked result ≡ changes_of plan.now (map automaton_of operands.now) }
@@ -49,7 +49,7 @@ pub(crate) fn changes<'a>(plan: &'a Plan, operands: &'a Automata) -> [Option<Cha
     ]
 }
 
-/// The change of `--product`, where it stands.
+/// The change of `--product`, if that option is given.
 fn product_change<'a>(plan: &Plan, operands: &'a Automata) -> Option<Change<'a>>
     requires { AreOperands plan.now (map automaton_of operands.now) }
     ensures { option_map change_of result ≡ option_map asked.Product (operand_at plan.now.product (place_of_product plan.now) (map automaton_of operands.now)) }
@@ -60,7 +60,7 @@ fn product_change<'a>(plan: &Plan, operands: &'a Automata) -> Option<Change<'a>>
     }
 }
 
-/// The change of `--product-or`, where it stands.
+/// The change of `--product-or`, if that option is given.
 fn product_or_change<'a>(plan: &Plan, operands: &'a Automata) -> Option<Change<'a>>
     requires { AreOperands plan.now (map automaton_of operands.now) }
     ensures { option_map change_of result ≡ option_map asked.ProductOr (operand_at plan.now.product_or (place_of_product_or plan.now) (map automaton_of operands.now)) }
@@ -71,7 +71,7 @@ fn product_or_change<'a>(plan: &Plan, operands: &'a Automata) -> Option<Change<'
     }
 }
 
-/// The change of `--sum`, where it stands.
+/// The change of `--sum`, if that option is given.
 fn sum_change<'a>(plan: &Plan, operands: &'a Automata) -> Option<Change<'a>>
     requires { AreOperands plan.now (map automaton_of operands.now) }
     ensures { option_map change_of result ≡ option_map asked.Sum (operand_at plan.now.sum (place_of_sum plan.now) (map automaton_of operands.now)) }
@@ -82,7 +82,7 @@ fn sum_change<'a>(plan: &Plan, operands: &'a Automata) -> Option<Change<'a>>
     }
 }
 
-/// The change of `--remove-ap`, where it stands.
+/// The change of `--remove-ap`, if that option is given.
 fn remove_ap_change(plan: &Plan) -> Option<Change<'_>>
     ensures { option_map change_of result ≡ option_map asked.RemoveAp plan.now.remove_ap }
 {
@@ -92,14 +92,14 @@ fn remove_ap_change(plan: &Plan) -> Option<Change<'_>>
     }
 }
 
-/// The change of `--remove-unreachable-states`, where it stands.
+/// The change of `--remove-unreachable-states`, if that option is given.
 fn trim_change<'a>(plan: &Plan) -> Option<Change<'a>>
     ensures { option_map change_of result ≡ then_some plan.now.trim asked.Trim }
 {
     if plan.trim { Some(Change::Trim) } else { None }
 }
 
-/// The change of `--complement`, where it stands.
+/// The change of `--complement`, if that option is given.
 fn complement_change<'a>(plan: &Plan) -> Option<Change<'a>>
     ensures { option_map change_of result ≡ then_some plan.now.complement asked.Complement }
 {
@@ -120,7 +120,7 @@ fn form_change<'a>(form: Form) -> Option<Change<'a>>
     }
 }
 
-/// The change of `--complete`, where it stands.
+/// The change of `--complete`, if that option is given.
 fn complete_change<'a>(plan: &Plan) -> Option<Change<'a>>
     ensures { option_map change_of result ≡ then_some plan.now.complete asked.Complete }
 {

@@ -1,6 +1,8 @@
-//! What a plan makes of an automaton alone: its reached states, its form, and the automaton made complete.
+//! What a plan makes of an automaton alone: the automaton with a proposition hidden, its reached states, its form, and its
+//! completion.
 //!
-//! Where nothing is asked, the automaton is handed on.
+//! The removal of Fin, determinisation and completion return an automaton as it is that is without Fin, deterministic or
+//! complete already.
 
 ghost use Rattle.std.specs.Prelude.{◌≡◌, ◌≢◌, [], ◌∷◌, IfOk, true};
 ghost use Rattle.acc_forms.specs.Atoms.{has_fin};
@@ -71,7 +73,7 @@ fn monitored(alloc: Global, a: &Automaton) -> Result<Automaton, PlanFault>
     Ok(monitor(alloc, a)?)
 }
 
-/// One without Fin is handed on.
+/// An automaton without Fin is returned as it is.
 fn without_fin(alloc: Global, a: Automaton) -> Result<Automaton, PlanFault>
     requires size { IsOfComplementSize (automaton_of a) }
     ensures steps { StepsChanges (Bring Form.RemoveFin ∷ []) (automaton_of a) result }
@@ -100,7 +102,7 @@ fn disjunctive(alloc: Global, a: Automaton) -> Result<Automaton, PlanFault>
     Ok(with_disjuncts(alloc, a)?)
 }
 
-/// One that is complete is handed on.
+/// An automaton that is complete is returned as it is.
 pub(crate) fn complete(alloc: Global, a: Automaton) -> Result<Automaton, PlanFault>
     requires size { HasRoom (automaton_of a) }
     ensures steps { StepsChanges (Complete ∷ []) (automaton_of a) result }

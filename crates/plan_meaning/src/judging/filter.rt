@@ -19,7 +19,7 @@ use std::alloc::Global;
 use word_syntax::Pattern;
 
 // Why so: 'What a filter needs is in the filter' in docs/DECISIONS.md.
-/// A filter, with what it compares automata with.
+/// A filter, with its operand, pattern or range.
 #[derive(Clone, Copy)]
 pub(crate) enum Filter<'a> {
     AcceptsWord(&'a Pattern),
@@ -41,7 +41,7 @@ pub(crate) enum Filter<'a> {
 pub(crate) const FILTERS: usize = 13;
 
 // Why so: 'Filters and changes of a plan are lists, in code as in the definitions' in docs/DECISIONS.md.
-/// The filters of a plan, in the order in which they are examined, each where its option stands.
+/// The filters of a plan, in the order in which they are examined, each if its option is given.
 pub(crate) fn filters<'a>(plan: &'a Plan, operands: &'a Automata) -> [Option<Filter<'a>>; FILTERS]
     requires operands { AreOperands plan.now (map automaton_of operands.now) }
     ensures list { asked_for result ≡ filters plan.now (map automaton_of operands.now) }

@@ -1,4 +1,4 @@
-//! Whether an automaton accepts some word, or one of a pattern or of another automaton.
+//! Whether an automaton accepts some lasso word, one that matches a pattern, or one that another automaton accepts too.
 
 ghost use Rattle.std.specs.Prelude.{◌+◌, ◌<◌, ◌^◌};
 ghost use Rattle.aut_core.specs.SymbolicAutomata.{automaton_of};
@@ -40,7 +40,7 @@ pub(crate) fn accepts_word(
     meets(alloc, a, &word)
 }
 
-/// Whether both accept some word, where the other is of the size of one that is read.
+/// Whether both accept some word in common, where the other has the size of an automaton that is read.
 pub(crate) fn intersects(alloc: Global, a: &Automaton, other: &Automaton) -> Result<bool, PlanFault>
     requires size { IsOfReadSize (automaton_of a.now) }
     requires other_size { IsOfReadSize (automaton_of other.now) }
@@ -49,7 +49,7 @@ pub(crate) fn intersects(alloc: Global, a: &Automaton, other: &Automaton) -> Res
     meets(alloc, a, other)
 }
 
-/// Whether both accept some word.
+/// Whether both accept some word in common.
 fn meets(alloc: Global, a: &Automaton, other: &Automaton) -> Result<bool, PlanFault>
     requires { a.now.sets + other.now.sets < 2 ^ 32 }
     ensures { ExaminesFilter result (asked.Intersects (automaton_of other.now)) (automaton_of a.now) }

@@ -9,7 +9,7 @@ use crate::fault::PlanFault;
 use aut_core::Automaton;
 use std::alloc::Global;
 
-/// Whether no word has two accepting runs that go along different edges.
+/// Whether no lasso word has two accepting runs that take different edges.
 pub(crate) fn is_unambiguous(alloc: Global, a: &Automaton) -> Result<bool, PlanFault>
     requires size { IsOfReadSize (automaton_of a.now) }
     ensures { ExaminesFilter result asked.IsUnambiguous (automaton_of a.now) }

@@ -29,8 +29,8 @@ rotated_accepts es fs gs parts h = elim (or_cases (list_any accepting_of es) (li
   | inr there ↦ accepts_first fs es there
 ]
 
--- A cycle over the round begun at z of v and z, from a state that a path from a start leads to, is one over the round of z
--- and v: it is begun where v ends.
+-- A state that is reached by the stem and then z, and has an accepting cycle over rounds of v and then z, makes the
+-- automaton accept the stem with rounds of z and then v: the cycle is rotated.
 rotated_some : (starts : List ℕ) (stem z v : List (List Move)) (k q : ℕ) (es : List Move)
     → IsReachedByWord starts (stem ++ z) q → IsMovePath q (copies (suc k) (v ++ z)) es q → list_any accepting_of es ≡ true → IsAccepted starts stem (z ++ v)
 rotated_some starts stem z v k q es begun cycle accepts =

@@ -1,5 +1,6 @@
--- A name that is green once in a round, while neither it nor a lower name is red there, holds a state with an accepting cycle:
--- behind the letter at which it is green each of its states comes, a round earlier, from one of them by an accepting move.
+-- A name that is green once in a round, while neither it nor a lower name is red there, holds a state with an accepting
+-- cycle: after the letter at which it is green, each of its states is reached from one of them, a round earlier, by a path
+-- with an accepting move.
 use Rattle.std.proofs.Common.{◌≡◌, ◌∙◌, ◌++◌, ℕ, ◌<◌, Bool, true, List, [], ◌∷◌, Contains, append_assoc, length, sym, ap, subst}
 use Rattle.safra_trees.specs.Step.{IsTree, greens, grown}
 use Rattle.safra_trees.specs.Trees.{Node, holds}

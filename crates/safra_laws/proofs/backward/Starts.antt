@@ -1,4 +1,4 @@
--- Each state of each tree lies at the end of a path from a start.
+-- Each state of each tree is reached by a path from a start.
 use Rattle.std.proofs.Common.{◌≡◌, ◌∙◌, ◌++◌, ◌-◌, ◌==◌, ℕ, zero, suc, Bool, true, false, List, [], ◌∷◌, Contains, append_assoc, length, refl, sym, arith, inl, inr, subst}
 use Rattle.std.proofs.lemmas.Bool.{cases_lt, eqb-true}
 use Rattle.std.proofs.lemmas.List.{append-nil}
@@ -20,7 +20,7 @@ use Rattle.safra_laws.specs.Rounds.{IsReachedByWord, next_tree, tree_after}
 abbrev pub AllReached : List ℕ → List (List Move) → List Node → Type 0
 AllReached starts w t = (x q : ℕ) → holds t x q ≡ true → IsReachedByWord starts w q
 
--- a name with a state from which a move leads to q
+-- a name that holds a state from which a move leads to q
 record Source (ms : List Move) (t : List Node) (q : ℕ) : Type 0 where
   name : ℕ
   enters : Enters ms (holds t name) q

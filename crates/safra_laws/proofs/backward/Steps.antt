@@ -1,4 +1,5 @@
--- A step at which neither a name nor a lower one is red is as tracing back needs it, and what a step is at which it is green.
+-- What tracing back needs of a step at which neither a name nor a lower one is red, and of a step at which that name is
+-- green.
 use Rattle.std.proofs.Common.{◌≡◌, ◌∙◌, ◌&&◌, ◌==◌, ℕ, ◌+◌, ◌-◌, ◌<◌, ◌≤◌, true, false, not, List, [], ◌∷◌, ◌++◌, Contains, filter, length, nat_lt, sym, ap, arith, inl, inr, subst}
 use Rattle.std.proofs.lemmas.Bool.{and_parts, both_ways, cases_Bool, cases_lt, eqb-true, ltb-true, not_from_false, or_parts}
 use Rattle.std.specs.List.{list_any, range_with_len}
@@ -38,7 +39,7 @@ grown_enters n ms t g y q more less parent held = elim (cases_lt y (length t)) [
       inl (subst (λ x. EntersAccepting ms (holds t x) q) back (enters_accepting_found ms t (y - length t) q (sym (new_holds n ms t y q new) ∙ held))))
 ]
 
--- the names up to g stay
+-- the names up to g survive
 abbrev pub AllStay : ℕ → List Move → List Node → ℕ → Type 0
 AllStay n ms t g = (f : ℕ) → f ≤ g → survives (grown n ms t) f ≡ true
 
@@ -48,12 +49,12 @@ same_name n ms t g on = rank_all (survives (grown n ms t)) g (λ f less. on f (o
 pub stays_below : (n : ℕ) (ms : List Move) (t : List Node) (g : ℕ) → g < length t → AllStay n ms t g → g < length (next_tree n ms t)
 stays_below n ms t g below on = omega (arith, pruned_within (grown n ms t) g (omega (arith, below)) (on g (omega arith)), same_name n ms t g on)
 
--- what the name holds behind the step it kept
+-- what the name holds after the step it kept
 kept_here : (n : ℕ) (ms : List Move) (t : List Node) (g q : ℕ) → g < length t → AllStay n ms t g → holds (next_tree n ms t) g q ≡ true → (retains (grown n ms t) g q ≡ true) × (q < n)
 kept_here n ms t g q below on here =
     pruned_parts (grown n ms t) g q (omega (arith, below)) (on g (omega arith)) (subst (λ x. holds (next_tree n ms t) x q ≡ true) (sym (same_name n ms t g on)) here)
 
--- a child of the name behind the step was a child of it in the grown forest
+-- a child of the name after the step was a child of it in the grown forest
 record WasChild (n : ℕ) (ms : List Move) (t : List Node) (g c : ℕ) : Type 0 where
   name : ℕ
   some : 0 < name
@@ -110,7 +111,7 @@ child_with f g q bare less held =
       keeps_it = parts.1;
     }
 
--- behind a step a name that the children cover has no child
+-- after a step, a name that its children covered has no child
 no_child : (n : ℕ) (ms : List Move) (t : List Node) (g c : ℕ) → IsTree t → AllStay n ms t g → covered (grown n ms t) g ≡ true → IsChild (next_tree n ms t) g c → ⊥
 no_child n ms t g c tree on bare is =
     let f = grown n ms t in
@@ -129,7 +130,7 @@ step_turns_green n ms t g tree below on bare = record {
   leaf = λ c is. no_child n ms t g c tree on bare is;
 }
 
--- what a green name is
+-- what holds of a green name
 pub record GreenFacts (n : ℕ) (ms : List Move) (t : List Node) (g : ℕ) : Type 0 where
   pub on : survives (grown n ms t) g ≡ true
   pub bare : covered (grown n ms t) g ≡ true

@@ -18,7 +18,7 @@ pub record Enters (ms : List Move) (set : ℕ → Bool) (q : ℕ) : Type 0 where
   pub from : set move.from ≡ true
   pub to : move.to ≡ q
 
--- an accepting one
+-- an accepting move from one of these states to q
 pub record EntersAccepting (ms : List Move) (set : ℕ → Bool) (q : ℕ) : Type 0 where
   pub enters : Enters ms set q
   pub accepting : enters.move.accepting ≡ true
@@ -29,13 +29,13 @@ pub record IsChild (t : List Node) (g c : ℕ) : Type 0 where
   pub below : c < length t
   pub parent : (node_at t c).parent ≡ g
 
--- one from a state that a child of g holds
+-- a move to q from a state that a child of g holds
 pub record EntersFromChild (ms : List Move) (t : List Node) (g q : ℕ) : Type 0 where
   pub child : ℕ
   pub is : IsChild t g child
   pub enters : Enters ms (holds t child) q
 
--- an accepting one from what g holds, or one from what a child of it holds
+-- an accepting move to q from a state that g holds, or a move from one that a child of g holds
 abbrev pub EntersBelow : List Move → List Node → ℕ → ℕ → Type 0
 EntersBelow ms t g q = EntersAccepting ms (holds t g) q ⊎ EntersFromChild ms t g q
 
@@ -44,7 +44,7 @@ pub record KeepsName (ms : List Move) (old new : List Node) (g : ℕ) : Type 0 w
   pub own : (q : ℕ) → holds new g q ≡ true → Enters ms (holds old g) q
   pub child : (c q : ℕ) → IsChild new g c → holds new c q ≡ true → EntersBelow ms old g q
 
--- and of one at which g is green
+-- and of a step at which g is green
 pub record TurnsGreen (ms : List Move) (old new : List Node) (g : ℕ) : Type 0 where
   pub covered : (q : ℕ) → holds new g q ≡ true → EntersBelow ms old g q
   pub leaf : (c : ℕ) → IsChild new g c → ⊥
@@ -56,24 +56,25 @@ pub record PathFrom (first : ℕ → Bool) (w : List (List Move)) (q : ℕ) : Ty
   pub here : first state ≡ true
   pub leads : IsMovePath state w path q
 
--- one with an accepting move
+-- such a path with an accepting move
 pub record AcceptingPathFrom (first : ℕ → Bool) (w : List (List Move)) (q : ℕ) : Type 0 where
   pub back : PathFrom first w q
   pub accepts : list_any (λ e. e.accepting) back.path ≡ true
 
--- from what g holds paths lead back to the first set, and from what its children hold such with an accepting move
+-- each state that g holds is reached by a path from the first set, and each that a child of g holds by one with an
+-- accepting move
 pub record Traced (first : ℕ → Bool) (w : List (List Move)) (s : List Node) (g : ℕ) : Type 0 where
   pub own : (q : ℕ) → holds s g q ≡ true → PathFrom first w q
   pub child : (c q : ℕ) → IsChild s g c → holds s c q ≡ true → AcceptingPathFrom first w q
 
--- at a leaf there is nothing to show
+-- for a name without children, the paths are empty
 pub traced_leaf : (s : List Node) (g : ℕ) → ((c : ℕ) → IsChild s g c → ⊥) → Traced (holds s g) [] s g
 traced_leaf s g leaf = record {
   own = λ q here. record { state = q; path = []; here = here; leads = refl };
   child = λ c q is here. absurd (leaf c is);
 }
 
--- a path and a move more
+-- a path with one move appended
 abbrev path_on : (first : ℕ → Bool) (w : List (List Move)) (ms : List Move) (q : ℕ) (set : ℕ → Bool) (a : Enters ms set q)
     → PathFrom first w a.move.from → PathFrom first (w ++ ms ∷ []) q
 path_on first w ms q set a b = record {
@@ -115,7 +116,7 @@ traced_along first n g w (ms ∷ v) t traced kept_along =
     let P : List (List Move) → Type 0 = λ x. Traced first x (tree_after n (next_tree n ms t) v) g in
     subst P (append_assoc w (ms ∷ []) v) (traced_along first n g (w ++ ms ∷ []) v (next_tree n ms t) (traced_step first w ms t (next_tree n ms t) g traced kept_along.0) kept_along.1)
 
--- from each state back to one before it, a round earlier
+-- from each state back to one of the set, a round earlier; two of the states so found are the same
 module _ (set : ℕ → Bool) (round : List (List Move)) (back : (q : ℕ) → set q ≡ true → AcceptingPathFrom set round q) where
   pub record Held : Type 0 where
     pub state : ℕ

@@ -14,20 +14,20 @@ pub record Child (t : List Node) (x s c : ℕ) : Type 0 where
   pub parent : (node_at t c).parent ≡ x
   pub holds_it : holds t c s ≡ true
 
--- x holds the run before and behind the step, and no name up to x is red
+-- x holds the run before and after the step, and no name up to x is red
 pub record HoldsRun (x : ℕ) (e : RunStep) : Type 0 where
   pub begins : holds e.tree x e.state ≡ true
   pub ends : holds e.next x e.move.to ≡ true
   pub none_red : (f : ℕ) → f ≤ x → Contains e.red f → ⊥
 
--- behind the step the child c of x, or an older one, holds the run; where it has the name c again, no name up to c is red
+-- after the step the child c of x, or an older one, holds the run; where it has the name c again, no name up to c is red
 pub record ChildBehind (x c : ℕ) (e : RunStep) : Type 0 where
   pub to : ℕ
   pub low : to ≤ c
   pub child : Child e.next x e.move.to to
   pub none_red : to ≡ c → (f : ℕ) → f ≤ c → Contains e.red f → ⊥
 
--- some child of x holds the run behind the step
+-- some child of x holds the run after the step
 pub record ChildMade (x : ℕ) (e : RunStep) : Type 0 where
   pub to : ℕ
   pub child : Child e.next x e.move.to to
@@ -47,7 +47,7 @@ pub record NotGreen (x : ℕ) (e : RunStep) : Type 0 where
   pub holding : HoldsRun x e
   pub no_green : Contains e.green x → ⊥
 
--- behind the steps the child c of x, or an older one, holds the run; where it has the name c again, c held the run all along
+-- after the steps the child c of x, or an older one, holds the run; where it has the name c again, c held the run all along
 pub record ChildAtEnd (x c : ℕ) (es : List RunStep) (q : ℕ) (u : List Node) : Type 0 where
   pub to : ℕ
   pub low : to ≤ c
@@ -104,7 +104,7 @@ child_comes x p q t u (e ∷ es) path each a there accepts = elim (there_cases e
   | inr later ↦ child_comes x e.move.to q e.next u es path.2 (rest_of (NotGreen x) e es each) a later accepts
 ]
 
--- x is green at some step, or at none
+-- a step at which x is green
 pub record IsGreen (x : ℕ) (es : List RunStep) : Type 0 where
   pub step : RunStep
   pub there : Contains es step
@@ -130,7 +130,7 @@ greens x (e ∷ es) = elim (green_at x e.green) [
   ])
 ]
 
--- a name above x that holds the run all along
+-- a name greater than x that holds the run all along
 pub record HigherName (x : ℕ) (t : List Node) (es : List RunStep) : Type 0 where
   pub name : ℕ
   pub above : x < name

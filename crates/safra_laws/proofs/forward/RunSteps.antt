@@ -1,10 +1,10 @@
--- The steps of a run beside those of the trees.
+-- The steps of a run together with those of the trees.
 use Rattle.std.proofs.Common.{◌≡◌, ◌<◌, ◌≤◌, ℕ, List, [], ◌∷◌, Contains, length}
 use Rattle.safra_trees.specs.Step.{greens, grown, pruned, reds}
 use Rattle.safra_trees.specs.Trees.{Node}
 use Rattle.safra_trees.specs.declared.moves.Move.{Move}
 
--- the state and the tree before the step, the moves of its letter, the one of them that the run takes, the tree behind it,
+-- the state and the tree before the step, the moves of its letter, the one of them that the run takes, the tree after it,
 -- and the names that are green and red
 pub record RunStep : Type 0 where
   pub state : ℕ

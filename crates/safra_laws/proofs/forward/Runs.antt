@@ -1,4 +1,4 @@
--- The forward direction over letters: a path of moves beside the trees, as the steps of a run.
+-- The forward direction over letters: a path of moves and the trees along it, as the steps of a run.
 use Rattle.std.proofs.Common.{◌≡◌, ◌<◌, ◌≤◌, ℕ, true, List, [], ◌∷◌, ◌++◌, Contains, ap, inl, inr, length, refl, subst, sym}
 use Rattle.std.proofs.lemmas.Bool.{or_cases, true≢false}
 use Rattle.std.specs.List.{list_any}
@@ -37,7 +37,7 @@ is_run n p q t [] (m ∷ es) path = absurd path
 is_run n p q t (ms ∷ w) [] path = absurd path
 is_run n p q t (ms ∷ w) (m ∷ es) path = (path.0, refl, is_run n m.to q (next_tree n ms t) w es path.2)
 
--- the root holds a run, once it does
+-- where the root holds the first state of a path, it holds the last one too
 pub after_rooted : (n p q : ℕ) (t : List Node) (w : List (List Move)) (es : List Move) → GoalsBelow n w → IsMovePath p w es q → holds t 0 p ≡ true → holds (tree_after n t w) 0 q ≡ true
 after_rooted n p q t [] [] below path h = subst (λ r. holds t 0 r ≡ true) path h
 after_rooted n p q t [] (m ∷ es) below path h = absurd path

@@ -1,4 +1,4 @@
--- A step of a run and of its tree is as the forward argument needs it.
+-- A step of a run and of its tree has what the forward argument needs.
 use Rattle.std.proofs.Common.{◌≡◌, ◌∙◌, ◌+◌, ◌-◌, ◌<◌, ◌≤◌, ◌==◌, ◌&&◌, ℕ, Bool, true, false, not, List, [], ◌∷◌, Contains, ap, arith, inl, inr, length, refl, subst, sym}
 use Rattle.std.proofs.lemmas.Bool.{and_from, cases_Bool, cases_eq, cases_lt, eq-eqb, not_from_false, true≢false}
 use Rattle.std.specs.List.{range_with_len}
@@ -13,7 +13,7 @@ use Rattle.safra_laws.proofs.TreesAfter.{holds_within, steps_keep_trees}
 use Rattle.safra_laws.proofs.forward.Names.{Apart, Child, ChildBehind, ChildMade, Each, FollowsRun, HoldsRun}
 use Rattle.safra_laws.proofs.forward.RunSteps.{IsRun, IsRunStep, RunStep}
 
--- where a name is not red it stays, and where a name that stays is not green it isn't covered
+-- a name that isn't red survives, and one that survives and isn't green isn't covered
 not_red : (f : Forest) (m x : ℕ) → x < m → (Contains (reds f m) x → ⊥) → survives f x ≡ true
 not_red f m x less none = elim (cases_Bool (survives f x)) [
   | inl is ↦ is
@@ -33,7 +33,7 @@ not_green f x less is none = elim (cases_Bool (covered f x)) [
   | inr isnt ↦ isnt
 ]
 
--- what is known of a step at which x holds the run before and behind, and no name up to x went
+-- what is known of a step at which x holds the run before and after, and no name up to x is removed
 pub record Kept (n : ℕ) (e : RunStep) (x : ℕ) : Type 0 where
   pub within : x < length e.tree
   pub stays_on : survives (grown n e.moves e.tree) x ≡ true

@@ -1,4 +1,4 @@
--- Steps keep sets in the order of their states, and the root its own parent.
+-- Steps keep trees canonical: each node lists its states in rising order, and the root is its own parent.
 use Rattle.std.proofs.Common.{◌≡◌, ◌∙◌, ◌+◌, ◌<◌, ℕ, Bool, true, false, List, [], ap, arith, inl, inr, length, refl, subst, sym}
 use Rattle.std.proofs.lemmas.Bool.{cases_lt}
 use Rattle.std.proofs.lemmas.List.{get_or_past}
@@ -29,7 +29,7 @@ sets_of_step n ms t x within =
     let P : ℕ → Type 0 = λ z. (node_at (pruned f) z).states ≡ names_where (holds (pruned f) z) n in
     subst P at.is (ap (λ (d : Node). d.states) is ∙ names_alike (retains f y) (holds (pruned f) (rank (survives f) y)) n each)
 
--- the root of the step was the root
+-- the root after the step is the root before it
 was_root : (n : ℕ) (ms : List Move) (t : List Node) (y : ℕ) → IsTree t → y < length t + length t → survives (grown n ms t) y ≡ true → rank (survives (grown n ms t)) y ≡ 0 → y ≡ 0
 was_root n ms t y tree below on is = elim (cases_lt 0 y) [
   | inl more ↦ absurd (

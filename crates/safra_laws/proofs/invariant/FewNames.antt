@@ -48,7 +48,7 @@ abbrev pub HoldsOnly : (ℕ → Bool) → ℕ → List Node → Type 0
 HoldsOnly p n t = (x s : ℕ) → holds t x s ≡ true → (p s ≡ true) × (s < n)
 
 module _ (p : ℕ → Bool) (n : ℕ) (t : List Node) (tree : IsTree t) (only : HoldsOnly p n t) where
-  -- the place of a state of the name's own among those that pass, and past the end a number behind these
+  -- the rank of a state of the name's own among the states that pass; past the end, a number greater than all ranks
   abbrev pick : (x : ℕ) → (x < length t) ⊎ (length t ≤ x) → ℕ
   pick x (inl within) = rank p (tree.own x within).state
   pick x (inr past) = rank p n + x + 1

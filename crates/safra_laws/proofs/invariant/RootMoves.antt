@@ -1,4 +1,4 @@
--- Of the moves of a letter a step sees those from states of the root alone, in whatever order they stand.
+-- A step depends only on the set of moves from states of the root, in whatever order they are listed.
 use Rattle.std.proofs.Common.{◌≡◌, ◌∙◌, ◌&&◌, ◌==◌, ◌-◌, ◌+◌, ◌++◌, ◌≤◌, ℕ, zero, suc, Bool, true, cond, List, Contains, ap, arith, length, map, nat_lt}
 use Rattle.std.proofs.Math.Path.{fun_ext}
 use Rattle.std.proofs.lemmas.Bool.{and_parts}
@@ -36,7 +36,7 @@ goes_well_alike ms ns t tree more x s h =
     let there = more found.0 (root_holds t tree x x found.0.from (omega arith) parts.0) found.1 in
     any_from (λ (m : Move). m.accepting && (holds t x m.from && (m.to == s))) ns found.0 there found.2
 
--- the forest of a tree with these goals of moves, and of accepting ones
+-- the grown forest of a tree, from where moves lead and where accepting moves lead
 abbrev with_goals : ℕ → List Node → (ℕ → ℕ → Bool) → (ℕ → ℕ → Bool) → Forest
 with_goals n t all well = record {
   bound = n;

@@ -1,4 +1,4 @@
--- The priority of a step by the first of its red and the first of its green names, which are the least.
+-- The priority of a step from the first of its red and the first of its green names, which are the least.
 use Rattle.std.proofs.Common.{◌≡◌, ◌+◌, ◌<◌, ◌≤◌, ◌&&◌, ℕ, Bool, min, not, List, [], ◌∷◌, ◌++◌, AllPairs, Contains, arith, inl, inr, length, map, refl, slice_get, subst}
 use Rattle.std.proofs.lemmas.Bool.{cases_lt}
 use Rattle.std.proofs.lemmas.List.Elements.{All-contains, Contains-append_cases, Contains-append_left, Contains-append_right}

@@ -40,7 +40,7 @@ green_high n most g ms t green =
     let odds = map (λ (h : ℕ). h + h + 1) (greens (grown n ms t)) in
     lowest_low (most + most) (evens ++ odds) (g + g + 1) (Contains-append_right evens odds (g + g + 1) (there_map (λ (h : ℕ). h + h + 1) (greens (grown n ms t)) g green))
 
--- the tree before a letter has no more names
+-- the tree before a letter has at most `most` names
 names_at : (n most : ℕ) (t : List Node) (u : List (List Move)) (ms : List Move) (v : List (List Move)) → NamesAtMost n most t (u ++ ms ∷ v) → length (tree_after n t u) ≤ most
 names_at n most t [] ms v few = few.0
 names_at n most t (ns ∷ u) ms v few = names_at n most (next_tree n ns t) u ms v few.1

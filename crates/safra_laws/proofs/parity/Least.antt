@@ -1,4 +1,4 @@
--- The least of some numbers, and the letter at which a priority is met.
+-- The least of some numbers, and the letter whose step has a priority.
 use Rattle.std.proofs.Common.{◌≡◌, ◌+◌, ◌∙◌, ◌⊎◌, ◌≤◌, ℕ, List, [], ◌∷◌, ◌++◌, Contains, ap, arith, inl, inr, length, map, refl, subst, sym}
 use Rattle.std.proofs.lemmas.Bool.{cases_lt}
 use Rattle.aut_base.proofs.lists.Members.{first_there, later_there, none_there, there_cases}

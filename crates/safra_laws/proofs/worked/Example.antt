@@ -1,4 +1,4 @@
--- The worked example, computed, and what the laws say of it.
+-- The worked example, computed, and the conclusions of the laws on it.
 use Rattle.std.proofs.Common.{◌<◌, [], ◌∷◌, Contains, arith, inl, inr, refl, subst}
 use Rattle.aut_base.proofs.lists.Members.{first_there, later_there, none_there, there_cases}
 use Rattle.safra_trees.specs.Step.{IsTree}

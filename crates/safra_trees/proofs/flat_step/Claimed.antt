@@ -5,14 +5,14 @@ use Rattle.aut_base.proofs.lists.Members.{first_there, later_there, none_there, 
 use Rattle.safra_trees.specs.inner.Claims.{claim, claimant, first_of, key, leads}
 use Rattle.safra_trees.specs.declared.moves.Move.{Move}
 
--- a move that lets this name claim the state
+-- a move that claims the state for this name
 pub record Lets (m : ℕ) (place : ℕ → ℕ) (s : ℕ) (moves : List Move) (c : ℕ) : Type 0 where
   pub move : Move
   pub there : Contains moves move
   pub leads_on : leads m place s move ≡ true
   pub is : c ≡ claimant m (place move.from) move
 
--- the claim after these moves, where `before` was there before
+-- the claim after these moves, where it was `before` before them
 pub record IsClaim (order : List ℕ) (place : ℕ → ℕ) (s : ℕ) (moves : List Move) (before c : ℕ) : Type 0 where
   pub from : (c ≡ before) ⊎ Lets (length order) place s moves c
   pub low : key order c ≤ key order before

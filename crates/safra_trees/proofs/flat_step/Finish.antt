@@ -1,4 +1,4 @@
--- The lists that the step writes are those of the names that stay.
+-- The lists of the new tree are those of the surviving names.
 use Rattle.aut_base.specs.declared.limit.TheConstants.{MOST_NODES}
 use Rattle.safra_trees.specs.Trees.{root_states}
 use Rattle.std.proofs.Common.{◌≡◌, ◌∙◌, ◌+◌, ◌<◌, ◌≤◌, ◌&&◌, ◌-◌, ℕ, zero, suc, Bool, List, [], ◌∷◌, ◌++◌, Some, ap, arith, inl, inr, length, map, nat_lt, not, refl, subst, sym, All}
@@ -56,7 +56,7 @@ passed_of n ms parents states places claims own owners stay is passes = record {
   are_homes = passes.are_homes;
 }
 
--- what the lists say, over a forest
+-- the lists of the passes, in terms of the forest
 stay_names : (f : Forest) (claims : List ℕ) (own : List Bool) (owners : List ℕ) (stay : List Bool) → ArePasses f claims own owners stay
     → names_where (flag stay) (length stay) ≡ names_where (survives f) f.size
 stay_names f claims own owners stay passes = ap (names_where (flag stay)) passes.stay_size ∙ names_alike (flag stay) (survives f) f.size passes.stays
@@ -187,7 +187,7 @@ pub homes_sized : (n : ℕ) (ms : List Move) (parents states places claims : Lis
     (grown n ms (nodes_of parents states places)) claims own owners stay → length owners ≡ length parents + length parents
 homes_sized n ms parents states places claims own owners stay passes = let e = passes.size in omega (arith, e, nodes_length parents states places)
 
--- what the calls gave, by the slices that they were given
+-- the results of the calls, and the slices that they were called with
 pub record IsWritten (parents claims owners : List ℕ) (stay : List Bool) (count : ℕ) (ranks new_p new_s new_o : List ℕ) (stay_1 stay_2 : List Bool)
     (ranks_1 parents_1 claims_1 homes_1 ranks_2 : List ℕ) : Type 0 where
   pub stay_one : stay_1 ≡ stay

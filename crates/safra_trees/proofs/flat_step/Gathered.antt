@@ -1,4 +1,4 @@
--- The lists of the names that stay are the stored tree that the step gives.
+-- The lists of the surviving names are the stored tree that the step gives.
 use Rattle.std.proofs.Common.{◌≡◌, ◌∙◌, ◌+◌, ◌<◌, ◌≤◌, ◌==◌, ◌&&◌, ℕ, zero, suc, Bool, true, false, cond, List, []}
 use Rattle.std.proofs.Common.{◌∷◌, Contains, Some, ap, arith, filter, inl, inr, length, map, nat_lt, refl, slice_get, subst, sym}
 use Rattle.std.proofs.lemmas.Bool.{and_from, and_parts, cases_eq, cond-false, eq-eqb, lt-ltb, ltb-true}
@@ -44,7 +44,7 @@ filter_twice p q r (x ∷ xs) same = by_cases (p x) (q x) (r x) (same x (first_t
     by_cases true b c e rest here = ap (λ (v : Bool). cond v (x ∷ filter q (filter p xs)) (filter q (filter p xs))) (here ∙ sym e) ∙ ap (λ ys. cond c (x ∷ ys) ys) rest
     by_cases false b c e rest here = rest ∙ sym (cond-false c (x ∷ filter r xs) (filter r xs) e)
 
--- the new parents by the names that stay
+-- the new parents, from the surviving names
 parent_at : (f : Forest) (y : ℕ) → y < f.size → survives f y ≡ true → at (new_parents f) (rank (survives f) y) ≡ rank (survives f) (f.parent y)
 parent_at f y less stay = index_map (λ z. rank (survives f) (f.parent z)) (names_where (survives f) f.size) (rank (survives f) y) y 0 (rank_at (survives f) y f.size less stay)
 
@@ -93,7 +93,7 @@ over_renamed : (f : Forest) → IsForest f → (y z : ℕ) → y < f.size → z 
     (rank (survives f) z) ≡ is_over f.parent y z
 over_renamed f is y z = over_renamed_to z f is y z (omega arith)
 
--- what a name that stays keeps, by the new names
+-- what a surviving name keeps, by the new names
 kept_renamed : (f : Forest) (claims : List ℕ) (own : List Bool) (owners : List ℕ) → IsPassed f claims own owners → (z s : ℕ) → z < f.size → survives f z ≡ true → s < f.bound
     → retains f z s ≡ (nat_lt (owner_below f f.size s) f.size && is_over (at (new_parents f)) (rank (survives f) z) (rank (survives f) (at owners (owner_below f f.size s))))
 kept_renamed f claims own owners is z s less stay small =

@@ -66,7 +66,7 @@ grown_same n ms parents states places =
       fresh = λ y more. new_parent n ms t y (omega (arith, many, more)) ∙ ap (λ m. y - m) many;
     }
 
--- what a move needs to let a name claim its goal
+-- when a move claims its goal, and for which name
 leads_from : (m : ℕ) (owner_below : ℕ → ℕ) (s : ℕ) (e : Move) → owner_below e.from < m → (e.to == s) ≡ true → leads m owner_below s e ≡ true
 leads_from m owner_below s e less to = and_from (nat_lt (owner_below e.from) m) (e.to == s) (lt-ltb (owner_below e.from) m less) to
 
@@ -76,7 +76,7 @@ claimant_well m x e well = cond-true e.accepting (m + x) x well
 claimant_else : (m x : ℕ) (e : Move) → e.accepting ≡ false → claimant m x e ≡ x
 claimant_else m x e other = cond-false e.accepting (m + x) x other
 
--- a claimant comes at the latest where the place does
+-- in the order a claimant comes no later than the place of the move's source
 claimant_key : (order : List ℕ) (x : ℕ) (e : Move) → x < length order → key order (claimant (length order) x e) ≤ suc (at order x + at order x)
 claimant_key order x e less = elim (cases_Bool e.accepting) [
   | inl well ↦ (

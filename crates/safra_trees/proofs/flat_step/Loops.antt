@@ -1,4 +1,4 @@
--- One number more, in the loops over names and states.
+-- Single turns of the loops over names and states.
 use Rattle.std.proofs.Common.{◌≡◌, ◌∙◌, ◌+◌, ◌<◌, ℕ, suc, Bool, true, false, List, [], ◌∷◌, ◌++◌, Some, ap, arith, length, map, slice_get, sym}
 use Rattle.std.proofs.lemmas.List.{map-append}
 use Rattle.std.specs.List.{range_with_len}

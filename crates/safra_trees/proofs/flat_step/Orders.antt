@@ -11,7 +11,7 @@ use Rattle.safra_trees.specs.Step.{Forest}
 use Rattle.safra_trees.specs.inner.Claims.{key}
 use Rattle.safra_trees.specs.inner.Order.{IsOrder}
 
--- c is the first of the names below k that hold the state, or stands behind all names where none does
+-- c is the first in the order of the names below k that hold the state, or comes after all names where none does
 pub record IsFirst (f : Forest) (order : ℕ → ℕ) (k s c : ℕ) : Type 0 where
   pub from : (c ≡ f.size) ⊎ ((c < k) × (f.holds c s ≡ true))
   pub first : (y : ℕ) → y < k → f.holds y s ≡ true → order c ≤ order y

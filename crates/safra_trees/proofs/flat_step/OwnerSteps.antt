@@ -1,4 +1,4 @@
--- One name more with its home.
+-- The loop over names that computes owners, one name at a time.
 use Rattle.std.proofs.Common.{◌≡◌, ◌∙◌, ◌+◌, ◌-◌, ◌<◌, ◌≤◌, ◌==◌, ◌&&◌, ◌||◌, ℕ, Bool, List, [], ◌∷◌, ◌++◌, ap, arith, cond, inl, inr, length, nat_lt, refl, subst, sym}
 use Rattle.std.proofs.lemmas.Bool.{cases_eq, cases_lt, cond-false, cond-true, le-ltb, lt-ltb}
 use Rattle.safra_trees.proofs.flat_step.OrderSteps.{push_at, push_before}
@@ -6,7 +6,7 @@ use Rattle.safra_trees.specs.Flat.{at}
 use Rattle.safra_trees.specs.inner.Claims.{grown_parent}
 use Rattle.safra_trees.specs.inner.Passes.{AreOwners, flag, is_owner}
 
--- the home of x where that of its parent is v
+-- the owner of x, where that of its parent is v
 abbrev home_from : List Bool → (ℕ → ℕ) → ℕ → ℕ → ℕ
 home_from own parent x v = cond ((x == 0) || ((v == parent x) && flag own (parent x))) x v
 

@@ -1,4 +1,4 @@
--- Which names stay, and where the states of the others end up.
+-- Which names survive, and which nodes own the states of the others.
 use Rattle.std.proofs.Common.{◌≡◌, ◌≢◌, ◌∙◌, ◌<◌, ◌≤◌, ◌==◌, ◌&&◌, ◌||◌, ℕ, zero, suc, Bool, true, false, not, List, ap, arith, inl, inr, length, map, nat_lt, refl, subst, sym}
 use Rattle.std.proofs.lemmas.Bool.{and_from, and_parts, both_ways, cases_Bool, cases_eq, cond-false, cond-true, eq-eqb}
 use Rattle.std.proofs.lemmas.Bool.{eqb-true, lt-ltb, ltb-true, ne_eqb, not-true, not_from_false, or_from, or_parts, or_right}
@@ -16,11 +16,11 @@ use Rattle.safra_trees.specs.Step.{Forest, ancestors, covered, retains, survives
 use Rattle.safra_trees.specs.Trees.{has}
 use Rattle.safra_trees.specs.inner.Passes.{AreOwners, ends_at, flag, is_owner}
 
--- no ancestor is covered
+-- a name is open where no proper ancestor of it is covered
 abbrev pub is_open : Forest → ℕ → Bool
 is_open f y = not (list_any (covered f) (ancestors f y))
 
--- what the passes found in a forest
+-- the results of the passes in a forest
 pub record IsPassed (f : Forest) (claims : List ℕ) (own : List Bool) (owners : List ℕ) : Type 0 where
   pub forest : IsForest f
   pub claimed : claims ≡ map (owner_below f f.size) (range_with_len 0 f.bound)
@@ -37,7 +37,7 @@ own_covered f claims own owners is y less =
 open_up : (f : Forest) → IsForest f → (y : ℕ) → 0 < y → y < f.size → list_any (covered f) (ancestors f y) ≡ (covered f (f.parent y) || list_any (covered f) (ancestors f (f.parent y)))
 open_up f is y more less = ap (list_any (covered f)) (ancestors_of f is y more less)
 
--- the home of a name: the lowest of it and its ancestors that is open
+-- the owner of a name: the deepest of it and its ancestors that is open
 pub record IsHome (f : Forest) (y h : ℕ) : Type 0 where
   pub over : is_over f.parent h y ≡ true
   pub opens : is_open f h ≡ true
@@ -97,7 +97,7 @@ home_to (suc k) f claims own owners is (suc y) low less =
 pub owner_of : (f : Forest) (claims : List ℕ) (own : List Bool) (owners : List ℕ) → IsPassed f claims own owners → (y : ℕ) → y < f.size → IsHome f y (at owners y)
 owner_of f claims own owners is y = home_to y f claims own owners is y (omega arith)
 
--- over an open name nothing is covered
+-- no proper ancestor of an open name is covered
 open_above_to : (k : ℕ) (f : Forest) → IsForest f → (x z : ℕ) → z ≤ k → z < f.size → is_over f.parent x z ≡ true → x ≢ z → is_open f z ≡ true → covered f x ≡ false
 open_above_to k f is x zero low less over other opens = absurd (other (sym (over_root f.parent x over)))
 open_above_to zero f is x (suc z) low less over other opens = absurd (omega (arith, low))
@@ -120,7 +120,7 @@ open_above f is x z = open_above_to z f is x z (omega arith)
 pub stays_open : (f : Forest) (y : ℕ) → survives f y ≡ true → is_open f y ≡ true
 stays_open f y stay = not_from_false (list_any (covered f) (ancestors f y)) (stays_free f y stay)
 
--- the home of a place stays
+-- the owner of a place survives
 pub home_stays : (f : Forest) (claims : List ℕ) (own : List Bool) (owners : List ℕ) → IsPassed f claims own owners → (s : ℕ) → s < f.bound → owner_below f f.size s < f.size → survives f
     (at owners (owner_below f f.size s)) ≡ true
 home_stays f claims own owners is s small less =
@@ -129,7 +129,7 @@ home_stays f claims own owners is s small less =
     (over_kept f is.forest (at owners (owner_below f f.size s)) (owner_below f f.size s) s less owner.over (place_keeps f is.forest s f.size (omega arith) less)) small
     (not-true (list_any (covered f) (ancestors f (at owners (owner_below f f.size s)))) owner.opens)
 
--- each name that stays is the home of a place
+-- each surviving name is the owner of a place
 pub record Inhabits (f : Forest) (owners : List ℕ) (y : ℕ) : Type 0 where
   pub state : ℕ
   pub small : state < f.bound
@@ -166,7 +166,7 @@ inhabited f claims own owners is y less stay =
           })
     ]
 
--- the flags of the names that stay
+-- the flags of the surviving names
 pub stays_flag : (f : Forest) (claims : List ℕ) (own : List Bool) (owners : List ℕ) → IsPassed f claims own owners → (y : ℕ) → y < f.size → list_any (ends_at owners y) claims ≡ survives f y
 stays_flag f claims own owners is y less =
     let mapped : list_any (ends_at owners y) claims ≡ list_any (λ s. ends_at owners y (owner_below f f.size s)) (range_with_len 0 f.bound) = ap (list_any (ends_at owners y)) is.claimed
@@ -184,6 +184,6 @@ stays_flag f claims own owners is y less =
     (and_from (nat_lt (owner_below f f.size lives.state) (length owners)) (at owners (owner_below f f.size lives.state) == y)
     (lt-ltb (owner_below f f.size lives.state) (length owners) (omega (arith, lives.placed, is.size))) (eq-eqb (at owners (owner_below f f.size lives.state)) y lives.ends))))
 
--- a name that stays and claims nothing is green
+-- a surviving name that claims nothing is green
 pub green_flag : (f : Forest) (claims : List ℕ) (own : List Bool) (owners : List ℕ) → IsPassed f claims own owners → (y : ℕ) → y < f.size → not (flag own y) ≡ covered f y
 green_flag f claims own owners is y less = sym (own_covered f claims own owners is y less)

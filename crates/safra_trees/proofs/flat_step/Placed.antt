@@ -32,7 +32,7 @@ has_if : (b : Bool) (s p : ℕ) (rest : List ℕ) → (s == p) ≡ false → has
 has_if true s p rest other = ap (λ b. b || has rest p) other
 has_if false s p rest other = refl
 
--- of the states that pass each is one of them
+-- the states whose places pass are some of the states
 pub placed_absent : (test : ℕ → Bool) (states places : List ℕ) (p : ℕ) → has states p ≡ false → has (placed test states places) p ≡ false
 placed_absent test [] places p not_there = refl
 placed_absent test (s ∷ states) [] p not_there = refl

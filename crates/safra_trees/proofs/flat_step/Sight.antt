@@ -1,4 +1,4 @@
--- Trees and moves by the places of their states among those in sight.
+-- Trees and moves renumbered by the index of their states in the sight.
 use Rattle.std.proofs.Common.{◌≡◌, ◌∙◌, ◌+◌, ◌++◌, ◌<◌, ◌≤◌, ◌==◌, ℕ, zero, suc, Bool, true, false, cond, List, [], ◌∷◌, All, AllPairs, Contains, Err, Ok, ap, arith, flat_map, get_or}
 use Rattle.std.proofs.Common.{inl, inr, length, map, refl, subst, sym, take}
 use Rattle.std.proofs.lemmas.Bool.{both_ways, cases_Bool, cases_eq, cases_lt, eq-eqb, eqb-true}
@@ -23,7 +23,7 @@ use Rattle.safra_trees.specs.Trees.{Node, has, root_states}
 use Rattle.safra_trees.specs.declared.moves.Move.{Move}
 use Rattle.safra_trees.specs.inner.Sight.{IsSeen, IsSight, ends, move_by, node_by}
 
--- a number in a list that rises is no less than its place
+-- a number in a strictly increasing list is no less than its index
 low_place : (xs : List ℕ) → AllPairs (λ x y. x < y) xs → (i : ℕ) → i < length xs → i ≤ get_or xs i 0
 low_place xs rises zero less = omega arith
 low_place xs rises (suc i) less = omega (arith, rises i (suc i) 0 (omega arith) less, low_place xs rises i (omega (arith, less)))
@@ -34,7 +34,7 @@ never_falls xs rises i j le within = elim (cases_eq i j) [
   | inr other ↦ omega (arith, rises i j 0 (omega (arith, le, other)) within)
 ]
 
--- the search gives a place that is no greater than the number
+-- the search gives an index that is no greater than the number
 pub found_place : (xs : List ℕ) (x i : ℕ) → IsStrictlyIncreasing xs → IsBinarySearchResult (λ y. nat_cmp y x) xs (Ok i) → i ≤ x
 found_place xs x i rises found =
     let up = AllPairs-from_increasing xs rises in
@@ -51,14 +51,14 @@ not_missing xs x i rises there missed =
       | inr behind ↦ absurd (omega (arith, is.2 there.0 behind there.1, here))
     ]
 
--- There are no more of them than numbers.
+-- A strictly increasing list of numbers below n has at most n of them.
 pub few_places : (xs : List ℕ) (n : ℕ) → IsStrictlyIncreasing xs → All (λ x. x < n) xs → length xs ≤ n
 few_places [] n rises all = omega arith
 few_places (x ∷ xs) n rises all =
     let last : length xs < length (x ∷ xs) = omega arith in
     omega (arith, low_place (x ∷ xs) (AllPairs-from_increasing (x ∷ xs) rises) (length xs) last, all (length xs) 0 last)
 
--- one move more between places
+-- after one more move is renumbered
 pub moves_more : (sight : List ℕ) (moves found new : List Move) (i : ℕ) (d m : Move) → All (IsMoveInRange (length sight)) found → map (move_by (at sight)) found ≡ take i moves → i < length moves
     → IsMoveInRange (length sight) m → move_by (at sight) m ≡ get_or moves i d → new ≡ found ++ m ∷ [] → All (IsMoveInRange (length sight)) new × (map (move_by (at sight)) new ≡ take (i + 1) moves)
 moves_more sight moves found new i d m all so_far less within is pushed = (
@@ -70,7 +70,7 @@ moves_more sight moves found new i d m all so_far less within is pushed = (
       ∙ sym (take-push moves i (get_or moves i d) less (get_or_default moves i d (get_or moves i d) less))))),
 )
 
--- by lists that are the same
+-- the same for equal lists
 pub is_sight : (states states' : List ℕ) (ms ms' : List Move) (sight sight' : List ℕ) → IsSight states ms sight → states ≡ states' → ms ≡ ms' → sight' ≡ sight → IsSight states' ms' sight'
 is_sight states states' ms ms' sight sight' is one two three =
     subst (IsSight states' ms') (sym three) (subst (λ xs. IsSight states' xs sight) two (subst (λ xs. IsSight xs ms sight) one is))
@@ -112,7 +112,7 @@ nodes_moved f parents states places =
     λ i x. record { parent = at parents x; states = placed_moved f (is_over (at parents) x) states places i } in
     ap (λ g. map g (range_with_len 0 (length parents))) each ∙ sym (map-map (node_by f) (node_of parents states places) (range_with_len 0 (length parents)))
 
--- the tree over the places of its states
+-- the tree renumbered by the indices of its states
 small_rises : (sight states small : List ℕ) → IsStrictlyIncreasing sight → All (λ x. x < length sight) small → map (at sight) small ≡ states → AllPairs (λ a b. a < b) states
     → AllPairs (λ a b. a < b) small
 small_rises sight states small rises below are up = λ i j d less within.
@@ -154,7 +154,7 @@ named_nodes sight parents small places parents' states places' one two are =
 pub same_stored : (parents places parents' states places' : List ℕ) → parents' ≡ parents → places' ≡ places → IsStored parents states places → IsStored parents' states places'
 same_stored parents places parents' states places' one two is = subst (λ xs. IsStored xs states places') (sym one) (subst (λ xs. IsStored parents states xs) (sym two) is)
 
--- and the tree over the states at its places
+-- and renumbered back by the states of its indices
 pub named_stored : (sight parents small places states : List ℕ) → IsStored parents small places → IsStrictlyIncreasing sight → All (λ x. x < length sight) small → states ≡ map (at sight) small
     → IsStored parents states places
 named_stored sight parents small places states is rises below are =
@@ -187,7 +187,7 @@ nodes_below k parents states places all x = elim (cases_lt x (length parents)) [
           (any_from (λ y. y == s) (placed (is_over (at parents) x) states places) s there (eq-eqb s s refl)))
     ]
 
--- the root of what is left holds states of the forest
+-- the root of the pruned forest holds states of the forest
 pub pruned_below : (f : Forest) → All (λ s. s < f.bound) (root_states (pruned f))
 pruned_below f = below (names_where (survives f) f.size)
   where
@@ -195,7 +195,7 @@ pruned_below f = below (names_where (survives f) f.size)
     below [] = λ i d within. absurd (omega (arith, within))
     below (y ∷ ys) = names_below (retains f y) f.bound
 
--- What is stepped in place of the moves and the tree: the same by the places of their states.
+-- The renumbered moves and tree (`few` and `small`) that are stepped instead of the moves and the tree.
 pub record IsSmall (sight : List ℕ) (ms : List Move) (t : List Node) (few : List Move) (small : List Node) : Type 0 where
   pub rises : IsStrictlyIncreasing sight
   pub all : (n : ℕ) → AreStates n ms t → All (λ s. s < n) sight
@@ -224,7 +224,7 @@ small_event sight ms t few small is n are =
     ∙ (ap (λ u. event_of n (map (move_by (at sight)) few) u) (sym is.tree)
     ∙ event_moved (at sight) (length sight) n (rising_at n sight is.rises (is.all n are)) few is.within small is.below)
 
--- the places of what a tree and moves name are such
+-- renumbering by the sight gives such a tree and moves
 pub small_of : (parents states places listed found sight : List ℕ) (ms before again few : List Move) (p s o : List ℕ) → IsStored parents states places → IsStored p s o → IsSight listed before found
     → listed ≡ states → before ≡ ms → sight ≡ found → All (IsMoveInRange (length sight)) few → map (move_by (at sight)) few ≡ again → again ≡ ms
     → All (λ x. x < length sight) (root_states (nodes_of p s o)) → map (node_by (at sight)) (nodes_of p s o) ≡ nodes_of parents states places

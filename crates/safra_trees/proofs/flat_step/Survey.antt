@@ -1,4 +1,4 @@
--- What the passes of a step find, put together.
+-- The results of the passes of a step, put together.
 use Rattle.std.proofs.Common.{◌≡◌, ◌∙◌, ◌+◌, ◌<◌, ◌≤◌, ◌==◌, ◌&&◌, ◌||◌, ℕ, zero, suc, Bool, List, [], ◌∷◌, All, ap, arith, cond, get_or, inl, inr, length, map, nat_lt, refl, subst, sym}
 use Rattle.std.proofs.lemmas.Bool.{cases_lt}
 use Rattle.std.proofs.lemmas.List.Elements.{All-head, All-tail}
@@ -97,7 +97,7 @@ surveyed n ms parents states places order found claims own owners stay is within
       stays = λ y less. survey.stays y (omega (arith, less, passed.size)) ∙ stays_flag f claims own owners passed y less;
     }
 
--- by places, whatever stands past the end
+-- the item of an index within the list, whatever the default past the end
 get_any : (xs : List ℕ) (k d : ℕ) → k < length xs → get_or xs k d ≡ at xs k
 get_any [] k d less = absurd (omega (arith, less))
 get_any (x ∷ xs) zero d less = refl

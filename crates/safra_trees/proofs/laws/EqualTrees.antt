@@ -1,4 +1,4 @@
--- What is compared and hashed of a stored tree is what its list of nodes says.
+-- What is compared and hashed of a stored tree is determined by its list of nodes.
 use Rattle.std.proofs.Common.{◌≡◌, ◌∙◌, ◌<◌, ◌≤◌, ◌==◌, ◌&&◌, ◌++◌, ℕ, zero, suc, Bool, true, false, List, [], ◌∷◌, AllPairs, ap, arith, inl, inr, length, map, nat_eq, refl, subst, sym}
 use Rattle.std.proofs.lemmas.Bool.{and_from, and_parts, both_ways, cases_Bool, cases_lt, cond-false, cond-true, eqb-true, or_cases, true≢false}
 use Rattle.std.proofs.lemmas.List.{length-map}

@@ -23,7 +23,7 @@ parents_read parents states places =
     mapped (λ (d : Node). d.parent) (node_of parents states places) (range_with_len 0 (length parents))
     ∙ sym (listed_by parents (at parents) 0 (λ i less. (let e : i ≡ 0 + i = omega arith in ap (at parents) e)))
 
--- what a node holds in one of two trees with the same nodes, its place in the other is not above
+-- a state has the same place in two stored trees with the same nodes
 place_low : (parents states places others : List ℕ) → IsStored parents states places → IsStored parents states others → nodes_of parents states places ≡ nodes_of parents states others
     → (p : ℕ) → has states p ≡ true → owner_in (length parents) states places p ≡ owner_in (length parents) states others p
 place_low parents states places others is also same p there =

@@ -1,4 +1,4 @@
--- What nodes of a forest keep, which stay, and the oldest child that holds a state.
+-- What nodes of a forest keep, which survive, and the oldest child that holds a state.
 use Rattle.std.proofs.Common.{◌≡◌, ◌∙◌, ◌⊎◌, ◌<◌, ◌≤◌, ◌==◌, ◌&&◌, ℕ, zero, suc, Bool, true, false, not, List, [], ◌∷◌, Contains, ap, arith, inl, inr, nat_lt, refl, subst, sym}
 use Rattle.std.proofs.lemmas.Bool.{and_from, and_parts, cases_Bool, cases_eq, eq-eqb, eqb-true, lt-ltb, ltb-true, not-true, not_from_false, or_from, or_parts}
 use Rattle.std.specs.List.{list_any, range_with_len}
@@ -67,7 +67,7 @@ stays_from f y s h less free = and_from (list_any (retains f y) (range_with_len 
     (any_from (retains f y) (range_with_len 0 f.bound) s (there_range_zero f.bound s less) h)
     (not_from_false (list_any (covered f) (ancestors f y)) free)
 
--- the parent of a node that stays, stays
+-- the parent of a node that survives survives
 pub stays_up : (f : Forest) → IsForest f → (y : ℕ) → 0 < y → y < f.size → survives f y ≡ true → survives f (f.parent y) ≡ true
 stays_up f is y more less h =
     let some = any_found (retains f y) (range_with_len 0 f.bound) (stays_some f y h) in
@@ -75,7 +75,7 @@ stays_up f is y more less h =
     let free : list_any (covered f) (f.parent y ∷ ancestors f (f.parent y)) ≡ false = subst (λ ys. list_any (covered f) ys ≡ false) (ancestors_of f is y more less) (stays_free f y h) in
     stays_from f (f.parent y) some.0 (keeps_up f is y some.0 more less some.2) (omega (arith, within.1)) (or_parts (covered f (f.parent y)) (list_any (covered f) (ancestors f (f.parent y))) free).1
 
--- what keeps a state under a node that stays and isn't covered, stays
+-- a child that keeps a state survives where its parent survives and isn't covered
 pub stays_child : (f : Forest) → IsForest f → (y s : ℕ) → 0 < y → y < f.size → retains f y s ≡ true → s < f.bound → survives f (f.parent y) ≡ true → covered f (f.parent y) ≡ false
     → survives f y ≡ true
 stays_child f is y s more less h small up bare =
@@ -102,7 +102,7 @@ least_below p (suc k) = elim (least_below p k) [
 pub least : (p : ℕ → Bool) (y : ℕ) → p y ≡ true → Least p y
 least p y is = elim (least_below p y) [ inl found ↦ found | inr none ↦ record { at = y; low = omega arith; is = is; none = none } ]
 
--- of the children of x that hold q the oldest keeps it and stays, where x keeps it, stays and isn't covered
+-- of the children of x that hold q the oldest keeps it and survives, where x keeps it, survives and isn't covered
 pub record Next (f : Forest) (x q y : ℕ) : Type 0 where
   pub name : ℕ
   pub low : name ≤ y

@@ -1,4 +1,4 @@
--- A node keeps a state where it is its place or an ancestor of that.
+-- A node keeps a state exactly where it is the state's place or an ancestor of that.
 use Rattle.std.proofs.Common.{◌≡◌, ◌∙◌, ◌<◌, ◌≤◌, ◌==◌, ◌||◌, ℕ, zero, suc, true, arith, inl, inr, subst, sym}
 use Rattle.std.proofs.lemmas.Bool.{and_parts, cases_Bool, cases_eq, eqb-true, or_cases}
 use Rattle.safra_trees.proofs.list_step.Forests.{IsForest, keeps_up}
@@ -65,7 +65,7 @@ over_kept_to (suc k) f is y (suc z) s low less over kept =
       | inr over' ↦ over_kept_to k f is y (f.parent (suc z)) s (omega (arith, up, low)) (omega (arith, up, less)) over' (keeps_up f is (suc z) s more less kept)
     ]
 
--- what is over a name that keeps a state keeps it
+-- the ancestors of a name that keeps a state keep it too
 pub over_kept : (f : Forest) → IsForest f → (y z s : ℕ) → z < f.size → is_over f.parent y z ≡ true → retains f z s ≡ true → retains f y s ≡ true
 over_kept f is y z s = over_kept_to z f is y z s (omega arith)
 

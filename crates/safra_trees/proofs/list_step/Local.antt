@@ -1,4 +1,4 @@
--- What a node keeps, by its parent and its older siblings alone; what is left when all children took theirs.
+-- What a node keeps, by its parent and its older siblings alone, and what is still free after all its children took theirs.
 use Rattle.std.proofs.Common.{◌≡◌, ◌∙◌, ◌+◌, ◌<◌, ◌==◌, ◌&&◌, ◌||◌, ℕ, Bool, true, false, not, [], ◌∷◌, ap, arith, filter, nat_lt, refl, subst, sym}
 use Rattle.std.proofs.lemmas.Bool.{and_from, and_parts, both_ways, eqb-true, false_from_ne_true, ltb-true, not-true, not_from_false}
 use Rattle.std.proofs.lemmas.List.Folds.{list_any-append}
@@ -47,7 +47,7 @@ keeps_root f s = and_true (f.holds 0 s)
     and_true true = refl
     and_true false = refl
 
--- what is free goes down by what each name takes
+-- which states are given to children, and which are still free, after one more name
 given_more : (f : Forest) (x y s : ℕ) → given f x (y + 1) s ≡ (given f x y s || (is_child f x y && retains f y s))
 given_more f x y s =
     let e : 0 + y ≡ y = omega arith in
@@ -64,7 +64,7 @@ free_more f x y s = ap (λ b. retains f x s && not b) (given_more f x y s) ∙ s
     split true false c = refl
     split false g c = refl
 
--- a node is covered where nothing of it is left free
+-- a node is covered where none of its states is still free
 pub covered_left : (f : Forest) (x : ℕ) → covered f x ≡ not (list_any (free f x f.size) (range_with_len 0 f.bound))
 covered_left f x = same_truth (covered f x) (not (list_any (free f x f.size) (range_with_len 0 f.bound)))
     (λ all. not_from_false (list_any (free f x f.size) (range_with_len 0 f.bound))

@@ -1,5 +1,5 @@
--- A step where other numbers stand for the states: where a function that rises moves the states of a tree and of moves, it
--- moves those of the step, and nothing else changes.
+-- A step commutes with renumbering the states: where a strictly increasing function renumbers the states of a tree and of
+-- moves, it renumbers those of the new tree, and nothing else changes.
 use Rattle.std.proofs.Common.{◌≡◌, ◌∙◌, ◌⊎◌, ◌-◌, ◌<◌, ◌==◌, ◌&&◌, ◌||◌, ℕ, zero, suc, Bool, true, false, cond, not, List, [], ◌∷◌, All, Contains, ap, arith}
 use Rattle.std.proofs.Common.{inl, inr, length, map, nat_lt, refl, subst, sym}
 use Rattle.std.proofs.lemmas.Bool.{both_ways, cases_Bool, cases_eq, cases_lt, cond-false, cond-true, eq-eqb, ne_eqb}
@@ -19,12 +19,12 @@ use Rattle.safra_trees.specs.Trees.{Node, has, holds, node_at}
 use Rattle.safra_trees.specs.declared.moves.Move.{Move}
 use Rattle.safra_trees.specs.inner.Sight.{move_by, node_by}
 
--- f rises on the numbers below k, and gives numbers below n
+-- f is strictly increasing on the numbers below k, and its values are below n
 pub record IsRising (f : ℕ → ℕ) (k n : ℕ) : Type 0 where
   pub rises : (a b : ℕ) → a < b → b < k → f a < f b
   pub below : (a : ℕ) → a < k → f a < n
 
--- f gives the number nowhere below k
+-- the number is no value of f below k
 abbrev pub IsMissed : (ℕ → ℕ) → ℕ → ℕ → Type 0
 IsMissed f k s = (a : ℕ) → a < k → f a ≡ s → ⊥
 
@@ -119,7 +119,7 @@ goes_well_missed f k s none t (m ∷ ms) within x =
     ap (λ b. b || goes_accepting (map (move_by f) ms) t x s) (behind m.accepting (holds t x (f m.from) && (f m.to == s)) (behind (holds t x (f m.from)) (f m.to == s) other))
     ∙ goes_well_missed f k s none t ms (All-tail (IsMoveInRange k) m ms within) x
 
--- what the nodes of one forest hold, moved by f, those of the other hold
+-- the nodes of the other forest hold f of what those of this one hold
 pub record IsMoved (f : ℕ → ℕ) (one other : Forest) : Type 0 where
   pub rising : IsRising f one.bound other.bound
   pub size : other.size ≡ one.size
@@ -235,7 +235,7 @@ renamed_moved f one other is y =
     let states = kept_moved f one other is y in
     λ i. record { parent = parent i; states = states i }
 
--- what is left of the forest moves with it
+-- the pruned forest is renumbered with the forest
 pruned_moved : (f : ℕ → ℕ) (one other : Forest) → IsMoved f one other → pruned other ≡ map (node_by f) (pruned one)
 pruned_moved f one other is =
     let each : renamed other ≡ (λ y. node_by f (renamed one y)) = λ i y. renamed_moved f one other is y i in

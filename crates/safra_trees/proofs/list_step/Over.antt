@@ -27,7 +27,7 @@ over_cases parent size lower x z more less over = elim (or_cases (z == x) (is_ov
 pub over_from : (parent : ℕ → ℕ) (size : ℕ) → IsLower parent size → (x z : ℕ) → 0 < z → z < size → is_over parent x (parent z) ≡ true → is_over parent x z ≡ true
 over_from parent size lower x z more less over = over_up parent size lower x z more less ∙ or_right (z == x) (is_over parent x (parent z)) over
 
--- over the root stands the root alone
+-- only the root is over the root
 pub over_root : (parent : ℕ → ℕ) (x : ℕ) → is_over parent x 0 ≡ true → 0 ≡ x
 over_root parent x over = elim (or_cases (0 == x) false over) [ inl here ↦ eqb-true 0 x here | inr none ↦ absurd (let e : false ≡ true = none in cc) ]
 
@@ -53,7 +53,7 @@ over_top_to (suc k) parent size lower (suc z) low less =
     let up : parent (suc z) < suc z = lower (suc z) more less in
     over_from parent size lower 0 (suc z) more less (over_top_to k parent size lower (parent (suc z)) (omega (arith, up, low)) (omega (arith, up, less)))
 
--- the root stands over all
+-- the root is over all names
 pub over_top : (parent : ℕ → ℕ) (size : ℕ) → IsLower parent size → (z : ℕ) → z < size → is_over parent 0 z ≡ true
 over_top parent size lower z = over_top_to z parent size lower z (omega arith)
 
@@ -71,7 +71,7 @@ over_then_to (suc k) parent size lower x y (suc z) low less first second =
 pub over_then : (parent : ℕ → ℕ) (size : ℕ) → IsLower parent size → (x y z : ℕ) → z < size → is_over parent x y ≡ true → is_over parent y z ≡ true → is_over parent x z ≡ true
 over_then parent size lower x y z = over_then_to z parent size lower x y z (omega arith)
 
--- what is over a name, its parent is too
+-- the parent of what is over a name is over it too
 pub over_parent : (parent : ℕ → ℕ) (size : ℕ) → IsLower parent size → (y z : ℕ) → 0 < y → y < size → z < size → is_over parent y z ≡ true → is_over parent (parent y) z ≡ true
 over_parent parent size lower y z more within less over =
     over_then parent size lower (parent y) y z less (over_from parent size lower (parent y) y more within (over_self parent (parent y))) over

@@ -1,4 +1,4 @@
--- The pass that keeps for each state its place alone gives what the step's definition says.
+-- The pass that keeps only the place of each state gives what the definition of the step says.
 use Rattle.std.proofs.Common.{◌≡◌, ◌∙◌, ◌⊎◌, ◌+◌, ◌<◌, ◌≤◌, ◌==◌, ◌&&◌, ◌||◌, ℕ, zero, suc, Bool, true, false, not, List, [], ◌∷◌, ap, arith, inl, inr, nat_lt, refl, subst, sym}
 use Rattle.std.proofs.lemmas.Bool.{and_from, and_parts, both_ways, cases_Bool, cases_eq, cond-false, cond-true, eq-eqb, eqb-true, ltb-true, lt-ltb, ne_eqb, or_cases, false_from_ne_true}
 use Rattle.std.specs.List.{list_any, range_with_len}
@@ -24,7 +24,7 @@ place_low f (suc y) s = elim (cases_Bool (takes f y s)) [
   ])
 ]
 
--- all names below y: what is free at x is what is placed there
+-- for all names x below y: a state is free at x exactly where the pass has it there
 abbrev Placed : Forest → ℕ → ℕ → Type 0
 Placed f y s = (x : ℕ) → x < y → free f x y s ≡ (owner_below f y s == x)
 
@@ -105,6 +105,6 @@ pub any_same : (p q : ℕ → Bool) → ((x : ℕ) → p x ≡ q x) → (xs : Li
 any_same p q same [] = refl
 any_same p q same (x ∷ xs) = ap (λ b. b || list_any p xs) (same x) ∙ ap (λ b. q x || b) (any_same p q same xs)
 
--- and is covered where no state is left at it
+-- and is covered where the pass leaves no state at it
 pub covered_placed : (f : Forest) → IsForest f → (x : ℕ) → x < f.size → covered f x ≡ not (list_any (λ s. owner_below f f.size s == x) (range_with_len 0 f.bound))
 covered_placed f is x less = covered_left f x ∙ ap not (any_same (free f x f.size) (λ s. owner_below f f.size s == x) (λ s. placed f is f.size s (omega arith) x less) (range_with_len 0 f.bound))

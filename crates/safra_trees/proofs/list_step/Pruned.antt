@@ -1,4 +1,4 @@
--- What stands in the tree that a step gives, and that it is a tree again.
+-- The nodes of the tree that a step gives, and that it has the invariant again.
 use Rattle.std.proofs.Common.{◌≡◌, ◌∙◌, ◌-◌, ◌<◌, ◌≤◌, ◌==◌, ◌&&◌, ℕ, zero, suc, Bool, true, false, List, [], ◌∷◌, Contains, ap, arith, filter, inl, inr, length, nat_lt, refl, subst, sym}
 use Rattle.std.proofs.lemmas.Bool.{and_cases, and_from, and_parts, both_ways, cases_Bool, cases_lt, cond-true, cond-false, eq-eqb, eqb-true, le-ltb, lt-ltb, or_parts, true≢false}
 use Rattle.std.proofs.lemmas.List.{length-map}
@@ -94,7 +94,7 @@ not_all p (x ∷ xs) h = elim (and_cases (p x) (list_all p xs) h) [
   | inr rest ↦ (let found = not_all p xs rest in (found.0, later_there x xs found.0 found.1, found.2))
 ]
 
--- of a name that stays: what it keeps and no child of it that stays
+-- a surviving name keeps some state that no surviving child of it keeps
 own_of : (f : Forest) → IsForest f → (y s : ℕ) → y < f.size → survives f y ≡ true → retains f y s ≡ true → s < f.bound →
     ((z : ℕ) → 0 < z → z < f.size → survives f z ≡ true → f.parent z ≡ y → retains f z s ≡ true → ⊥) → Own (pruned f) (rank (survives f) y)
 own_of f is y s less on kept small none = record {

@@ -1,4 +1,4 @@
--- Names that stay, and how they are renumbered.
+-- Surviving names, and how they are renumbered.
 use Rattle.std.proofs.Common.{◌≡◌, ◌∙◌, ◌+◌, ◌<◌, ◌≤◌, ℕ, zero, suc, All, AllPairs, Bool, true, false, cond, List, []}
 use Rattle.std.proofs.Common.{◌∷◌, ◌++◌, Some, ap, arith, filter, inl, inr, length, map, refl, slice_get, slice_index_or, sym}
 use Rattle.std.proofs.lemmas.Bool.{cases_Bool, cases_eq, cases_lt, cond-true, cond-false}
@@ -40,7 +40,7 @@ rank_low p (suc y) = elim (cases_Bool (p y)) [
   | inr isnt ↦ omega (arith, rank_left p y isnt, rank_low p y)
 ]
 
--- where nothing went below, the name stays as it is
+-- where all lower names survive, a name keeps its number
 pub rank_all : (p : ℕ → Bool) (y : ℕ) → ((f : ℕ) → f < y → p f ≡ true) → rank p y ≡ y
 rank_all p zero all = refl
 rank_all p (suc y) all = rank_kept p y (all y (omega arith)) ∙ ap suc (rank_all p y (λ f less. all f (omega (arith, less))))
@@ -68,7 +68,7 @@ rank_rises p y (suc z) less is = elim (cases_eq y z) [
   | inr other ↦ omega (arith, rank_rises p y z (omega (arith, less, other)) is, rank_steps p z)
 ]
 
--- a name that stays stands at its new name
+-- the node of a surviving name is at the index of its new name
 pub rank_at : (p : ℕ → Bool) (y k : ℕ) → y < k → p y ≡ true → slice_get (names_where p k) (rank p y) ≡ Some y
 rank_at p y zero less is = absurd (omega (arith, less))
 rank_at p y (suc k) less is = elim (cases_eq y k) [
@@ -83,7 +83,7 @@ rank_at p y (suc k) less is = elim (cases_eq y k) [
       ∙ (slice_get-append_left (names_where p k) (cond (p k) (k ∷ []) []) (rank p y) (rank_rises p y k (omega (arith, less, other)) is) ∙ before))
 ]
 
--- each new name is that of a name that stays
+-- each new name is that of a surviving name
 pub record Named (p : ℕ → Bool) (k i : ℕ) : Type 0 where
   pub name : ℕ
   pub below : name < k
@@ -109,7 +109,7 @@ rank_same p y z is also same = elim (cases_lt y z) [
   ])
 ]
 
--- what stands in a list of what a function gives
+-- the items of a list that a function is mapped over
 pub index_map : {X Y : Type 0} (f : X → Y) (xs : List X) (i : ℕ) (x : X) (d : Y) → slice_get xs i ≡ Some x → slice_index_or (map f xs) i d ≡ f x
 index_map f [] i x d is = absurd (none-some x is)
 index_map f (y ∷ ys) zero x d is = ap f (same_Some y x is)

@@ -1,4 +1,5 @@
--- What is still free as one goes over the names in their order, and where each state is at the end.
+-- The horizontal merge as a pass over the names in their order: which states are still free, and which name has each state
+-- in the end.
 use Rattle.std.specs.Prelude.{◌&&◌, ◌||◌, ◌==◌, ℕ, zero, suc, Bool, cond, not}
 use Rattle.std.specs.List.{list_any, range_with_len}
 use Rattle.safra_trees.specs.Step.{Forest, is_child, retains}

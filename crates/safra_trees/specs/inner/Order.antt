@@ -1,5 +1,5 @@
--- The order in which nodes may claim a state: children before their parents, and what stands below an older sibling
--- before what stands below a younger one.
+-- The order in which nodes may claim a state: children before their parents, and the descendants of an older sibling before
+-- those of a younger one.
 use Rattle.std.specs.Prelude.{◌≡◌, ◌+◌, ◌<◌, ◌≤◌, ℕ}
 
 -- Names below m have distinct numbers; a name comes before its parent, and right before it among the lower names.
@@ -9,7 +9,7 @@ pub record IsOrder (m : ℕ) (parent order : ℕ → ℕ) : Type 0 where
   pub over : (y : ℕ) → 0 < y → y < m → order y < order (parent y)
   pub next : (y z : ℕ) → y < m → z < y → order z < order (parent y) → order z < order y
 
--- numbers from `first` on went up by one
+-- the new number is the old one, and one more where that was `first` or above
 pub record IsShifted (first : ℕ) (old new : ℕ → ℕ) (z : ℕ) : Type 0 where
   pub low : old z < first → new z ≡ old z
   pub high : first ≤ old z → new z ≡ old z + 1

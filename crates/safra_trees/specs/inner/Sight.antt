@@ -1,4 +1,4 @@
--- States by their places among those in sight.
+-- States renumbered by their index in a list, the sight: all states that a tree and moves mention, in rising order.
 use Rattle.std.specs.Prelude.{◌++◌, ℕ, List, [], ◌∷◌, Contains, flat_map, map}
 use Rattle.std.specs.List.Sorted.{IsStrictlyIncreasing}
 use Rattle.safra_trees.specs.Trees.{Node}
@@ -19,7 +19,7 @@ pub record IsSeen (sight : List ℕ) (move : Move) : Type 0 where
   pub from : Contains sight move.from
   pub to : Contains sight move.to
 
--- the move and the node with f of each state in its place
+-- the move and the node with f of each state in its stead
 abbrev pub move_by : (ℕ → ℕ) → Move → Move
 move_by f move = record { from = f move.from; to = f move.to; accepting = move.accepting }
 

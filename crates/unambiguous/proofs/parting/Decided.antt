@@ -1,4 +1,5 @@
--- The square begun where two runs may have parted accepts no lasso word exactly where the automaton is unambiguous.
+-- An automaton is unambiguous exactly where its square, started in the pairs in which two runs may have diverged, accepts
+-- no lasso word.
 use Rattle.std.proofs.Common.{◌≡◌, ◌≢◌, ◌∙◌, ◌↔◌, ◌==◌, ◌&&◌, IsTrue, suc, ℕ, ◌+◌, ◌*◌, ◌<◌, ◌≤◌, Bool, true, false, not, List, [], ◌∷◌, ◌++◌, Contains, Some, ap, arith, drop, inl, inr}
 use Rattle.std.proofs.Common.{length, length-append, length-take, map, refl, slice_get, subst, sym, take}
 use Rattle.std.proofs.Math.Nat.{le-mul_of_pos_right, mul_comm}
@@ -52,7 +53,7 @@ parts_one flags p q same parts = elim (or_cases (not (p == q)) (flag flags p) pa
   | inr flagged ↦ flagged
 ]
 
--- a track in two, and the edge between
+-- a track split at one of its edges
 record Cut (a : Automaton) (p q : ℕ) (xs : List NameSet) (y : NameSet) (ys : List NameSet) (ms : List ℕ) : Type 0 where
   middle : ℕ
   front : List ℕ
@@ -91,7 +92,7 @@ module _ (a : SymbolicAutomaton) (s : Automaton) (core : IsWellFormedSymbolic a)
   abbrev x : Automaton
   x = automaton_of a
 
-  -- the pairs are those to which tracks lead that read the same
+  -- the pairs are those to which two tracks over the same letters lead
 
   led_there : (p q : ℕ) → AreLed x p q → Contains parted.pairs (p, q)
   led_there p q led =
@@ -155,7 +156,7 @@ module _ (a : SymbolicAutomaton) (s : Automaton) (core : IsWellFormedSymbolic a)
       let here = slice_get-at a.links m l.0 within (sym l.1) in
       (l.0, here, same_Some (edge_of a.store l.0) e (sym (edge_at m l.0 here) ∙ at))
 
-  -- no run goes on behind them
+  -- in an unambiguous automaton no accepting run continues from the target of twins
   none_behind : IsUnambiguous x → (q : ℕ) (u v : List NameSet) → 0 < length v → Tail x q u v → (m n : ℕ) → AreTwins a parted.pairs m n q → ⊥
   none_behind alone q u v endless t m n twins =
       let l = twins.first in
@@ -192,7 +193,7 @@ module _ (a : SymbolicAutomaton) (s : Automaton) (core : IsWellFormedSymbolic a)
       let twins = parted.ends.sound p flagged in
       none_behind alone p u v r.endless t twins.0 twins.1 twins.2
 
-  -- two runs that part are gone along at once from there on
+  -- from where two runs diverge, the square accepts the rest of the word
 
   accepted : (p q : ℕ) (u v : List NameSet) → 0 < length v → AreLed x p q → Tail x p u v → Tail x q u v → parts parted.flags (p, q) ≡ true → Accepts s u v
   accepted p q u v endless led t r apart =
@@ -240,7 +241,7 @@ module _ (a : SymbolicAutomaton) (s : Automaton) (core : IsWellFormedSymbolic a)
   ]
 
   module _ (none : AcceptsNothing s) (u v : List NameSet) (endless : 0 < length v) where
-    -- what is left of a run behind a part of its way
+    -- the rest of a run after a prefix of it
     rest_of : (turns rounds p : ℕ) (ys : List NameSet) (back : List ℕ) (r : Run x u v turns rounds) → 0 < rounds → met (map (edge_marks x) r.cycle) x.formula ≡ true
         → IsEdgePath x p ys back r.state → Tail x p ys v
     rest_of turns rounds p ys back r positive meets track = record {
@@ -255,7 +256,7 @@ module _ (a : SymbolicAutomaton) (s : Automaton) (core : IsWellFormedSymbolic a)
       meets = meets;
     }
 
-    -- both have the same edge in the same place
+    -- both have the same edge at the same position
     one_place : (turns rounds n : ℕ) → 0 < rounds → n < turns → (r t : Run x u v turns rounds) → met (map (edge_marks x) r.cycle) x.formula ≡ true → met (map (edge_marks x) t.cycle) x.formula ≡ true
         → nth r.way r.cycle n ≡ nth t.way t.cycle n
     one_place turns rounds n positive soon r t meets meets_too =

@@ -1,4 +1,4 @@
--- Flags of the ends of twins, link by link.
+-- The loops that flag the targets of twins, link by link.
 use Rattle.std.proofs.Common.{◌≡◌, ◌≢◌, ◌∙◌, ◌↔◌, ◌⊎◌, ◌==◌, IsTrue, ◌+◌, ◌<◌, ℕ, Bool, true, false, not, ◌&&◌, List, Some, ap, arith, get_or, get_or-set_other, get_or-set_same, inl, inr, length}
 use Rattle.std.proofs.Common.{refl, set, slice_get, subst, sym}
 use Rattle.std.proofs.lemmas.Bool.{cases_eq, cases_lt, eq-eqb, false≢true}
@@ -16,7 +16,7 @@ use Rattle.label_guards.specs.declared.guard.Guard.{Guard}
 use Rattle.label_guards.specs.Store.{Keeps, Store}
 use Rattle.unambiguous.specs.Parted.{AreEnds, AreFlagged, AreTwins, HasTwin, do_meet, flag, is_doubled}
 
--- one flag more
+-- after one more flag is set
 
 flag_set : (flags : List Bool) (w : ℕ) → w < length flags → flag (set flags w true) w ≡ true
 flag_set flags w within = get_or-set_same flags w true false within
@@ -45,16 +45,16 @@ module _ (a : SymbolicAutomaton) (core : IsWellFormedSymbolic a) (pairs : List (
   first_is : (n q : ℕ) (twins : AreTwins a pairs m n q) → twins.first ≡ link
   first_is n q twins = same_Some twins.first link (sym twins.at ∙ at)
 
-  -- none leaves a state that isn't paired with itself
+  -- there are none where the pair of the source with itself isn't listed
   pub single : is_doubled pairs link.from ≡ false → (n q : ℕ) → AreTwins a pairs m n q → ⊥
   single none n q twins = false≢true (sym none ∙ (ap (λ (l : Link). is_doubled pairs l.from) (sym (first_is n q twins)) ∙ twins.doubled))
 
-  -- none stands before it
+  -- none has an index up to this one
   pub none_yet : (n q : ℕ) → n < m + 1 → AreTwins a pairs m n q → ⊥
   none_yet n q less twins = omega (arith, less, twins.before)
 
   module _ (n : ℕ) (other : Link) (there : slice_get a.links n ≡ Some other) (before : m < n) (so_far : (k q : ℕ) → k < n → AreTwins a pairs m k q → ⊥) where
-    -- links stand in the order of their states: none of this state stands behind one of another
+    -- links are in the order of their sources: after a link of another state comes none of this one
     pub none_behind_others : other.from ≢ link.from → (k q : ℕ) → AreTwins a pairs m k q → ⊥
     none_behind_others differ k q twins = elim (cases_lt k n) [
       | inl early ↦ so_far k q early twins
@@ -82,7 +82,7 @@ module _ (a : SymbolicAutomaton) (core : IsWellFormedSymbolic a) (pairs : List (
     found doubled from meet =
         (n, link.to, record { first = link; second = other; at = at; other_at = there; before = before; doubled = doubled; from = from; to = refl; meet = meet })
 
-  -- flags, one link further
+  -- the flags after one more link
 
   pub set_ends : (flags : List Bool) → AreEnds a pairs flags → HasTwin a pairs m → AreEnds a pairs (set flags link.to true)
   set_ends flags ends twin = record {
@@ -113,7 +113,7 @@ kept_flagged a pairs flags m so_far none k n q less twins = elim (cases_lt k m) 
   | inr late ↦ (let same : k ≡ m = omega (arith, less, late) in absurd (none (n, q, subst (λ j. AreTwins a pairs j n q) same twins)))
 ]
 
--- links meet in a store that has grown as they do in that of the automaton
+-- whether links meet is the same in a store that has grown
 pub same_meet : (a : SymbolicAutomaton) (core : IsWellFormedSymbolic a) (t : Store) (m n : ℕ) (l k : Link) (b : Bool) → slice_get a.links m ≡ Some l → slice_get a.links n ≡ Some k
     → Keeps a.store t → b ≡ do_meet t l k
     → do_meet a.store l k ≡ b
@@ -124,7 +124,7 @@ same_meet a core t m n l k b at there keeps is =
     && not (is_never (keeps.names i) (both_labels (keeps.names i) (keeps.labels l.guard one i) (keeps.labels k.guard two i))) in
     sym (is ∙ grown)
 
--- whether links meet, as their guards tell
+-- whether links meet, by the conjunction of their guards
 pub links_meet : (s t : Store) (l m : Link) (k : Guard) (b : Bool) → l.to ≡ m.to → Keeps s t → IsGuardOf t (λ on. truth_in s l.guard on && truth_in s m.guard on) k → (IsTrue b ↔ IsNeverMet t k)
     → not b ≡ do_meet s l m
 links_meet s t l m k b same keeps is says =

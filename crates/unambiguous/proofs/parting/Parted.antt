@@ -1,4 +1,4 @@
--- The places at which a square is begun.
+-- The loop that lists the start pairs of the square, and the automaton that is made with them.
 use Rattle.std.proofs.Common.{◌≡◌, ◌≢◌, ◌∙◌, ◌+◌, ◌<◌, ◌≤◌, ℕ, Bool, true, false, List, [], ◌∷◌, ◌++◌, All, Contains, Some, ap, arith, get_or, inl, inr, length, refl, slice_get, subst, sym}
 use Rattle.std.proofs.lemmas.Bool.{cases_lt, false≢true}
 use Rattle.std.proofs.lemmas.List.Elements.{All-contains, Contains-append_cases, Contains-append_left, Contains-get_or, Contains-push}
@@ -53,7 +53,7 @@ module _ (flags : List Bool) (pairs : List (ℕ × ℕ)) (n : ℕ) (pair : ℕ �
     ];
   }
 
--- begun there the parts make an automaton still
+-- with these starts the parts of the square still make a well-formed automaton
 pub begun_parts : (m : SymbolicAutomaton) (flags : List Bool) (pairs : List (ℕ × ℕ)) (starts : List ℕ) → m.states ≡ length pairs → AreSymbolicParts m → ArePartings flags pairs (length pairs) starts
     → AreSymbolicParts (record m { starts = starts })
 begun_parts m flags pairs starts states are begin = record {

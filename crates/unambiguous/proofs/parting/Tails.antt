@@ -1,4 +1,4 @@
--- What is left of an accepting run from a state on.
+-- The rest of an accepting run from one of its states on.
 use Rattle.std.proofs.Common.{◌≡◌, ◌∙◌, ℕ, suc, ◌+◌, ◌*◌, ◌<◌, ◌≤◌, true, List, [], ◌∷◌, ◌++◌, Contains, Some, ap, append_assoc, arith, inl, inr, length}
 use Rattle.std.proofs.Common.{length-append, map, refl, slice_get, subst, sym}
 use Rattle.std.proofs.Math.Nat.{le-mul_of_pos_right}
@@ -19,7 +19,7 @@ use Rattle.unambiguous.proofs.tracks.Starts.{Begins, begins}
 use Rattle.unambiguous.proofs.tracks.Tracks.{as_long, some_edges, track_join}
 use Rattle.unambiguous.specs.Runs.{AcceptingRun, IsEdgePath, IsUnambiguous, edge_marks}
 
--- behind a front the list goes on as without it
+-- after a prefix of its stem, a stem and cycle go on as without the prefix
 pub nth_behind : (front way cycle : List ℕ) (n : ℕ) → 0 < length cycle → nth (front ++ way) cycle (length front + n) ≡ nth way cycle n
 nth_behind front way cycle n some =
     let i = suc n in
@@ -29,7 +29,7 @@ nth_behind front way cycle n some =
     ∙ (slice_get-append_right front (way ++ copies i cycle) n (length front + n) refl ∙ sym (word_letter way cycle i n some (omega (arith, wide)))))
 
 module _ (a : Automaton) where
-  -- an accepting run begun in this state
+  -- an accepting run from this state
   pub record Tail (p : ℕ) (u v : List NameSet) : Type 0 where
     pub state : ℕ
     pub turns : ℕ
@@ -74,7 +74,7 @@ module _ (a : Automaton) where
         returns = path_wider a (begun p a) refl (λ e there. there) t.state t.state (copies t.rounds v) cycle.edges cycle.path;
       }) endless t.positive (ap (λ cs. met cs a.formula) cycle.marks ∙ t.meets)
 
-  -- one edge before it
+  -- with one edge before it
   abbrev pub tail_before : (p m : ℕ) (x : NameSet) (e : LabelledEdge) (u v : List NameSet) → slice_get a.edges m ≡ Some e → p ≡ e.from → truth (holds_at a.names x) e.label ≡ true
       → Tail e.to u v → Tail p (x ∷ u) v
   tail_before p m x e u v at from holds t = record {
@@ -121,7 +121,7 @@ module _ (a : Automaton) where
     pub some_cycle : (p : ℕ) (t : Tail p u v) → 0 < length t.cycle
     some_cycle p t = some_edges a u v endless t.state t.state t.rounds t.cycle t.positive t.returns
 
-    -- of an unambiguous automaton the rests begin alike
+    -- in an unambiguous automaton both rests begin with the same edge
     pub begin_alike : IsUnambiguous a → (p q : ℕ) → AreLed p q → (t : Tail p u v) (s : Tail q u v) → nth t.way t.cycle 0 ≡ nth s.way s.cycle 0
     begin_alike alone p q led t s =
         let one = run_before led.first p led.letters u v led.way led.is_first led.leads t in
@@ -133,7 +133,7 @@ module _ (a : Automaton) where
         ∙ (alone (led.letters ++ u) v endless one two (length led.way + 0)
         ∙ (ap (nth (led.other ++ s.way) s.cycle) n ∙ nth_behind led.other s.way s.cycle 0 (some_cycle q s)))
 
-    -- so they are begun in one state
+    -- so they begin in the same state
     pub from_one : (p q : ℕ) (t : Tail p u v) (s : Tail q u v) → nth t.way t.cycle 0 ≡ nth s.way s.cycle 0 → p ≡ q
     from_one p q t s same =
         let mine : Begins a p t.way t.cycle = begins a p t.state t.state (u ++ copies t.turns v) (copies t.rounds v) t.way t.cycle t.leads t.returns (some_cycle p t) in
@@ -142,6 +142,6 @@ module _ (a : Automaton) where
         let edge : mine.edge ≡ his.edge = same_Some mine.edge his.edge (sym mine.at ∙ (ap (slice_get a.edges) place ∙ his.at)) in
         mine.from ∙ (ap (λ (e : LabelledEdge). e.from) edge ∙ sym his.from)
 
--- what stands first in a list that isn't empty
+-- the first item of a list that isn't empty
 pub nth_first : (m : ℕ) (way cycle : List ℕ) → nth (m ∷ way) cycle 0 ≡ Some m
 nth_first m way cycle = stem_letter (m ∷ way) cycle 0 (omega arith)

@@ -1,4 +1,4 @@
--- Runs by places are the runs of acceptance.
+-- Accepting runs as lists of edge indices are those of the definition of acceptance.
 use Rattle.std.proofs.Common.{◌≡◌, ◌∙◌, ℕ, ◌<◌, List, [], ◌∷◌, ◌++◌, Option, Some, ap, length, map, refl, slice_get, sym}
 use Rattle.std.specs.Option.{option_map_or}
 use Rattle.aut_base.proofs.lists.Members.{placed_there, there_at}

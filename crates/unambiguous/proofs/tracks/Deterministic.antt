@@ -1,4 +1,4 @@
--- Deterministic automata are unambiguous, and one with an edge twice isn't.
+-- Deterministic automata are unambiguous, and one that lists an edge twice isn't.
 use Rattle.std.proofs.Common.{◌≡◌, ◌∙◌, ℕ, ◌+◌, ◌*◌, ◌<◌, true, List, [], ◌∷◌, ◌++◌, Contains, Some, ap, arith, get_or, inl, inr, length, refl, slice_get, subst, sym}
 use Rattle.std.proofs.Math.Nat.{mul_comm}
 use Rattle.std.proofs.lemmas.Bool.{cases_lt}
@@ -22,7 +22,7 @@ module _ (a : Automaton) (det : IsDeterministic a) where
       let place : here.0 ≡ there.0 = omega (arith, det.start, slice_get_within a.starts here.0 p here.1, slice_get_within a.starts there.0 q there.1) in
       same_Some p q (sym here.1 ∙ (ap (slice_get a.starts) place ∙ there.1))
 
-  -- and one place that can be gone from a state at a letter
+  -- and at most one edge index that can be taken from a state at a letter
   one_place : (m n : ℕ) (f g : LabelledEdge) (x : NameSet) → slice_get a.edges m ≡ Some f → slice_get a.edges n ≡ Some g → f.from ≡ g.from → truth (holds_at a.names x) f.label ≡ true
       → truth (holds_at a.names x) g.label ≡ true → m ≡ n
   one_place m n f g x at there from first second = elim (cases_lt m n) [

@@ -1,4 +1,5 @@
--- The list that is a stem and then a cycle again and again: closed later, or with a cycle of several rounds, it is the same.
+-- The infinite sequence of a stem and then a cycle again and again is the same where the stem takes in some rounds, or the
+-- cycle is several rounds.
 use Rattle.std.proofs.Common.{◌≡◌, ◌∙◌, ℕ, zero, suc, ◌*◌, ◌<◌, ◌≤◌, List, ◌++◌, append_assoc, length, slice_get, sym, ap, arith}
 use Rattle.std.proofs.Math.Nat.{le-mul_of_pos_right}
 use Rattle.std.proofs.lemmas.List.{append-nil, length-append}
@@ -15,7 +16,7 @@ module _ {A : Type 0} where
       ap (λ zs. xs ++ zs) (append_assoc ys xs (copies i (ys ++ xs)) ∙ ap (λ zs. ys ++ zs) (turned xs ys i))
       ∙ (sym (append_assoc xs ys (copies i (xs ++ ys) ++ xs)) ∙ sym (append_assoc (xs ++ ys) (copies i (xs ++ ys)) xs))
 
-  -- the cycle closed later
+  -- some rounds moved into the stem
   pub nth_turned : (u xs ys : List A) (n : ℕ) → 0 < length (xs ++ ys) → nth (u ++ xs) (ys ++ xs) n ≡ nth u (xs ++ ys) n
   nth_turned u xs ys n some =
       let i = suc n in

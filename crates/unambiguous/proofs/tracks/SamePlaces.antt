@@ -1,5 +1,5 @@
--- An accepting run of one automaton is one of another in which it begins at a start and goes along edges at the same places, if
--- the marks there meet the other's condition.
+-- An accepting run of one automaton, as edge indices, is one of another if its start is a start there, its indices make a
+-- path there, and the marks there meet the other's condition.
 use Rattle.std.proofs.Common.{◌≡◌, true, List, ◌++◌, Contains, map}
 use Rattle.aut_base.specs.Automaton.{Automaton}
 use Rattle.aut_base.specs.Formula.{met}

@@ -1,4 +1,4 @@
--- Tracks put together and taken apart, and runs that close later and go round more often.
+-- Tracks joined and split, and runs taken to a later closing state and to more rounds of the cycle.
 use Rattle.std.proofs.Common.{◌≡◌, ◌∙◌, ℕ, zero, suc, ◌+◌, ◌*◌, ◌<◌, List, [], ◌∷◌, ◌++◌, Contains, ap, append_assoc, arith, length, map, refl, subst, sym}
 use Rattle.std.proofs.lemmas.List.{map-append}
 use Rattle.std.proofs.lemmas.List.Folds.{list_all-append, list_any-append}
@@ -52,7 +52,7 @@ module _ (a : Automaton) where
   track_copies q zero xs ms track = refl
   track_copies q (suc k) xs ms track = track_join q q q xs (copies k xs) ms (copies k ms) track (track_copies q k xs ms track)
 
-  -- a run, whatever its cycle meets
+  -- a run, accepting or not
   pub record Run (u v : List NameSet) (turns rounds : ℕ) : Type 0 where
     pub start : ℕ
     pub state : ℕ

@@ -31,7 +31,7 @@ hidden_links-requires-clause-places c =
     subst (λ (ns : List (List ℕ)). ArePlacesOfNames a.names ns c.in_ok-to.to) (listed_are (goal.at.hidden_links-requires-clause-places c).In_ok-names)
     (subst (λ (ns : List (List ℕ)). ArePlacesOfNames ns c.in_ok-names.names c.in_ok-to.to) c.names-2.ensures c.in_ok-to.ensures)
 
--- the automaton as it is handed on
+-- the parts that the automaton is made from
 abbrev core : After-sets → SymbolicAutomaton
 core c = record {
   names = c.in_ok-names.names;

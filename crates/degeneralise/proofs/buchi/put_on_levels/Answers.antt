@@ -10,7 +10,7 @@ use Rattle.degeneralise.proofs.WatchLists.{room_of}
 use Rattle.degeneralise.proofs.buchi.put_on_levels.Goals.{After-states}
 use Rattle.degeneralise.proofs.buchi.put_on_levels.Goals as goal
 
--- the levels as they are handed on
+-- the parts that the automaton with counters is made from
 abbrev new : After-states → SymbolicAutomaton
 new c = record {
   names = c.in_ok-copy_names.field-0;

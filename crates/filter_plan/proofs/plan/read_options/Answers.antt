@@ -44,7 +44,7 @@ output_given rows p is = record {
 
 -- ---- no plan
 
--- what the row of this option gives a plan
+-- the field of a plan that the row of this option gives
 field : (rows : List Row) (p : Plan) → IsGiven rows p → (name : List ℕ) (place : Place) → place_in table name ≡ Some place → Gives place (values_of name rows) p
 field rows p is = given rows p is.options
 

@@ -37,7 +37,7 @@ all_sets-requires c =
     ap (λ (cs : List TermCopy). sum_by (λ copy. literal_places copy.infs) cs) c.in_ok-copies.ensures ∙ copies_sets 1 0 c.args.listed.now in
     omega (arith, sets, sets_within c.args.listed.now c.requires.few)
 
--- the copies as they are handed on
+-- the parts that the automaton with its copies is made from
 abbrev new : After-all_sets → SymbolicAutomaton
 new c = record {
   names = c.in_ok-copy_names.field-0;

@@ -17,7 +17,7 @@ use Rattle.parity_det.proofs.form.built.Goals as goal
 most_is : (c : After-width-most) → c.width-most.result ≡ width (map tree_of c.args.found.now.states.keys)
 most_is c = c.width-most.ensures ∙ ap (λ (ts : List SafraTree). width (map tree_of ts)) c.as_slice.ensures.keys
 
--- the automaton as it is handed on
+-- the parts that the automaton is made from
 abbrev core : (c : In_ok-formula) → SymbolicAutomaton
 core c = form_of c.args.b.now c.args.guards (length c.args.found.now.states.keys) (map (link_of (λ event. mark_of c.width-most.result event ∷ [])) c.args.found.now.edges.items)
     (c.width-most.result + c.width-most.result + 1) (formula_tree c.in_ok-formula.formula)

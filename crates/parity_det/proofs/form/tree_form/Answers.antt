@@ -74,7 +74,7 @@ built-requires-clause-sound c =
     MOST_TREES
     (map tree_of found.states.keys) found.edges.items) c.in_ok-found.ensures.frame c.in_ok-found.ensures.sound)
 
--- the fault of the exploration is met from the tree that the automaton leads to
+-- the exploration from the tree of the starts meets the limit that its fault names
 met : (c : In_err-found) (wanted : Fault) → c.in_err-found.field-0.0 ≡ wanted → (wanted ≡ limit.Memory → ⊥) → MeetsFirst (automaton_of c.args.b.now) wanted
 met c wanted is other =
     let b = c.args.b.now in

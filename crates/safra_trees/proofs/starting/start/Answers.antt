@@ -6,7 +6,7 @@ use Rattle.safra_trees.specs.Trees.{has}
 use Rattle.safra_trees.proofs.starting.start.Goals.{After-from_vec-3}
 use Rattle.safra_trees.proofs.starting.start.Goals as goal
 
--- the lists of the tree: the starts in rising order, and for each node that there is one parent, for each state one place
+-- the lists of the tree: the starts in rising order, a parent for each node, and a place for each state
 states_are : (c : After-from_vec-3) → (n : ℕ) → All (λ s. s < n) c.args.starts.now → c.in_order-states.result ≡ names_where (has c.args.starts.now) n
 states_are c n all =
     let is : c.from_vec.result ≡ c.args.starts.now = c.from_vec.ensures ∙ (c.in_ok-listed.ensures.items ∙ c.as_slice.ensures) in

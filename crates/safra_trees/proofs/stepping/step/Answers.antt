@@ -51,7 +51,7 @@ named_tree-requires-clause-rises c = subst IsStrictlyIncreasing (sym c.as_slice-
 pub named_tree-requires-clause-below : goal.named_tree-requires-clause-below
 named_tree-requires-clause-below c = subst (λ n. All (λ s. s < n) (root_states (tree_of c.in_ok-found.found.0))) c.count_of.ensures.is c.in_ok-found.ensures.states
 
--- what is stepped stands for the tree and the moves
+-- the renumbered tree and moves are those of the tree and the moves
 small : (c : In_ok-few) → IsSmall c.as_slice-seen.result.now c.args.moves.now (tree_of c.args.tree.now) c.in_ok-few.few (tree_of c.in_ok-small.small)
 small c =
     let tree = c.args.tree.now in

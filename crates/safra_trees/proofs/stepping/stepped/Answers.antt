@@ -12,14 +12,14 @@ use Rattle.safra_trees.specs.inner.Passes.{ArePasses, flag}
 use Rattle.safra_trees.proofs.stepping.stepped.Goals.{After-from_vec-3, In_ok-found, In_ok-names}
 use Rattle.safra_trees.proofs.stepping.stepped.Goals as goal
 
--- what the passes over the names and places gave
+-- the results of the passes over the names and states
 passes : (c : In_ok-found) → ArePasses (grown c.args.states c.args.moves.now (tree_of c.args.tree.now)) c.in_ok-found.found.claims.items c.in_ok-found.found.own.items
     c.in_ok-found.found.owners.items c.in_ok-found.found.stay.items
 passes c = subst (λ xs. ArePasses (grown c.args.states xs (tree_of c.args.tree.now)) c.in_ok-found.found.claims.items c.in_ok-found.found.own.items c.in_ok-found.found.owners.items
     c.in_ok-found.found.stay.items)
     c.as_slice.ensures c.in_ok-found.ensures
 
--- each list of names has room for those of the tree and for as many new ones
+-- each list over names has an item for each name of the tree and for each fresh one
 stay_size : (c : In_ok-found) → length c.in_ok-found.found.stay.items ≡ length c.args.tree.now.parents + length c.args.tree.now.parents
 stay_size c = stay_sized c.args.states c.args.moves.now c.args.tree.now.parents c.args.tree.now.states c.args.tree.now.places
     c.in_ok-found.found.claims.items c.in_ok-found.found.own.items c.in_ok-found.found.owners.items c.in_ok-found.found.stay.items (passes c)
@@ -29,7 +29,7 @@ ranks_size : (c : In_ok-names) → length c.in_ok-names.names.ranks.items ≡ le
 ranks_size c = ap length c.in_ok-names.ensures.ranks
     ∙ (length-map (range_with_len 0 (length c.deref.result.now)) (rank (flag c.deref.result.now)) ∙ length-range_with_len 0 (length c.deref.result.now))
 
--- the new tree is what is finished of them
+-- the new tree is made of the finished lists
 finish : (c : After-from_vec-3) → IsFinish c.args.states c.args.moves.now c.args.tree.now.parents c.args.tree.now.states c.args.tree.now.places
     c.in_ok-found.found.claims.items c.in_ok-found.found.own.items c.in_ok-found.found.owners.items c.in_ok-found.found.stay.items
     c.in_ok-names.names.count c.in_ok-names.names.ranks.items c.from_vec.result c.from_vec-2.result c.from_vec-3.result

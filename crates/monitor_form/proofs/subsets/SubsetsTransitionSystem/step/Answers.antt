@@ -13,7 +13,7 @@ use Rattle.monitor_form.proofs.subsets.SubsetsTransitionSystem.step.Goals as goa
 meets : (c : In_ok-goals) → truth_on (label_in c.args.self.now.guards c.args.class) (bits_of c.args.self.now.guards.names c.in-Some.number) ≡ true
 meets c = met_number c.args.self.now.guards _ c.args.class _ c.in-Some.number c.guards.ensures c.in-Some.is c.meeting.ensures
 
--- the goals are those of the set at that letter
+-- the states found are the successors of the set at that letter
 are : (c : In_ok-goals) → c.in_ok-goals.goals ≡ successor_set (automaton_of c.args.self.now.automaton.now) c.args.state.now (bits_of c.args.self.now.automaton.now.store.names c.in-Some.number)
 are c = c.in_ok-goals.ensures ∙ ap (λ qs. successor_set (automaton_of c.args.self.now.automaton.now) qs (bits_of c.args.self.now.automaton.now.store.names c.in-Some.number)) c.as_slice.ensures
 

@@ -5,7 +5,7 @@ use Rattle.plan_meaning.specs.inner.Stepping.{IsOfSizeBefore, IsOfSizeBehind, ch
 use Rattle.plan_meaning.specs.declared.changing.list.Change as coded
 use Rattle.plan_meaning.proofs.changing.list.make.Goals as goal
 
--- the size before a change and behind it, of the change that it is
+-- the sizes before and after a change, for equal changes
 before : (x y : coded.Change) → x ≡ y → (a : Automaton) → IsOfSizeBefore (change_of x) a → IsOfSizeBefore (change_of y) a
 before x y is a = subst (λ (z : coded.Change). IsOfSizeBefore (change_of z) a) is
 
