@@ -1,4 +1,4 @@
--- What stands in the texts decides which events happen, and how the run ends.
+-- The texts alone determine which events happen, and how the run ends.
 pub mod Answers
 pub mod Asking
 mod BadPlaces

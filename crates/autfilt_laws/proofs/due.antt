@@ -1,4 +1,4 @@
--- Under each plan something is due of an automaton that is kept, unless a limit is passed.
+-- Under each plan a text is due of each automaton that is kept, unless a limit is passed.
 mod Combined
 mod Determined
 mod FewStates

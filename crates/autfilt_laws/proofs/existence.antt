@@ -1,4 +1,4 @@
--- There is a run over all texts of few bytes.
+-- There is a run over all texts that together have fewer bytes than the limit.
 pub mod Shorter
 pub mod Examined
 pub mod Stopping

@@ -1,4 +1,4 @@
--- A plan that refutes has a line due of each automaton, unless a limit is passed.
+-- Under `--refute` a line is due of each automaton that is kept, unless a limit is passed.
 mod Searching
 mod Covering
 mod Shortening

@@ -1,4 +1,4 @@
--- Where a reader stops.
+-- For each fault of a text, the byte at which a reader stops.
 pub mod Ends
 pub mod Fronts
 pub mod Numbers

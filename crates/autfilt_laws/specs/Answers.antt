@@ -1,4 +1,4 @@
--- What the texts alone decide of the answer of the command.
+-- The laws of runs for the answer of the command: it is unique, complete, and exists.
 use Rattle.std.specs.Prelude.{◌≡◌, ◌≢◌, ◌⊎◌, ◌+◌, ◌<◌, ℕ, List, Some}
 use Rattle.aut_base.specs.declared.limit.Limit.TheVariants as limit
 use Rattle.aut_base.specs.declared.limit.TheConstants.{MOST_BYTES}
@@ -13,7 +13,7 @@ use Rattle.autfilt_run.specs.Plans.{plan_streams}
 use Rattle.filter_plan.specs.Words.{IsPlan, operands}
 use Rattle.filter_plan.specs.declared.plan.Plan.{Plan}
 
--- an answer, and what the inputs and the sinks told before and after it
+-- an answer, with the inputs and sinks before and after it
 pub record Answered : Type 0 where
   pub answer : Ended
   pub inputs : Seen
@@ -23,11 +23,11 @@ pub record Answered : Type 0 where
   pub notes : SinkSeen
   pub notes' : SinkSeen
 
--- the command came to the answer by a run of the words
+-- a run of the words came to this answer
 abbrev pub IsOf : List (List ℕ) → Answered → Type 0
 IsOf words r = EndsBy words r.answer r.inputs r.inputs' r.out r.out' r.notes r.notes'
 
--- The texts decided the answer: no call failed, and memory was not wanting.
+-- The texts alone determine the answer: no I/O fault, no want of memory.
 abbrev pub IsByTexts : Ended → Type 0
 IsByTexts ended.Output = Unit {0}
 IsByTexts ended.NoneOutput = Unit {0}
@@ -41,30 +41,30 @@ IsByTexts ended.ReadFault = ⊥
 IsByTexts ended.WriteFault = ⊥
 IsByTexts ended.Memory = ⊥
 
--- a run of a plan over these texts that these decided
+-- a run of a plan over these texts, with such an answer
 pub record IsDecided (words : List (List ℕ)) (texts : Texts) (r : Answered) : Type 0 where
   pub of : IsOf words r
   pub told : r.inputs.texts ≡ Some texts
   pub by_texts : IsByTexts r.answer
 
--- the same answer, the same notes, the same left in the inputs, and the same output where the plan decides its texts
+-- the same answer, the same notes, the same left in the inputs, and the same output where the plan determines its texts
 pub record AreAnsweredAlike (plan : Plan) (a b : Answered) : Type 0 where
   pub answer : a.answer ≡ b.answer
   pub noted : (text : List ℕ) × Notes text a.notes a.notes' × Notes text b.notes b.notes'
   pub left : a.inputs'.left ≡ b.inputs'.left
   pub written : DecidesTexts plan → (text : List ℕ) × Gains a.out.written a.out'.written text × Gains b.out.written b.out'.written text
 
--- Two runs of the same words over the same texts that these decided.
+-- Two such runs of the same words over the same texts are alike.
 abbrev pub OneAnswer : Type 0
 OneAnswer = (words : List (List ℕ)) (plan : Plan) (texts : Texts) (a b : Answered) → IsPlan words plan → a.inputs.left ≡ b.inputs.left
     → IsDecided words texts a → IsDecided words texts b → AreAnsweredAlike plan a b
 
--- A run over texts that can be read everywhere, and that these decided, where the limit of bytes isn't the answer.
+-- Such a run over readable texts read all, unless the limit of bytes ended it.
 abbrev pub AnswerCompletes : Type 0
 AnswerCompletes = (words : List (List ℕ)) (plan : Plan) (texts : Texts) (a : Answered) → IsPlan words plan → AreReadable plan texts a.inputs.left
     → a.answer ≢ ended.Limit limit.Bytes → IsDecided words texts a → (a.answer ≡ ended.Output) ⊎ ((a.answer ≡ ended.NoneOutput) ⊎ (a.answer ≡ ended.Aborts))
 
--- An answer of the words over these inputs and sinks, which the texts decided.
+-- A run of the words over these inputs and sinks, with an answer that the texts determine.
 pub record IsRun (words : List (List ℕ)) (texts : Texts) (inputs : Seen) (out notes : SinkSeen) (r : Answered) : Type 0 where
   pub over : r.inputs ≡ inputs
   pub into : r.out ≡ out
@@ -72,7 +72,8 @@ pub record IsRun (words : List (List ℕ)) (texts : Texts) (inputs : Seen) (out 
   pub decided : IsDecided words texts r
   pub because : EndsBecause r.answer r.inputs r.inputs' r.out r.out'
 
--- It isn't so that there is no such answer of words that are a plan, over texts that together have fewer bytes than may be taken.
+-- Words that are a plan have such an answer, over texts that together have fewer bytes than the limit. Stated as: it is
+-- impossible that there is none.
 abbrev pub SomeAnswer : Type 0
 SomeAnswer = (words : List (List ℕ)) (plan : Plan) (texts : Texts) (inputs : Seen) (out notes : SinkSeen) → IsPlan words plan → inputs.texts ≡ Some texts
     → size_of texts (operands plan) + size_of (texts_or plan.made texts) (plan_streams plan) < MOST_BYTES

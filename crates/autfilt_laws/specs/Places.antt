@@ -1,21 +1,21 @@
--- Where something stands next in a text that a reader refuses, there is a place at which a reader stops.
+-- For each fault of a text there is a byte that shows it, at which a reader can stop.
 use Rattle.std.specs.Prelude.{ℕ, ◌≤◌, List, [], length}
 use Rattle.hoa_parser.specs.Raw.{Written}
 use Rattle.hoa_parser.specs.Reads.{AskedForLast, AsksOn, EndsDeep, IsHopeless}
 use Rattle.hoa_parser.specs.Standing.{IsWhole, Stands, Bad, Cut, Deep}
 
--- A token cannot stand at offset k: some bytes of the text show it, and no reader has to take more than those.
+-- Where no token can be at offset k, some prefix of the text shows it, and a reader needs to take no more than that.
 abbrev pub BadIsShown : Type 0
 BadIsShown = (start k : ℕ) (text : List ℕ) → Stands (Bad k) start text → (left : List ℕ) × IsHopeless k start text left × AskedForLast start text left
 
--- A token opens one more than may be open: no reader has to take more than that, and the byte that closes it.
+-- Where a token nests too deep, a reader needs to take no more than the token and, if it needs one, the byte that ends it.
 abbrev pub DeepIsShown : Type 0
 DeepIsShown = (start : ℕ) (text : List ℕ) → Stands Deep start text → (left : List ℕ) × EndsDeep start text left × AskedForLast start text left
 
--- The text ends inside an automaton.
+-- Where the text ends inside an automaton, its last byte leaves a reader asking for more.
 abbrev pub CutIsShown : Type 0
 CutIsShown = (start : ℕ) (text : List ℕ) → Stands Cut start text → AsksOn start text []
 
--- Where an automaton stands whole, no reader asks for more that took its last byte.
+-- A reader that took all of a whole automaton doesn't ask for another byte.
 abbrev pub NoneAsksBehind : Type 0
 NoneAsksBehind = (start : ℕ) (text : List ℕ) (w : Written) (rest new : List ℕ) → IsWhole start text w rest → AsksOn start text new → length new ≤ length rest → ⊥

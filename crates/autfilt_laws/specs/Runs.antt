@@ -1,4 +1,4 @@
--- What the texts alone decide of a run.
+-- Laws of runs over given texts: they agree as far as they go, end alike, read all that is readable, and exist.
 use Rattle.std.specs.Prelude.{◌≡◌, ◌≢◌, ℕ, ◌+◌, ◌<◌, ◌⊎◌, true, false, List, [], ◌∷◌, ◌++◌, length, Option, Some, None}
 use Rattle.std.specs.List.{AllByRecursion, sum_by}
 use Rattle.aut_base.specs.Automaton.{Automaton}
@@ -32,7 +32,7 @@ use Rattle.hoa_reader.specs.Described.{described}
 use Rattle.hoa_reader.specs.Validity.{IsValid}
 use Rattle.plan_meaning.specs.Filters.{IsKept}
 
--- The texts decided the end: no call failed, and memory was not wanting.
+-- The texts alone determine the end: no I/O fault, no want of memory.
 abbrev pub IsByText : End → Type 0
 IsByText end.Output = Unit {0}
 IsByText end.NoneOutput = Unit {0}
@@ -49,7 +49,7 @@ IsByText (end.Fault fault.Memory) = ⊥
 
 -- ---- a run over texts
 
--- the texts over which streams are read: those of the inputs, or the generated one, of which nothing is open at first
+-- the texts that a plan's streams are read from: those of the inputs, or the generated one, where none is open at first
 abbrev pub texts_or : Option ℕ → Texts → Texts
 texts_or None texts = texts
 texts_or (Some n) texts = made_texts n
@@ -58,12 +58,12 @@ abbrev pub left_or : Option ℕ → Option (List ℕ) → Option (List ℕ)
 left_or None left = left
 left_or (Some n) left = Some []
 
--- where the streams of a plan begin, behind its operands
+-- the point before the streams of a plan, after its operands
 abbrev pub streams_from : Plan → Point → Point
 streams_from plan p = start_of (plan_streams plan) (left_or plan.made p.left) p.before
 
--- What there is to tell of a run: the operands that it took, what happened in its streams, how it ended, the name in hand then,
--- and what is left in the inputs, or in the generated text.
+-- What a run did: the operands that it took, the events in its streams, how it ended, the name of the file that was tried
+-- last, and what is left in the inputs, or in the generated text.
 pub record Outcome : Type 0 where
   pub taken : List OperandEvent
   pub events : List Event
@@ -71,7 +71,7 @@ pub record Outcome : Type 0 where
   pub name : List ℕ
   pub left : Option (List ℕ)
 
--- All operands were read, and what stands in the streams ended the run.
+-- All operands were read, and then the streams up to this end.
 pub record EndsInStreams (plan : Plan) (texts : Texts) (left : Option (List ℕ)) (o : Outcome) : Type 0 where
   pub point : Point
   pub read : AreAllRead plan texts left o.taken point
@@ -79,32 +79,32 @@ pub record EndsInStreams (plan : Plan) (texts : Texts) (left : Option (List ℕ)
   pub tallied : EndsByTally o.end (length (all_passed o.taken)) o.events
   pub runs : RunsTo plan (operands_read o.taken) (texts_or plan.made texts) (streams_from plan point) o.left o.events o.end o.name
 
--- what stands in the file of an operand ended it
+-- the run ended while the file of an operand was read
 pub record EndsBefore (plan : Plan) (texts : Texts) (left : Option (List ℕ)) (o : Outcome) : Type 0 where
   pub fault : RunFault
   pub ends : o.end ≡ end.Fault fault
   pub none : o.events ≡ []
   pub stops : EndsInOperands plan texts left o.left o.taken fault o.name
 
--- what the texts and the plan say of a run that they ended
+-- a run of the plan over these texts, with an end that they determine
 pub record IsEnded (plan : Plan) (texts : Texts) (left : Option (List ℕ)) (o : Outcome) : Type 0 where
   pub by_text : IsByText o.end
   pub ran : EndsBefore plan texts left o ⊎ EndsInStreams plan texts left o
 
 -- ---- uniqueness
 
--- What is printed of an automaton is decided: its canonical text is one, and so is a line of figures in which no word stands.
--- (Which word stands in such a line, and which refutes, is left open.)
+-- What is printed of an automaton is unique: its canonical text, or a line of figures without `%w`. (Which accepted word `%w`
+-- prints is left open, and so is which word refutes.)
 abbrev pub DecidesPrinted : Output → Type 0
 DecidesPrinted Hoa = Unit {0}
 DecidesPrinted (Stats pieces) = AllByRecursion (λ (piece : Piece). piece ≢ Word) pieces
 DecidesPrinted (Refute file) = ⊥
 
--- The plan decides what is written of an automaton, or nothing is.
+-- The plan determines the text of each automaton, or prints none.
 abbrev pub DecidesTexts : Plan → Type 0
 DecidesTexts plan = DecidesPrinted plan.output ⊎ (prints_each plan ≡ false)
 
--- the same event, with the same text where the plan decides it
+-- the same event, with the same text where the plan determines it
 abbrev pub IsLike : Plan → Event → Event → Type 0
 IsLike plan (Opened name) f = f ≡ Opened name
 IsLike plan (Kept w text) f = (other : List ℕ) × (f ≡ Kept w other) × (DecidesTexts plan → other ≡ text)
@@ -118,7 +118,7 @@ AreLike plan [] (f ∷ fs) = ⊥
 AreLike plan (e ∷ es) [] = ⊥
 AreLike plan (e ∷ es) (f ∷ fs) = IsLike plan e f × AreLike plan es fs
 
--- The name in hand is told where a fault ended the run. (No line is written about another end.)
+-- A name is in the line about the end: where a fault ended the run. (No line is written about other ends.)
 abbrev pub TellsName : End → Type 0
 TellsName (end.Fault f) = Unit {0}
 TellsName end.Output = ⊥
@@ -136,27 +136,27 @@ pub record AreSame (plan : Plan) (a b : Outcome) : Type 0 where
   pub line : line_of a.end a.name ≡ line_of b.end b.name
   pub left : a.left ≡ b.left
 
--- Two runs over the same texts of one plan that the texts ended: the same happened, and they end alike.
+-- Two runs of one plan over the same texts, with ends that these determine, have the same events and end alike.
 abbrev pub RunsEndAlike : Type 0
 RunsEndAlike =
     (plan : Plan) (texts : Texts) (left : Option (List ℕ)) (a b : Outcome) → IsEnded plan texts left a → IsEnded plan texts left b
     → AreSame plan a b
 
--- the one are the first of the others
+-- the events are a prefix of the others
 pub record AreFirst (plan : Plan) (events others : List Event) : Type 0 where
   pub front : List Event
   pub more : List Event
   pub parted : others ≡ front ++ more
   pub like : AreLike plan events front
 
--- Of the events of two runs in the streams, those of one are the first ones of the other: a run that a fault
--- ended has read and written the first of what any other run reads and writes.
+-- Of the events of two runs in the streams, one list is a prefix of the other: a run that a fault ended has read and written
+-- a prefix of what any other run reads and writes.
 abbrev pub RunsAgree : Type 0
 RunsAgree =
     (plan : Plan) (ops : List Automaton) (texts : Texts) (events others : List Event) (p q r : Point) → AreJudged plan ops events → AreJudged plan ops others
     → Happen plan texts events p q → Happen plan texts others p r → AreFirst plan events others ⊎ AreFirst plan others events
 
--- So it is with operands.
+-- The same of operands.
 abbrev pub OperandRunsAgree : Type 0
 OperandRunsAgree =
     (texts : Texts) (taken others : List OperandEvent) (p q r : Point) → AreRead texts taken p q → AreRead texts others p r
@@ -164,14 +164,14 @@ OperandRunsAgree =
 
 -- ---- completeness
 
--- an automaton that is valid and within the limits of reading, and passes none behind the reader; or one that is abandoned
+-- an automaton is next that is valid, within the limits of reading and passes none of `over`; or one that is abandoned
 abbrev pub IsReadable : (Limit → Written → Type 0) → ℕ → List ℕ → Type 0
 IsReadable over start rest =
     ((w : Written) × (next : List ℕ) × IsGood start rest w next × ((which : Limit) → over which w → ⊥)) ⊎ ((next : List ℕ) × Stands (Aborted next) start rest)
 
--- Such a thing stands at the rest of each file of an operand wherever a run of the plan over these texts comes. In each stream
--- it stands, or only blanks do, wherever the run comes by its verdicts and more automata are asked for; there the limits are
--- those of filters and changes, with the operands that were read.
+-- Texts that are readable for a plan: at every point of reading operands a readable automaton is next in the open file; and
+-- at every point of reading streams where more automata are asked for, a readable one is next, or only blanks are left. In
+-- streams the limits are those of filters and changes, with the operands that were read.
 pub record AreReadable (plan : Plan) (texts : Texts) (left : Option (List ℕ)) : Type 0 where
   pub operands : (taken : List OperandEvent) (p : Point) (s : Stream) → AreRead texts taken (start_of (operands plan) left 0) p → p.stream ≡ Some s
       → IsReadable (λ which w. ⊥) (bytes_before s.text s.rest) s.rest
@@ -180,8 +180,7 @@ pub record AreReadable (plan : Plan) (texts : Texts) (left : Option (List ℕ)) 
       → asks_on plan p.kept ≡ true → p.stream ≡ Some s
       → IsBlanks s.rest ⊎ IsReadable (λ which w. IsOverLimit which plan (operands_read taken) w) (bytes_before s.text s.rest) s.rest
 
--- A run over texts that can be read everywhere, which no fault of the outside, want of memory or limit of bytes ended, read all
--- that was asked for.
+-- A run over readable texts, without I/O fault, want of memory or limit of bytes, reads all that is asked for.
 abbrev pub Completes : Type 0
 Completes =
     (plan : Plan) (texts : Texts) (left : Option (List ℕ)) (o : Outcome) → AreReadable plan texts left → o.end ≢ end.Fault (fault.Limit limit.Bytes)
@@ -193,29 +192,30 @@ Completes =
 abbrev pub size_of : Texts → List (List ℕ) → ℕ
 size_of texts names = sum_by (λ name. length (text_of texts name)) names
 
--- an automaton that may be read
+-- an automaton that is valid and within the limits of reading
 abbrev pub IsGoodOperand : OperandEvent → Type 0
 IsGoodOperand (Taken w) = IsValid w × PassesNone w
 IsGoodOperand (FileOpened name) = Unit {0}
 IsGoodOperand (PassedOver name) = Unit {0}
 
--- There is an operand for each name of the plan, and each may be read.
+-- There is an operand for each name of the plan, and each is valid and within the limits.
 pub record AreGoodOperands (plan : Plan) (taken : List OperandEvent) : Type 0 where
   pub number : length (operands_read taken) ≡ length (operands plan)
   pub good : AllByRecursion IsGoodOperand taken
 
--- Of each automaton that may be read and is kept, with operands that were read, it isn't so that nothing is due under the plan and
--- no limit is passed.
+-- Of each automaton that is valid, within the limits of reading and kept, with such operands, a text is due or a limit is
+-- passed. Stated as: it is impossible that neither is so.
 abbrev pub IsAlwaysDue : Plan → Type 0
 IsAlwaysDue plan =
     (taken : List OperandEvent) → AreGoodOperands plan taken → (w : Written) → IsValid w → PassesNone w → IsKept plan (operands_read taken) (described w)
     → (((text : List ℕ) × IsDue plan (operands_read taken) w text) ⊎ ((which : Limit) × IsOverLimit which plan (operands_read taken) w) → ⊥) → ⊥
 
--- So it is under each plan.
+-- The same under each plan.
 abbrev pub EachIsDue : Type 0
 EachIsDue = (plan : Plan) → IsAlwaysDue plan
 
--- It isn't so that there is no run of a plan over texts that together have fewer bytes than may be taken.
+-- There is a run of each plan over texts that together have fewer bytes than the limit. Stated as: it is impossible that
+-- there is none.
 abbrev pub ARunExists : Type 0
 ARunExists =
     (plan : Plan) (texts : Texts) (left : Option (List ℕ)) → size_of texts (operands plan) + size_of (texts_or plan.made texts) (plan_streams plan) < MOST_BYTES

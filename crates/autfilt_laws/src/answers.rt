@@ -1,4 +1,4 @@
-//! What the texts decide of the answer of the command.
+//! The texts alone determine the answer of the command.
 
 ghost use Rattle.autfilt_laws.specs.Answers.{AnswerCompletes, OneAnswer, SomeAnswer};
 
@@ -6,8 +6,8 @@ use crate::runs::{a_run_exists, good_texts_are_read, runs_end_alike};
 use filter_plan::one_plan;
 use hoa_reader::one_standing;
 
-/// Two runs of the same words over the same texts that these decided have the same answer, note the same, and write the same
-/// where the plan decides what is printed.
+/// Two runs of the same words over the same texts, without I/O faults and want of memory, have the same answer and the same
+/// notes, and write the same where the plan determines what is printed.
 pub fn one_answer()
     ensures { OneAnswer }
 {
@@ -16,8 +16,8 @@ pub fn one_answer()
     one_plan();
 }
 
-/// A run over texts that can be read everywhere, and that these decided, read all that was asked for, or was ended by the limit
-/// of bytes.
+/// A run over readable texts, without I/O faults and want of memory, read all that was asked for, or ended at the limit of
+/// bytes.
 pub fn answer_completes()
     ensures { AnswerCompletes }
 {
@@ -25,7 +25,7 @@ pub fn answer_completes()
     one_plan();
 }
 
-/// Words that are a plan have an answer that the texts decide, over all texts of few bytes.
+/// Words that are a plan have such an answer, over all texts that together have fewer bytes than the limit.
 pub fn some_answer()
     ensures { SomeAnswer }
 {

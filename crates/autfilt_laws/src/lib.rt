@@ -1,6 +1,6 @@
-//! Laws over the definitions of several crates, which no code runs.
+//! Laws about runs of the command: uniqueness, completeness and existence. No code runs them.
 //!
-//! Each is the contract of a public function that does nothing else, and stands in `specs`.
+//! Each is the contract of a public function that computes nothing. `specs` has their statements.
 #![tactic(auto)]
 
 mod answers;

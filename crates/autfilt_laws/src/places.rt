@@ -1,15 +1,15 @@
-//! Where a reader stops.
+//! Each fault of a text is shown by some byte, so a reader can stop there.
 
 ghost use Rattle.autfilt_laws.specs.Places.{BadIsShown, CutIsShown, DeepIsShown, NoneAsksBehind};
 
-/// Where something stands next in a text that a reader refuses, there is a place at which a reader stops.
+/// Wherever a text can't be continued, nests too deep or ends early, there is a byte at which a reader may stop.
 pub fn refusals_are_shown()
     ensures bad { BadIsShown }
     ensures deep { DeepIsShown }
     ensures cut { CutIsShown }
 {}
 
-/// Where an automaton stands whole, no reader asks for more that took its last byte.
+/// After a whole automaton no reader asks for another byte of it.
 pub fn none_asks_behind()
     ensures { NoneAsksBehind }
 {}

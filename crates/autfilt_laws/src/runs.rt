@@ -8,7 +8,7 @@ use hoa_reader::{one_standing, some_standing};
 use hoa_writer::canonical_text_reads_back;
 use plan_meaning::{a_verdict_exists, changes_are_determined, verdict_is_one};
 
-/// The texts decide the end of a run, and what is read and written before.
+/// The texts alone determine how a run ends, and what it reads and writes before.
 pub fn runs_end_alike()
     ensures { RunsEndAlike }
 {
@@ -18,7 +18,7 @@ pub fn runs_end_alike()
     trimmed_is_determined();
 }
 
-/// What a run reads and writes, as far as it comes, is the first of what any other run of the plan over the texts does.
+/// Of two runs of a plan over the same texts, one reads and writes a prefix of what the other does.
 pub fn runs_agree()
     ensures streams { RunsAgree }
     ensures operands { OperandRunsAgree }
@@ -29,22 +29,22 @@ pub fn runs_agree()
     trimmed_is_determined();
 }
 
-/// A run over texts that hold nothing but automata that can be read, and on which no limit is passed, or that are abandoned,
-/// ends as one that read all, unless the outside, memory or the limit of bytes ended it.
+/// A run over readable texts, which hold only automata that are abandoned or can be read without passing a limit, reads all,
+/// unless an I/O fault, want of memory or the limit of bytes ends it.
 pub fn good_texts_are_read()
     ensures { Completes }
 {
     one_standing();
 }
 
-/// Under each plan something is due of an automaton that is kept, or a limit is passed.
+/// Under each plan some text is due of each automaton that is kept, or a limit is passed on it.
 pub fn each_is_due()
     ensures { EachIsDue }
 {
     canonical_text_reads_back();
 }
 
-/// There is a run of each plan over all texts of few bytes.
+/// There is a run of each plan, over all texts that together have fewer bytes than the limit.
 pub fn a_run_exists()
     ensures { ARunExists }
 {

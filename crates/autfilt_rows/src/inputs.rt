@@ -6,7 +6,7 @@ use aut_base::{Memory, Names, Numbers, Text, Words};
 use aut_io::MemInputs;
 use std::alloc::Global;
 
-/// As many names as texts.
+/// Names and texts, as many of each.
 #[derive(Drop)]
 pub(crate) struct Texts {
     names: Names,
@@ -22,7 +22,7 @@ impl Texts {
         }
     }
 
-    /// These and one more text. A name that is there keeps its text.
+    /// These and another text. A name that is there already keeps its text.
     pub(crate) fn with(self, name: Text, text: Text) -> Result<Texts, Memory> {
         let Texts {
             mut names,
@@ -36,7 +36,7 @@ impl Texts {
         Ok(Texts { names, texts })
     }
 
-    /// Inputs over these texts, of which the calls of these numbers fail.
+    /// Inputs over these texts, on which the calls of these numbers fail.
     pub(crate) fn inputs(self, failing: Numbers) -> MemInputs {
         let Texts { names, texts } = self;
         MemInputs::new(names, texts, failing)

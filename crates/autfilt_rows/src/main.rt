@@ -1,4 +1,4 @@
-//! Runs the command on each row of the files of rows, and prints which came out otherwise.
+//! Runs the command on each row of the files of rows, and prints the runs whose outcome is another than the stated one.
 #![tactic(auto)]
 
 mod inputs;

@@ -1,4 +1,4 @@
-//! What came out of a run.
+//! The outcome of a run.
 
 use aut_base::Words;
 use aut_io::{Inputs, MemInputs, MemSink};
@@ -15,7 +15,7 @@ pub(crate) struct Ran {
     pub(crate) left: u32,
 }
 
-/// How a run of the command ends. It stands apart so that no other function carries the command's contract.
+/// Runs the command. It is a function of its own so that no other one has to deal with the command's contract.
 pub(crate) fn ended(
     alloc: Global,
     words: &Words,
@@ -26,7 +26,7 @@ pub(crate) fn ended(
     autfilt(alloc, words, inputs, out, notes)
 }
 
-/// How many bytes are left of the open text. They are taken, past reads that fail.
+/// How many bytes are left of the open text. They are read for it, again after reads that fail.
 pub(crate) fn bytes_left(inputs: &mut MemInputs) -> u32 {
     let mut left = 0u32;
     for _ in 0..u32::MAX {
@@ -50,7 +50,7 @@ impl fmt::Display for Ran {
     }
 }
 
-/// Writes a text by lines with this mark, in the notation of rows.
+/// Writes the lines of a text, each with this mark before it, in the notation of rows.
 fn write_lines<W: fmt::Write>(f: &mut fmt::Formatter<W>, mark: &str, bytes: &[u8]) -> fmt::Result {
     let text = shown(bytes);
     for line in text.lines() {

@@ -1,4 +1,4 @@
-//! One row: what a run is over, and what is wanted of it.
+//! One row: the input of a run, and the outcome that is stated.
 
 use crate::inputs::Texts;
 use crate::ran::{Ran, bytes_left, ended};
@@ -7,7 +7,7 @@ use aut_io::{MemInputs, MemSink};
 use row_files::{Fault, Row, add, add_escaped, copied, kind_and_rest, number, numbers, range};
 use std::alloc::Global;
 
-/// How many bytes the sinks take, where a row doesn't say otherwise.
+/// The capacity of sinks in bytes, where a row doesn't say it.
 const CAPACITY: u32 = 100_000;
 
 /// A text under its name.
@@ -17,17 +17,17 @@ struct Named {
     text: Text,
 }
 
-/// What the number of a run tells, where a row is run more than once.
+/// What the number of a run means, where a row is run several times.
 #[derive(Clone, Copy)]
 enum Each {
     Nothing,
     /// Which call of the inputs fails.
     Call,
-    /// How many bytes of each text are there.
+    /// How long the prefixes of the texts are that are read.
     Front,
 }
 
-/// What a run is over and what is wanted of it, as far as the lines were read.
+/// The input of a run and the stated outcome, as far as the row's lines were read.
 #[derive(Drop)]
 pub(crate) struct CommandRow {
     name: String,
@@ -72,7 +72,7 @@ impl CommandRow {
         self.name.as_str().is_empty()
     }
 
-    /// Whether something must be noted, and no write of it is said to fail.
+    /// Whether a note is stated, and the row doesn't say which writes of notes fail.
     fn notes_freely(&self) -> bool {
         !self.note.as_bytes().is_empty() && self.failing_notes.is_empty()
     }
@@ -94,7 +94,7 @@ impl CommandRow {
         }
     }
 
-    /// Takes a line that is no line of a text.
+    /// Takes a line that adds to no text.
     fn add_other(&mut self, alloc: Global, kind: &str, rest: &str) -> Result<(), Fault> {
         match kind {
             "=" => self.begin(alloc, rest)?,
@@ -112,7 +112,7 @@ impl CommandRow {
         Ok(())
     }
 
-    /// The status that is wanted, and the words.
+    /// Takes the stated status, and the words.
     fn add_call(&mut self, alloc: Global, rest: &str) -> Result<(), Fault> {
         if self.status.is_some() {
             return Err(Fault::Misplaced);
@@ -147,7 +147,7 @@ impl CommandRow {
         Ok(())
     }
 
-    /// Takes the numbers of the first run and the last.
+    /// Takes the first and the last number of runs.
     fn repeat(&mut self, each: Each, rest: &str) -> Result<(), Fault> {
         let (first, last) = range(rest)?;
         self.each = each;
@@ -156,7 +156,7 @@ impl CommandRow {
         Ok(())
     }
 
-    /// What comes out of the run of this number. Where `is_mute`, the first write of the note fails.
+    /// The outcome of the run of this number. With `is_mute` the first write of a note fails.
     fn ran(&self, alloc: Global, run: u32, is_mute: bool) -> Result<Ran, Memory> {
         let mut out = MemSink::new(alloc, self.capacity, copied(alloc, &self.failing_writes)?)?;
         let mut notes = self.notes(alloc, is_mute)?;
@@ -170,7 +170,7 @@ impl CommandRow {
         })
     }
 
-    /// The sink of the note. Where `is_mute`, its first write fails.
+    /// The sink of notes. With `is_mute` its first write fails.
     fn notes(&self, alloc: Global, is_mute: bool) -> Result<MemSink, Memory> {
         let mut failing = copied(alloc, &self.failing_notes)?;
         if is_mute {
@@ -194,7 +194,7 @@ impl CommandRow {
         Ok(failing)
     }
 
-    /// The texts of the run of this number, as far as they are there.
+    /// The prefixes of the texts in the run of this number.
     fn fronts(&self, alloc: Global, run: u32) -> Result<Texts, Memory> {
         let most = match self.each {
             Each::Front => run as usize,
@@ -209,20 +209,21 @@ impl CommandRow {
         Ok(texts)
     }
 
-    /// Whether a run ends, writes and leaves what is wanted, whatever it notes.
+    /// Whether the outcome of a run is the stated one, apart from its notes.
     fn is_met_but_for_the_note(&self, ran: &Ran) -> bool {
         self.status == Some(ran.status)
             && ran.out.bytes() == self.output.as_bytes()
             && self.left.is_none_or(|left| left == ran.left)
     }
 
-    /// Whether a run notes what is wanted.
+    /// Whether a run notes what is stated.
     fn is_noted(&self, ran: &Ran) -> bool {
         ran.notes.bytes() == self.note.as_bytes()
     }
 
-    /// Adds the run of this number to what is printed, where it comes out otherwise. Where something must be noted and the row
-    /// doesn't say which writes of that fail, it is made once more with a failing first write of it, which changes nothing else.
+    /// Adds the run of this number to what is printed, where its outcome is another than the stated one. Where a note is
+    /// stated and the row doesn't say which writes of notes fail, the run is made again with a failing first write of a note,
+    /// which may change nothing else.
     fn add_different(&self, alloc: Global, shown: &mut String, run: u32) -> Result<(), Fault> {
         let ran = self.ran(alloc, run, false)?;
         if !self.is_met_but_for_the_note(&ran) || !self.is_noted(&ran) {
@@ -244,7 +245,7 @@ impl CommandRow {
         )
     }
 
-    /// Adds what came out of a run, in the notation of rows.
+    /// Adds the outcome of a run, in the notation of rows.
     fn show(
         &self,
         alloc: Global,

@@ -1,4 +1,4 @@
-//! Runs at types where no call can fail.
+//! Runs over inputs and sinks whose types have no faults.
 
 use aut_base::{Limit, Memory, Names, Text, Words};
 use aut_io::{SureInputs, SureSink};
@@ -6,7 +6,7 @@ use autfilt_run::{Ended, autfilt};
 use row_files::{Count, Fault};
 use std::alloc::Global;
 
-/// Texts, and how a run over each ends.
+/// Texts, and the end of a run over each.
 const ROWS: [(&[u8], Ended); 5] = [
     (b"", Ended::NoneOutput),
     (
@@ -24,7 +24,7 @@ const ROWS: [(&[u8], Ended); 5] = [
     ),
 ];
 
-/// How a run without words over this standard input ends.
+/// The end of a run without words over this standard input.
 fn ended(alloc: Global, text: &[u8]) -> Result<Ended, Memory> {
     let mut names = Names::new(alloc);
     let mut texts = Words::new(alloc);
@@ -37,7 +37,7 @@ fn ended(alloc: Global, text: &[u8]) -> Result<Ended, Memory> {
     Ok(autfilt(alloc, &words, &mut inputs, &mut out, &mut notes))
 }
 
-/// Counts these runs, and those that don't end as their text alone says.
+/// Counts these runs, and those that end otherwise.
 pub(crate) fn count_all(rt: &HostRuntime, count: &mut Count) -> Result<(), Fault> {
     for (text, wanted) in ROWS.iter() {
         let ended = ended(rt.alloc(), text)?;

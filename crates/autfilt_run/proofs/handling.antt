@@ -1,4 +1,4 @@
--- What becomes of an automaton that was read.
+-- Filtering and printing of an automaton that was read.
 pub mod Handling
 pub mod PassedLimits
 pub mod Taking

@@ -1,4 +1,4 @@
--- The run of the command: what was prepared, the steps that are taken, the end, and the lines about it.
+-- The run of the command: preparing, the steps, the end, and the lines about it.
 pub mod Arguments
 pub mod Carried
 pub mod Ending

@@ -1,4 +1,4 @@
--- Calls of a session, as what happens in a run.
+-- What calls of a session mean as events of a run.
 pub mod Alike
 pub mod Files
 pub mod Openings

@@ -1,4 +1,4 @@
--- What becomes of a call of the program.
+-- How a call of the program ends, by its arguments: a run and its exit status, or no run.
 use Rattle.std.specs.Prelude.{◌≡◌, ◌⊎◌, ℕ, List, []}
 use Rattle.std.specs.Process.{exit_status}
 use Rattle.std.specs.declared.process.ExitCode.{ExitCode}
@@ -22,11 +22,11 @@ pub record ExitsAfterRun (words : List (List ℕ)) (code : ExitCode) (seen seen'
   pub run : EndsBy words answer seen seen' out out' notes notes'
   pub causes : EndsBecause answer seen seen' out out'
   pub usage : answer ≡ ended.Usage → AreRefused words
-  -- Words that are no plan are refused, and nothing is opened, read or written then.
+  -- Words that are no plan are refused, and then nothing is opened, read or written.
   pub refused : AreRefused words → (answer ≡ ended.Usage) ⊎ (answer ≡ ended.Memory)
   pub untouched : AreRefused words → (seen' ≡ seen) × (out' ≡ out)
 
--- No run began: nothing was opened, read or written, but for the line that says why.
+-- No run began: nothing was opened, read or written but the line that says why.
 pub record RefusesRun (why : End) (code : ExitCode) (seen seen' : Seen) (out out' notes notes' : SinkSeen) : Type 0 where
   pub status : exit_status code ≡ status_of (ended_of why)
   pub inputs : seen' ≡ seen

@@ -25,7 +25,7 @@ use Rattle.plan_meaning.specs.Changes.{Language, MakesAll, changes_of, set_opera
 use Rattle.plan_meaning.specs.Operands.{refuted_operand}
 use Rattle.plan_meaning.specs.Promises.{HasFewSetsUnder, KeepsPromises}
 
--- The text's tokens spell one automaton and no other. It is valid, and accepts exactly the lasso words of which this is said.
+-- The text's tokens spell one automaton and no other. It is valid, and accepts exactly the lasso words that `says` holds of.
 pub record ReadsAs (text : List ℕ) (says : Language) : Type 0 where
   pub tokens : List Token
   pub lexes : HasTokens text 0 tokens
@@ -36,8 +36,8 @@ pub record ReadsAs (text : List ℕ) (says : Language) : Type 0 where
   pub valid : IsValid spelled
   pub accepts : SayTheSame (λ u v. Accepts (described spelled) u v) says
 
--- What the changes of the plan make of the automaton that was read. It keeps what its form promises, and accepts exactly
--- the lasso words of which the plan's set operation says so.
+-- What the changes of the plan make of the automaton that was read. It keeps what its form promises, and accepts exactly the
+-- lasso words that the plan's set operation describes.
 pub record IsResult (p : Plan) (ops : List Automaton) (w : Written) (made : Automaton) : Type 0 where
   pub makes : MakesAll (changes_of p ops) (canonical (described w)) made
   pub promises : KeepsPromises p made
@@ -48,8 +48,8 @@ pub record IsResult (p : Plan) (ops : List Automaton) (w : Written) (made : Auto
 abbrev pub name_due : Plan → Written → Option (List ℕ)
 name_due p w = if changes p then None else name_of w
 
--- The canonical text of what is made. It reads as an automaton that accepts what the plan's set operation says, of the
--- automaton as it was read.
+-- The canonical text of what is made. Read back, it is an automaton that accepts exactly the lasso words that the plan's set
+-- operation describes, of the automaton as it was read.
 pub record IsCanonicalResult (p : Plan) (ops : List Automaton) (w : Written) (text : List ℕ) : Type 0 where
   pub made : Automaton
   pub is_made : IsResult p ops w made
@@ -62,13 +62,13 @@ pub record IsFigures (p : Plan) (ops : List Automaton) (w : Written) (pieces : L
   pub is_made : IsResult p ops w made
   pub line : IsLine pieces made text
 
--- What is printed of an automaton that was read. A refutation is that of the automaton as it was read.
+-- What is printed of an automaton that was read. A refutation is one of the automaton as it was read, before any change.
 abbrev pub IsPrinted : Output → Plan → List Automaton → Written → List ℕ → Type 0
 IsPrinted Hoa p ops w text = IsCanonicalResult p ops w text
 IsPrinted (Stats pieces) p ops w text = IsFigures p ops w pieces text
 IsPrinted (Refute file) p ops w text = MatchOption (refuted_operand p ops) ⊥ (λ b. IsRefutationLine (described w) b text)
 
--- Nothing is due where only the number of automata is printed, or nothing at all.
+-- Under `-c` and `-q` nothing is due.
 abbrev pub IsDueWhere : Bool → Plan → List Automaton → Written → List ℕ → Type 0
 IsDueWhere true p ops w text = IsPrinted p.output p ops w text
 IsDueWhere false p ops w text = text ≡ []

@@ -1,4 +1,4 @@
--- How a run ends, in all detail and as the answer tells it.
+-- Which answer each end of a run is.
 use Rattle.autfilt_run.specs.declared.ended.End.{End}
 use Rattle.autfilt_run.specs.declared.ended.End.TheVariants as end
 use Rattle.autfilt_run.specs.declared.ended.Ended.{Ended}
@@ -6,7 +6,7 @@ use Rattle.autfilt_run.specs.declared.ended.Ended.TheVariants.{Output, NoneOutpu
 use Rattle.autfilt_run.specs.declared.fault.RunFault.{RunFault}
 use Rattle.autfilt_run.specs.declared.fault.RunFault.TheVariants as fault
 
--- the answer at a fault of the session
+-- the answer where a fault ended the session
 abbrev pub answer_of_fault : RunFault → Ended
 answer_of_fault fault.CannotOpen = CannotOpen
 answer_of_fault fault.ReadFault = ReadFault

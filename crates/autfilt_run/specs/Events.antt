@@ -1,4 +1,4 @@
--- What happens in a run over streams, one after the other, and where the run stands then.
+-- What happens in a run over streams, as a list of events, and the point that a run is at between two of them.
 use Rattle.std.specs.Prelude.{◌≡◌, ℕ, ◌+◌, ◌-◌, ◌<◌, ◌≤◌, Bool, true, false, List, [], ◌∷◌, length, flat_map, Option, Some, None}
 use Rattle.std.specs.List.{AllByRecursion}
 use Rattle.aut_base.specs.Automaton.{Automaton}
@@ -15,12 +15,12 @@ use Rattle.hoa_reader.specs.Described.{described}
 use Rattle.hoa_reader.specs.Validity.{IsValid}
 use Rattle.plan_meaning.specs.Filters.{IsDropped, IsKept}
 
--- how many bytes of the text stand before its rest
+-- how many bytes of the text come before its rest
 abbrev pub bytes_before : List ℕ → List ℕ → ℕ
 bytes_before text rest = length text - length rest
 
--- An automaton stands whole at the front of the rest, which begins `start` bytes after the start of the text. It is
--- valid and within the limits, and `next` follows it.
+-- A whole automaton is next in the rest, which begins `start` bytes after the start of the text. It is valid and within the
+-- limits, and `next` follows it.
 pub record IsGood (start : ℕ) (rest : List ℕ) (w : Written) (next : List ℕ) : Type 0 where
   pub whole : Stands (Whole w next) start rest
   pub valid : IsValid w
@@ -38,7 +38,7 @@ pub data Event : Type 0 where
   -- only blanks are left of the stream
   Ended : Event
 
--- ---- where a run stands
+-- ---- where a run is
 
 -- a stream that is open: its name, its text, and the rest that was not read yet
 pub record Stream : Type 0 where
@@ -50,14 +50,14 @@ pub record Point : Type 0 where
   -- the names of the streams that were not opened yet
   pub coming : List (List ℕ)
   pub stream : Option Stream
-  -- what is left in the inputs, where it is told
+  -- what is left in the inputs, where that is known
   pub left : Option (List ℕ)
   -- how many bytes were taken of the streams before
   pub before : ℕ
   -- how many automata were kept
   pub kept : ℕ
 
--- the point before files of these names are read, where this is left in the inputs and so many bytes were taken
+-- the point before files of these names are read, where the inputs have this left and so many bytes were taken before
 abbrev pub start_of : List (List ℕ) → Option (List ℕ) → ℕ → Point
 start_of names left before = record { coming = names; stream = None; left = left; before = before; kept = 0 }
 
@@ -85,7 +85,7 @@ opened_at p others name text = record {
 abbrev pub at_stream_end : Point → Stream → Point
 at_stream_end p s = record { coming = p.coming; stream = None; left = Some []; before = p.before + length s.text; kept = p.kept }
 
--- More of the open stream is read: `read` tells what stands at its rest, and no more bytes are taken than may be.
+-- The open stream is read further: `read` says what is next in its rest, and the limit of bytes isn't passed.
 pub record ReadsOn (p : Point) (read : ℕ → List ℕ → List ℕ → Type 0) (kept : ℕ) (q : Point) : Type 0 where
   pub stream : Stream
   pub is_open : p.stream ≡ Some stream
@@ -99,14 +99,14 @@ pub record PassesOver (name : List ℕ) (p q : Point) : Type 0 where
   pub reads : ReadsOn p (λ start rest next. Stands (Aborted next) start rest) p.kept q
   pub named : reads.stream.name ≡ name
 
--- no stream is open, and the next one is that of this name
+-- no stream is open, and the next one has this name
 pub record OpensStream (texts : Texts) (name : List ℕ) (p q : Point) : Type 0 where
   pub closed : p.stream ≡ None
   pub others : List (List ℕ)
   pub next : p.coming ≡ name ∷ others
   pub to : q ≡ opened_at p others name (text_of texts name)
 
--- Only blanks are left of the open stream. Its end is met by asking for one byte more.
+-- Only blanks are left of the open stream. Its end is seen by asking for another byte, which the limit allows.
 pub record EndsStream (p q : Point) : Type 0 where
   pub stream : Stream
   pub is_open : p.stream ≡ Some stream
@@ -114,7 +114,7 @@ pub record EndsStream (p q : Point) : Type 0 where
   pub few : p.before + length stream.text < MOST_BYTES
   pub to : q ≡ at_stream_end p stream
 
--- What an event asks of the point before it, and the point behind it.
+-- Whether an event leads from one point to another.
 abbrev pub EventLeads : Texts → Event → Point → Point → Type 0
 EventLeads texts (Opened name) p q = OpensStream texts name p q
 EventLeads texts (Kept w text) p q = ReadsOn p (λ start rest next. IsGood start rest w next) (p.kept + 1) q
@@ -122,14 +122,14 @@ EventLeads texts (Dropped w) p q = ReadsOn p (λ start rest next. IsGood start r
 EventLeads texts (Skipped name) p q = PassesOver name p q
 EventLeads texts Ended p q = EndsStream p q
 
--- The events happen one after the other. Before each of them more automata are asked for.
+-- The events happen one after the other. Before each of them fewer automata were kept than `-n` asks for.
 abbrev pub Happen : Plan → Texts → List Event → Point → Point → Type 0
 Happen plan texts [] p q = p ≡ q
 Happen plan texts (event ∷ events) p q = (asks_on plan p.kept ≡ true) × (m : Point) × EventLeads texts event p m × Happen plan texts events m q
 
--- ---- what the events are, whatever the texts
+-- ---- verdicts and texts, which don't depend on what is in the inputs
 
--- the verdict on the automaton that was read is this one, and the text that is written of it is the one that is due
+-- whether an automaton is kept is the verdict of the filters, and what is written of it is the text that is due
 abbrev pub IsEventJudged : Plan → List Automaton → Event → Type 0
 IsEventJudged plan ops (Kept w text) = IsKept plan ops (described w) × IsDue plan ops w text
 IsEventJudged plan ops (Dropped w) = IsDropped plan ops (described w)

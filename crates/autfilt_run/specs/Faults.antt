@@ -1,4 +1,4 @@
--- What ends a session but its work: which fault of a crate below becomes which.
+-- Which fault of a session each fault of the crates below becomes.
 use Rattle.aut_base.specs.declared.fault.OpenFail.{OpenFail}
 use Rattle.aut_base.specs.declared.fault.OpenFail.TheVariants as opening
 use Rattle.aut_base.specs.declared.limit.Limit.{Limit}
@@ -11,12 +11,12 @@ use Rattle.hoa_reader.specs.declared.elaborate.ElabFault as describing
 use Rattle.plan_meaning.specs.declared.fault.PlanFault.{PlanFault}
 use Rattle.plan_meaning.specs.declared.fault.PlanFault.TheVariants as asked
 
--- the fault where a text could not be opened
+-- the fault where a file can't be opened
 abbrev pub fault_of_opening : OpenFail → RunFault
 fault_of_opening opening.Failed = fault.CannotOpen
 fault_of_opening opening.Memory = fault.Memory
 
--- the fault at one of the reader
+-- the fault where the reader has one
 abbrev pub fault_of_reading : reading.ReadFault → RunFault
 fault_of_reading (reading.ReadFault.Syntax k) = fault.SyntaxAt k
 fault_of_reading reading.ReadFault.Truncated = fault.Truncated
@@ -25,19 +25,19 @@ fault_of_reading reading.ReadFault.Bytes = fault.Limit limit.Bytes
 fault_of_reading reading.ReadFault.Read = fault.ReadFault
 fault_of_reading reading.ReadFault.Memory = fault.Memory
 
--- the fault at an automaton that was read and describes nothing
+-- the fault where what was read is no valid automaton, or passes a limit
 abbrev pub fault_of_describing : describing.ElabFault → RunFault
 fault_of_describing (describing.ElabFault.Invalid rule) = fault.Invalid rule
 fault_of_describing (describing.ElabFault.Limit which) = fault.Limit which
 fault_of_describing describing.ElabFault.Memory = fault.Memory
 
--- the fault where there is no verdict on an automaton, or nothing is made of it
+-- the fault where a filter can't be decided, or nothing can be made of an automaton
 abbrev pub fault_of_plan : PlanFault → RunFault
 fault_of_plan (asked.Limit which) = fault.Limit which
 fault_of_plan asked.Memory = fault.Memory
 
--- When a limit is told: at a token that opens one more than may be open, where one byte more is asked for than may be taken, or of
--- an automaton that was read whole.
+-- When a limit is noticed: at the token that nests too deep, at a byte that is asked for beyond the limit of bytes, or at an
+-- automaton that was read whole.
 pub data Told : Type 0 where
   AtToken : Told
   AtByte : Told
@@ -59,8 +59,8 @@ when_told limit.Classes = OfWhole
 when_told limit.Subsets = OfWhole
 when_told limit.Pairs = OfWhole
 
--- Where a fault comes, as to the limit of bytes: it is told exactly where one byte more is asked for when that many were
--- taken, and the end of a text is met by asking, too.
+-- How a fault relates to the limit of bytes: that limit is reported exactly where another byte is asked for after that many
+-- were taken, and the end of a text is seen by asking, too.
 abbrev pub stop_of_limit : Told → Stop
 stop_of_limit AtToken = Elsewhere
 stop_of_limit AtByte = AtMost

@@ -1,4 +1,4 @@
--- The line of figures of an automaton.
+-- The line that `--stats` prints of an automaton.
 use Rattle.std.specs.Prelude.{◌≡◌, ◌⊎◌, ℕ, List, [], ◌∷◌, ◌++◌, length, codes}
 use Rattle.std.specs.Fmt.{decimal}
 use Rattle.aut_base.specs.Automaton.{Automaton}
@@ -9,7 +9,7 @@ use Rattle.filter_plan.specs.declared.format.Piece.TheVariants.{Byte, States, Ed
 use Rattle.lasso_emptiness.specs.Emptiness.{AcceptsNothing, IsAcceptedWord}
 use Rattle.word_syntax.specs.Printing.{word_text}
 
--- the automaton with its reached states alone, and a figure of it
+-- a figure of the automaton without its unreachable states, in decimal digits
 pub record ShowsReached (figure : Automaton → ℕ) (a : Automaton) (text : List ℕ) : Type 0 where
   pub trimmed : Automaton
   pub is_trimmed : IsTrimmed a trimmed
@@ -21,7 +21,7 @@ pub record ShowsWord (a : Automaton) (text : List ℕ) : Type 0 where
   pub accepted : IsAcceptedWord a word
   pub shown : text ≡ word_text a.names word.stem word.cycle
 
--- What stands for a piece of the format. A word is shown, and where none is accepted nothing is.
+-- The text that a piece of the format becomes. For a word it is an accepted one, or empty where none is.
 abbrev pub IsShownAs : Piece → Automaton → List ℕ → Type 0
 IsShownAs (Byte b) a text = text ≡ b ∷ []
 IsShownAs States a text = ShowsReached (λ t. t.states) a text
@@ -29,7 +29,7 @@ IsShownAs Edges a text = ShowsReached (λ t. length t.edges) a text
 IsShownAs Sets a text = text ≡ decimal a.sets
 IsShownAs Word a text = ShowsWord a text ⊎ (AcceptsNothing a × (text ≡ []))
 
--- what stands for a piece, and then for those behind it
+-- `P` of the first part of a text, and `Q` of the rest
 pub record IsFollowed (P Q : List ℕ → Type 0) (text : List ℕ) : Type 0 where
   pub front : List ℕ
   pub rest : List ℕ

@@ -1,4 +1,4 @@
--- The line that is written about how a run ended.
+-- The lines that are written to the notes: one about an end, one about each automaton that is skipped.
 use Rattle.std.specs.Prelude.{ℕ, List, [], ◌++◌, codes}
 use Rattle.std.specs.Fmt.{decimal}
 use Rattle.aut_base.specs.declared.limit.Limit.{Limit}
@@ -46,11 +46,11 @@ rule_word V12 = codes "V12"
 abbrev pub aborted_line : List ℕ → List ℕ
 aborted_line name = codes "autfilt: " ++ (name ++ codes ": automaton aborted\n")
 
--- the line about something that the text of this name has
+-- a line about the text of this name
 abbrev pub line_about : List ℕ → List ℕ → List ℕ
 line_about name words = codes "autfilt: " ++ (name ++ (codes ": " ++ (words ++ codes "\n")))
 
--- the line about a fault, where the text of this name is in hand
+-- the line about a fault; `name` is that of the file that was tried last
 abbrev pub line_of_fault : RunFault → List ℕ → List ℕ
 line_of_fault fault.CannotOpen name = codes "autfilt: cannot open " ++ (name ++ codes "\n")
 line_of_fault fault.ReadFault name = line_about name (codes "read error")

@@ -1,4 +1,4 @@
--- How many times texts are opened: once for each file or stream that a run comes to, and no more.
+-- How many times `open` is called: once for each file or stream that a run comes to, and no more.
 use Rattle.std.specs.Prelude.{◌≡◌, ℕ, ◌+◌, ◌<◌, ◌≤◌, Bool, false}
 use Rattle.aut_io.specs.Outside.{raised_by}
 use Rattle.aut_io.specs.Seen.{Seen}
@@ -9,8 +9,8 @@ use Rattle.autfilt_run.specs.declared.fault.RunFault.TheVariants as fault
 abbrev pub AreOpened : ℕ → Seen → Seen → Type 0
 AreOpened count seen seen' = seen'.openings ≡ raised_by count seen.openings
 
--- How many calls of `open` a fault may end: one where a text can't be opened, one or none where memory is wanting, and none of
--- those that come while a text is read or written.
+-- Whether a fault may come of so many calls of `open`: a refused opening is one; want of memory may come of one or of none;
+-- the faults that come while a text is read or written, of none.
 abbrev pub MayEnd : RunFault → ℕ → Type 0
 MayEnd fault.CannotOpen tried = tried ≡ 1
 MayEnd fault.Memory tried = tried ≤ 1
@@ -21,12 +21,12 @@ MayEnd (fault.Invalid rule) tried = tried ≡ 0
 MayEnd (fault.Limit which) tried = tried ≡ 0
 MayEnd fault.WriteFault tried = tried ≡ 0
 
--- A file is to be opened: none is open, and fewer were opened than there are names.
+-- The next file is to be opened: none is open, and fewer were opened than there are names.
 pub record WantsFile (is_open : Bool) (opened all : ℕ) : Type 0 where
   pub closed : is_open ≡ false
   pub more : opened < all
 
--- `open` was called so many times, and maybe once more where the fault came: only where a file was to be opened
+-- `open` was called so many times, and maybe once more, by the call that failed, where a file was to be opened
 pub record AreTried (f : RunFault) (wanting : Type 0) (count : ℕ) (seen seen' : Seen) : Type 0 where
   pub tried : ℕ
   pub may : MayEnd f tried

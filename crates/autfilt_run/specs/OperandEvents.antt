@@ -1,5 +1,5 @@
 -- How operands are read: each from the file of its name, the first automaton that isn't abandoned. The rest of the file is
--- left.
+-- left unread.
 use Rattle.std.specs.Prelude.{◌≡◌, ℕ, ◌+◌, ◌≤◌, Bool, true, false, List, [], ◌∷◌, flat_map, Some, None}
 use Rattle.aut_base.specs.Automaton.{Automaton}
 use Rattle.aut_base.specs.CanonicalLabel.{canonical}
@@ -14,14 +14,14 @@ pub data OperandEvent : Type 0 where
   FileOpened : List ℕ → OperandEvent
   -- this automaton is taken as the operand
   Taken : Written → OperandEvent
-  -- an automaton of the file of this name is abandoned, and passed over
+  -- an automaton of the file of this name is abandoned, and skipped
   PassedOver : List ℕ → OperandEvent
 
--- the point where the operand was taken of the open file
+-- the point after an operand was taken of the open file
 abbrev pub taken_at : Point → Stream → List ℕ → Point
 taken_at p s next = record { coming = p.coming; stream = None; left = Some next; before = p.before + bytes_before s.text next; kept = p.kept }
 
--- An automaton stands at the rest of the open file, and is taken. No more bytes are taken than may be.
+-- A whole automaton is next in the open file, and is taken. The limit of bytes isn't passed.
 pub record TakesOperand (w : Written) (p q : Point) : Type 0 where
   pub stream : Stream
   pub is_open : p.stream ≡ Some stream
@@ -30,7 +30,7 @@ pub record TakesOperand (w : Written) (p q : Point) : Type 0 where
   pub few : p.before + bytes_before stream.text next ≤ MOST_BYTES
   pub to : q ≡ taken_at p stream next
 
--- What an event asks of the point before it, and the point behind it.
+-- Whether an event leads from one point to another.
 abbrev pub Proceeds : Texts → OperandEvent → Point → Point → Type 0
 Proceeds texts (FileOpened name) p q = OpensStream texts name p q
 Proceeds texts (Taken w) p q = TakesOperand w p q
@@ -41,7 +41,7 @@ abbrev pub AreRead : Texts → List OperandEvent → Point → Point → Type 0
 AreRead texts [] p q = p ≡ q
 AreRead texts (event ∷ events) p q = (m : Point) × Proceeds texts event p m × AreRead texts events m q
 
--- the automata that were taken, with labels in canonical form
+-- the automaton that was taken, with labels in canonical form
 abbrev pub operand_of : OperandEvent → List Automaton
 operand_of (Taken w) = canonical (described w) ∷ []
 operand_of _ = []
@@ -68,7 +68,7 @@ abbrev pub file_open_after : Bool → List OperandEvent → Bool
 file_open_after before [] = before
 file_open_after before (event ∷ events) = file_open_after (file_open_by before event) events
 
--- the names of the files whose abandoned automata were passed over
+-- the names of the files in which abandoned automata were skipped
 abbrev pub passed_of : OperandEvent → List (List ℕ)
 passed_of (PassedOver name) = name ∷ []
 passed_of _ = []

@@ -1,4 +1,4 @@
--- The limits that a plan passes on an automaton that was read.
+-- The limits that filters, changes and refutations of a plan pass on an automaton that was read.
 use Rattle.std.specs.Prelude.{◌≡◌, ◌⊎◌, true, List, MatchOption}
 use Rattle.aut_base.specs.Automaton.{Automaton}
 use Rattle.aut_base.specs.CanonicalLabel.{canonical}
@@ -16,19 +16,19 @@ use Rattle.plan_meaning.specs.Filters.{IsKept, IsOverFilters}
 use Rattle.plan_meaning.specs.Limits.{PassesOfInclusion}
 use Rattle.plan_meaning.specs.Operands.{refuted_operand}
 
--- What is printed of an automaton passes a limit: a change of it, or the search for a refutation.
+-- Printing of an automaton passes a limit: a change of it does, or the search for a refutation.
 abbrev pub StopsPrinting : Output → Limit → Plan → List Automaton → Automaton → Type 0
 StopsPrinting Hoa which p ops a = StopsIn which (changes_of p ops) a
 StopsPrinting (Stats pieces) which p ops a = StopsIn which (changes_of p ops) a
 StopsPrinting (Refute file) which p ops a = MatchOption (refuted_operand p ops) ⊥ (λ b. PassesOfInclusion which a b)
 
--- That is so only of automata that are kept, and where something is printed of them.
+-- The same of an automaton that is kept, under a plan that prints each.
 pub record IsOverPrinting (which : Limit) (p : Plan) (ops : List Automaton) (w : Written) : Type 0 where
   pub kept : IsKept p ops (described w)
   pub prints : prints_each p ≡ true
   pub stops : StopsPrinting p.output which p ops (canonical (described w))
 
--- The automaton is valid and within the limits of reading, but a filter or what is printed passes a limit.
+-- The automaton is valid and within the limits of reading, but a filter passes a limit on it, or printing does.
 pub record IsOverLimit (which : Limit) (p : Plan) (ops : List Automaton) (w : Written) : Type 0 where
   pub valid : IsValid w
   pub within : PassesNone w

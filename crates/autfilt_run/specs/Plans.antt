@@ -1,4 +1,4 @@
--- What a plan says of a run: its streams, how many automata are asked for, and when something is printed.
+-- What a plan asks of a run: which files are read, how many automata, and what is printed when.
 use Rattle.std.specs.Prelude.{ℕ, ◌==◌, Bool, true, not, ◌&&◌, ◌||◌, if◌then◌else◌, List, [], ◌∷◌, ◌++◌, Option, Some, None, codes}
 use Rattle.std.specs.Fmt.{decimal}
 use Rattle.std.specs.List.{slice_index_or}
@@ -18,7 +18,7 @@ plan_streams p = streams_or p.streams p.made
 abbrev pub files_of : Plan → List (List ℕ)
 files_of p = operands p ++ plan_streams p
 
--- whether more automata are asked for, once so many were kept
+-- whether more automata are asked for, after so many were kept
 abbrev pub is_below : Option ℕ → ℕ → Bool
 is_below None kept = true
 is_below (Some most) kept = not (kept == most)
@@ -34,10 +34,10 @@ prints_each p = not (p.quiet || p.count)
 abbrev pub prints_count : Plan → Bool
 prints_count p = p.count && not p.quiet
 
--- the name of the file that was tried last, once so many were tried
+-- the name of the file that was tried last, after so many were
 abbrev pub tried_name : List (List ℕ) → ℕ → List ℕ
 tried_name files tried = slice_index_or ([] ∷ files) tried []
 
--- what is written at the end: this number and a line feed, where it is printed
+-- what is written at the end: under `-c` this number and a line feed, and else nothing
 abbrev pub count_text : Plan → ℕ → List ℕ
 count_text p kept = if prints_count p then decimal kept ++ codes "\n" else []

@@ -1,4 +1,4 @@
--- Where a session stands in a run.
+-- The point of a run that a session is at.
 use Rattle.std.specs.Prelude.{◌≡◌, ℕ, ◌+◌, Bool, true, false, List, length, map, drop, Option, Some, None}
 use Rattle.aut_base.specs.Automaton.{Automaton}
 use Rattle.aut_core.specs.SymbolicAutomata.{automaton_of}
@@ -15,19 +15,19 @@ operands_in s = map automaton_of s.operands
 abbrev pub name_in : Session → List ℕ
 name_in s = tried_name (files_of s.plan) s.tried
 
--- A session stands at the file: none is open, or this one is, and so many bytes of it were taken.
+-- The session has this stream open, or none; `before` bytes were taken of the files before it.
 abbrev pub IsInStream : Option Stream → Session → Option (List ℕ) → ℕ → Type 0
 IsInStream None s left before = (s.is_open ≡ false) × (s.lexer.taken ≡ before)
 IsInStream (Some t) s left before =
     (s.is_open ≡ true) × (left ≡ Some t.rest) × (name_in s ≡ t.name) × (s.lexer.since + length t.rest ≡ length t.text) × (s.lexer.taken ≡ before + s.lexer.since)
 
--- a session stands where a run stands, with this left in the inputs
+-- the session is at this point, and the inputs have this left
 pub record IsAt (s : Session) (left : Option (List ℕ)) (p : Point) : Type 0 where
   pub kept : p.kept ≡ s.kept
   pub left_is : p.left ≡ left
   pub stream : IsInStream p.stream s left p.before
 
--- the same in the streams
+-- the same while streams are read
 pub record StandsInStreams (s : Session) (left : Option (List ℕ)) (p : Point) : Type 0 where
   pub coming : p.coming ≡ drop s.opened (plan_streams s.plan)
   pub at : IsAt s left p
@@ -37,7 +37,7 @@ abbrev pub open_count : Bool → ℕ
 open_count true = 1
 open_count false = 0
 
--- the same in the files of operands: each that was opened gave one, but for the open one
+-- the same while operands are read: each file that was opened gave one operand, but for the open one
 pub record StandsIn (s : Session) (left : Option (List ℕ)) (p : Point) : Type 0 where
   pub coming : p.coming ≡ drop (length s.operands + open_count s.is_open) (operands s.plan)
   pub at : IsAt s left p

@@ -1,4 +1,4 @@
--- What preparing a session does: operands are read.
+-- What a call of `prepare` does: it reads operands.
 use Rattle.std.specs.Prelude.{◌≡◌, ◌≢◌, ℕ, ◌+◌, ◌<◌, true, List, [], ◌∷◌, ◌++◌, length, take, Some, Result, Ok, Err}
 use Rattle.aut_io.specs.Outside.{Rose, Texts}
 use Rattle.aut_io.specs.Seen.{Seen}
@@ -18,10 +18,10 @@ use Rattle.filter_plan.specs.Words.{operands}
 abbrev pub opened_names : Session → List (List ℕ)
 opened_names s = take (length s.operands + open_count s.is_open) (operands s.plan)
 
--- The events happened, each file was opened once, and no count of faults rose.
+-- The events happened, each file was opened once, and no I/O fault was counted.
 pub record HasReadOperands (events : List OperandEvent) (old new : Session) (seen seen' : Seen) : Type 0 where
   pub operands : operands_in new ≡ operands_in old ++ operands_read events
-  -- where the inputs tell their texts
+  -- where the inputs' texts are known
   pub happened : (texts : Texts) → seen.texts ≡ Some texts → (p : Point) → StandsIn old seen.left p → (q : Point) × AreRead texts events p q × StandsIn new seen'.left q
   pub named : opened_names new ≡ opened_names old ++ opened_files events
   pub still : new.is_open ≡ file_open_after old.is_open events
@@ -30,7 +30,7 @@ pub record HasReadOperands (events : List OperandEvent) (old new : Session) (see
   pub reads : seen'.read_faults ≡ seen.read_faults
   pub texts : seen'.texts ≡ seen.texts
 
--- All operands were read, and none was passed over in this call.
+-- All operands are read, and no abandoned automaton was skipped in this call.
 pub record HasAllOperands (old new : Session) (seen seen' : Seen) : Type 0 where
   pub events : List OperandEvent
   pub read : HasReadOperands events old new seen seen'
@@ -38,8 +38,8 @@ pub record HasAllOperands (old new : Session) (seen seen' : Seen) : Type 0 where
   pub all : length new.operands ≡ length (operands new.plan)
   pub skipped : new.skipped ≡ old.skipped
 
--- One that is abandoned was passed over, of the file whose name is in hand, and no other in this call. Nothing was read
--- behind it: that is the last event, and the file is still open.
+-- One abandoned automaton was skipped, and no other in this call; it is of the file whose name is in hand. It is the last
+-- event: nothing was read after it, and the file is still open.
 pub record HasSkipped (old new : Session) (seen seen' : Seen) : Type 0 where
   pub before : List OperandEvent
   pub read : HasReadOperands (before ++ PassedOver (name_in new) ∷ []) old new seen seen'
@@ -48,17 +48,17 @@ pub record HasSkipped (old new : Session) (seen seen' : Seen) : Type 0 where
   pub rises : old.lexer.taken < new.lexer.taken
   pub skipped : new.skipped ≡ old.skipped + 1
 
--- A fault of the outside comes only where its count rose, any other where none did.
+-- An I/O fault comes only where its count rose, any other only where none did.
 abbrev pub CountsAt : RunFault → Seen → Seen → Type 0
 CountsAt fault.CannotOpen seen seen' = Rose seen.open_faults seen'.open_faults × (seen'.read_faults ≡ seen.read_faults)
 CountsAt fault.ReadFault seen seen' = (seen'.open_faults ≡ seen.open_faults) × Rose seen.read_faults seen'.read_faults
 CountsAt _ seen seen' = (seen'.open_faults ≡ seen.open_faults) × (seen'.read_faults ≡ seen.read_faults)
 
--- A file is to be opened after these events.
+-- After these events the file of the next operand is to be opened.
 abbrev pub WantsOperand : Session → List OperandEvent → Type 0
 WantsOperand old events = WantsFile (file_open_after old.is_open events) (length (opened_names old ++ opened_files events)) (length (operands old.plan))
 
--- Events happened, and then the fault came.
+-- These events happened, and then the fault came.
 pub record FailsToPrepare (f : RunFault) (old new : Session) (seen seen' : Seen) : Type 0 where
   pub events : List OperandEvent
   pub happened : (texts : Texts) → seen.texts ≡ Some texts → (p : Point) → StandsIn old seen.left p

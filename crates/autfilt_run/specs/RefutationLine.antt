@@ -1,4 +1,4 @@
--- The line of a refutation.
+-- The line that `--refute` prints of an automaton.
 use Rattle.std.specs.Prelude.{◌≡◌, ◌⊎◌, ℕ, List, ◌++◌, codes}
 use Rattle.aut_base.specs.Automaton.{Automaton}
 use Rattle.aut_base.specs.CanonicalLabel.{canonical}
@@ -14,10 +14,10 @@ pub record ShowsRefutation (a b : Automaton) (text : List ℕ) : Type 0 where
   pub refutes : Refutes a b word
   pub shown : text ≡ word_text (joined_names a.names b.names) word.stem word.cycle ++ codes "\n"
 
--- such a word is shown, or that the second accepts all that the first accepts
+-- the text shows such a word; or it is `included`, and the second automaton accepts all that the first does
 abbrev pub SaysOfInclusion : Automaton → Automaton → List ℕ → Type 0
 SaysOfInclusion a b text = ShowsRefutation a b text ⊎ (IsIncluded a b × (text ≡ codes "included\n"))
 
--- The line is told within all limits; labels are in canonical form.
+-- The same, where the search passed no limit. Labels are in canonical form.
 abbrev pub IsRefutationLine : Automaton → Automaton → List ℕ → Type 0
 IsRefutationLine a b text = IsWithinInclusion (canonical a) b × SaysOfInclusion a b text

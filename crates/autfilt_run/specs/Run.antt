@@ -1,4 +1,4 @@
--- The run of autfilt: what was read of the streams and written, and what ended it.
+-- The run of the command: what was read, what was written, and what ended it.
 use Rattle.std.specs.Prelude.{◌≡◌, ◌≢◌, ℕ, ◌==◌, ◌⊎◌, if◌then◌else◌, List, [], ◌∷◌, ◌++◌, length, flat_map, take, true, false, Option, Some, None}
 use Rattle.aut_base.specs.Automaton.{Automaton}
 use Rattle.aut_io.specs.Outside.{Gains, Rose, Texts}
@@ -33,41 +33,41 @@ noted _ = []
 abbrev pub all_noted : List Event → List ℕ
 all_noted = flat_map noted
 
--- of the operands: a line about each that is passed over
+-- of the operands: a line about each automaton that is skipped in their files
 abbrev pub passed_noted : List (List ℕ) → List ℕ
 passed_noted = flat_map aborted_line
 
 -- ---- how a run ends
 
--- how a run ends that read all
+-- the end of a run that read all
 abbrev pub end_of : Tally → End
 end_of t = if t.skipped == 0 then (if t.kept == 0 then end.NoneOutput else end.Output) else end.Aborts
 
--- the tally of a run before whose streams so many automata were passed over
+-- how many were kept and skipped after the events; so many were skipped before, in the files of operands
 abbrev pub tally_after : ℕ → List Event → Tally
 tally_after passed events = tally_from (record { kept = 0; skipped = passed }) events
 
--- Where all was read, how many automata were kept and skipped tell the end.
+-- Where no fault ended the run, the end follows from how many automata were kept and skipped.
 abbrev pub EndsByTally : End → ℕ → List Event → Type 0
 EndsByTally (end.Fault f) passed events = Unit {0}
 EndsByTally end.Usage passed events = ⊥
 EndsByTally e passed events = e ≡ end_of (tally_after passed events)
 
--- Where the run stands at its end, and what is left in the inputs. `name` is the name in hand.
+-- The point at which the run ended, and what the inputs have left. `name` is that of the file that was tried last.
 abbrev pub EndsAt : Plan → List Automaton → End → List ℕ → Point → Option (List ℕ) → Type 0
 EndsAt plan ops (end.Fault f) name p left = StopsRun plan ops f name p left × IsCounted f p left
 EndsAt plan ops end.Usage name p left = ⊥
 EndsAt plan ops e name p left = IsDone plan p × (left ≡ p.left)
 
--- a stream of the plan is to be opened after these events
+-- after these events the next stream of the plan is to be opened
 abbrev pub WantsStreamFile : Plan → List Event → Type 0
 WantsStreamFile plan events = WantsFile (open_after false events) (length (opened_streams events)) (length (plan_streams plan))
 
--- the file of an operand of the plan is to be opened after these events
+-- after these events the file of the next operand is to be opened
 abbrev pub WantsOperandFile : Plan → List OperandEvent → Type 0
 WantsOperandFile plan taken = WantsFile (file_open_after false taken) (length (opened_files taken)) (length (operands plan))
 
--- Each of so many streams was opened once, and maybe one more was tried, where one was to be opened and that ended the run.
+-- Each of so many streams was opened once, and maybe one more was tried, the opening of which ended the run.
 abbrev pub EndsOpened : End → Type 0 → ℕ → Seen → Seen → Type 0
 EndsOpened (end.Fault f) wanting count seen seen' = AreTried f wanting count seen seen'
 EndsOpened end.Usage wanting count seen seen' = ⊥
@@ -75,23 +75,23 @@ EndsOpened end.Output wanting count seen seen' = AreOpened count seen seen'
 EndsOpened end.NoneOutput wanting count seen seen' = AreOpened count seen seen'
 EndsOpened end.Aborts wanting count seen seen' = AreOpened count seen seen'
 
--- The events happened over these texts, from this point on, and the run ended so.
+-- The events happened over these texts from this point on, and then the run ended this way.
 pub record RunsTo (plan : Plan) (ops : List Automaton) (texts : Texts) (first : Point) (left' : Option (List ℕ)) (events : List Event) (e : End) (name : List ℕ) : Type 0 where
   pub point : Point
   pub happen : Happen plan texts events first point
   pub ends : EndsAt plan ops e name point left'
-  -- where the number could not be written, all was read
+  -- a failed write of the number under `-c` comes after all was read
   pub numbered : e ≡ end.Fault run.WriteFault → prints_count plan ≡ true → IsDone plan point
 
 -- ---- the operands
 
--- The operands of the plan were read over these texts, and the run stands here.
+-- The operands of the plan were read over these texts, up to this point.
 pub record AreAllRead (plan : Plan) (texts : Texts) (left : Option (List ℕ)) (taken : List OperandEvent) (p : Point) : Type 0 where
   pub read : AreRead texts taken (start_of (operands plan) left 0) p
   pub none_coming : p.coming ≡ []
   pub none_open : p.stream ≡ None
 
--- A fault ended the run while operands were read.
+-- A fault ended the run while operands were read, after these events.
 pub record EndsInOperands (plan : Plan) (texts : Texts) (left left' : Option (List ℕ)) (taken : List OperandEvent) (f : RunFault) (name : List ℕ) : Type 0 where
   pub point : Point
   pub read : AreRead texts taken (start_of (operands plan) left 0) point
@@ -100,7 +100,7 @@ pub record EndsInOperands (plan : Plan) (texts : Texts) (left left' : Option (Li
 
 -- ---- what is written
 
--- Of each automaton a text is printed, and a part of that of the last one was written after those of the others.
+-- A write failed where each automaton is printed: all texts but the last were written, and a prefix of that.
 pub record BreaksOff (plan : Plan) (events : List Event) (written written' : Option (List ℕ)) : Type 0 where
   pub prints : prints_each plan ≡ true
   pub earlier : List Event
@@ -110,31 +110,31 @@ pub record BreaksOff (plan : Plan) (events : List Event) (written written' : Opt
   pub part : ℕ
   pub gains : Gains written written' (all_written earlier ++ take part text)
 
--- The number is printed, and a part of it was written.
+-- A write failed under `-c`: a prefix of the number was written.
 pub record BreaksOffCount (plan : Plan) (events : List Event) (written written' : Option (List ℕ)) : Type 0 where
   pub prints : prints_count plan ≡ true
   pub part : ℕ
   pub gains : Gains written written' (all_written events ++ take part (count_text plan (tally events).kept))
 
--- what was written of the events that happened where the run ended so
+-- what was written, by the events and the end
 abbrev pub PrintsRun : Plan → End → List Event → Option (List ℕ) → Option (List ℕ) → Type 0
 PrintsRun plan (end.Fault run.WriteFault) events written written' = BreaksOff plan events written written' ⊎ BreaksOffCount plan events written written'
 PrintsRun plan (end.Fault f) events written written' = Gains written written' (all_written events)
 PrintsRun plan e events written written' = Gains written written' (all_written events ++ count_text plan (tally events).kept)
 
--- The streams of a plan were read, whose operands these are, and the run ended so. So many bytes were taken before.
+-- The streams of a plan were read with these operands, and the run ended this way. `before` bytes were taken by then.
 pub record Runs (plan : Plan) (ops : List Automaton) (passed before : ℕ) (e : End) (events : List Event) (name : List ℕ) (seen seen' : Seen) (out out' : SinkSeen) : Type 0 where
   -- each automaton was kept or dropped by its verdict, and the text that is written is the one that is due
   pub judged : AreJudged plan ops events
-  -- the events happened, and what stands behind them ended the run, where the inputs tell their texts
+  -- the events happened, and what comes after them in the texts ended the run, where the inputs' texts are known
   pub happened : (texts : Texts) → seen.texts ≡ Some texts → RunsTo plan ops texts (start_of (plan_streams plan) seen.left before) seen'.left events e name
   pub tallied : EndsByTally e passed events
-  -- each stream that was opened is the next of the plan, and was opened once, also where the inputs don't tell their texts
+  -- the streams that were opened are the first of the plan, each opened once, also where the inputs' texts aren't known
   pub named : (k : ℕ) × (opened_streams events ≡ take k (plan_streams plan))
   pub openings : EndsOpened e (WantsStreamFile plan events) (length (opened_streams events)) seen seen'
   pub prints : PrintsRun plan e events out.written out'.written
 
--- The run over the generated stream, which leaves the inputs as they were.
+-- The run over the generated stream, which doesn't touch the inputs.
 pub record RunsOverMade (n : ℕ) (plan : Plan) (ops : List Automaton) (passed before : ℕ) (e : End) (events : List Event) (name : List ℕ) (seen seen' : Seen) (out out' : SinkSeen) : Type 0 where
   pub untouched : seen' ≡ seen
   pub made : Seen
@@ -145,9 +145,9 @@ abbrev pub RunsOverAs : Option ℕ → Plan → List Automaton → ℕ → ℕ �
 RunsOverAs None plan ops passed before e events name seen seen' out out' = Runs plan ops passed before e events name seen seen' out out'
 RunsOverAs (Some n) plan ops passed before e events name seen seen' out out' = RunsOverMade n plan ops passed before e events name seen seen' out out'
 
--- All operands of the plan were read, of the inputs as they were before, and then its streams.
+-- All operands of the plan were read, and then its streams.
 pub record GoesOverAll (plan : Plan) (e : End) (taken : List OperandEvent) (events : List Event) (name : List ℕ) (seen seen' : Seen) (out out' : SinkSeen) : Type 0 where
-  -- the inputs between
+  -- the inputs after the operands
   pub mid : Seen
   pub before : ℕ
   pub number : length (operands_read taken) ≡ length (operands plan)
@@ -176,7 +176,7 @@ RunsOver plan e taken events name seen seen' out out' =
 
 -- ---- the answer
 
--- How a run came to its answer: the end with all that the line about it tells, and the lines that are noted.
+-- How a run came to its answer: its end with all details, the events, and the lines that are noted.
 pub record EndsBy (words : List (List ℕ)) (result : Ended) (seen seen' : Seen) (out out' notes notes' : SinkSeen) : Type 0 where
   pub end : End
   pub shown : result ≡ ended_of end
@@ -187,14 +187,14 @@ pub record EndsBy (words : List (List ℕ)) (result : Ended) (seen seen' : Seen)
   pub runs : (plan : Plan) → IsPlan words plan → (p : Plan) × IsPlan words p × RunsOver p end taken events name seen seen' out out'
   pub noted : Notes (passed_noted (all_passed taken) ++ (all_noted events ++ line_of end name)) notes notes'
 
--- the counts of the outside stand
+-- no count of I/O faults rose
 pub record AreCalm (seen seen' : Seen) (out out' : SinkSeen) : Type 0 where
   pub opens : seen'.open_faults ≡ seen.open_faults
   pub reads : seen'.read_faults ≡ seen.read_faults
   pub writes : out'.faults ≡ out.faults
 
--- Why a run ended so. A fault of the outside is answered only where its count rose, and any other answer, want of memory
--- among them, only where no call failed.
+-- Why a run ended this way. An I/O fault is answered only where its count rose, and any other answer, want of memory among
+-- them, only where no call failed.
 abbrev pub EndsBecause : Ended → Seen → Seen → SinkSeen → SinkSeen → Type 0
 EndsBecause ended.CannotOpen seen seen' out out' = Rose seen.open_faults seen'.open_faults × (seen'.read_faults ≡ seen.read_faults) × (out'.faults ≡ out.faults)
 EndsBecause ended.ReadFault seen seen' out out' = (seen'.open_faults ≡ seen.open_faults) × Rose seen.read_faults seen'.read_faults × (out'.faults ≡ out.faults)

@@ -1,4 +1,4 @@
--- Where a run ends, and at what.
+-- How a run may end at a point, for each fault, and what the inputs have left then.
 use Rattle.std.specs.Prelude.{◌≡◌, ℕ, ◌+◌, ◌≤◌, ◌⊎◌, true, false, List, [], ◌∷◌, Option, Some, None}
 use Rattle.aut_base.specs.Automaton.{Automaton}
 use Rattle.aut_base.specs.declared.limit.Limit.{Limit}
@@ -19,34 +19,35 @@ use Rattle.hoa_parser.specs.Standing.{Stands, Whole, Deep, Bad, Cut}
 use Rattle.hoa_reader.specs.Elaborating.{PassesLimit}
 use Rattle.hoa_reader.specs.Validity.{IsFirstBroken}
 
--- ---- what stands at the rest of a text where a run ends. The rest begins `start` bytes after the start of the text, and
--- `left` is what is left in the inputs.
+-- ---- what has to be next in the rest of a text for a run to end there. The rest begins `start` bytes after the start of the
+-- text, and `left` is what the inputs have left after the end.
 
--- An automaton stands whole there, `fault` is what there is to say of it, and `next` follows it.
+-- A whole automaton is next, `fault` holds of it, and `next` follows it.
 pub record StandsWith (fault : Written → Type 0) (start : ℕ) (rest next : List ℕ) : Type 0 where
   pub automaton : Written
   pub whole : Stands (Whole automaton next) start rest
   pub holds : fault automaton
 
--- A token cannot stand at offset k, and nothing is taken past the byte that shows it.
+-- No token can be at offset k, and no byte is taken after the one that shows it.
 pub record IsSyntaxFault (k start : ℕ) (rest left : List ℕ) : Type 0 where
   pub bad : Stands (Bad k) start rest
   pub shown : IsHopeless k start rest left
   pub last : AskedForLast start rest left
 
--- The text ends inside an automaton, and one byte more was asked for.
+-- The text ends inside an automaton, which is seen by asking for another byte.
 pub record IsTruncated (start : ℕ) (rest left : List ℕ) : Type 0 where
   pub cut : Stands Cut start rest
   pub nothing : left ≡ []
   pub asks : AsksOn start rest left
 
--- A token opens one more than may be open, and what is left is what follows it.
+-- A token nests too deep, and what is left is what follows it.
 pub record IsTooDeep (start : ℕ) (rest left : List ℕ) : Type 0 where
   pub deep : Stands Deep start rest
   pub ends : EndsDeep start rest left
   pub last : AskedForLast start rest left
 
--- Memory was wanting for an automaton that may have begun, or for one that was read whole. A byte may be held.
+-- Memory was wanting while an automaton was read, maybe before its first token, or after it was read whole. The lexer may
+-- hold a byte.
 abbrev pub WantsMemory : ℕ → List ℕ → List ℕ → Type 0
 WantsMemory start rest left = ((held : Option ℕ) × MayHaveBegun start rest (unread held left)) ⊎ StandsWith (λ w. Unit {0}) start rest left
 
@@ -54,13 +55,13 @@ WantsMemory start rest left = ((held : Option ℕ) × MayHaveBegun start rest (u
 abbrev pub IsAllRead : List ℕ → List ℕ → Type 0
 IsAllRead rest left = IsBlanks rest × (left ≡ [])
 
--- A limit is passed that is told then. `passes` is what there is to say of an automaton that was read whole.
+-- A limit is passed, by when it is noticed. `passes` has to hold of an automaton that was read whole.
 abbrev pub StopsAtLimit : Told → (Written → Type 0) → ℕ → List ℕ → List ℕ → Type 0
 StopsAtLimit AtToken passes start rest left = IsTooDeep start rest left
 StopsAtLimit AtByte passes start rest left = AsksOn start rest left
 StopsAtLimit OfWhole passes start rest left = StandsWith passes start rest left
 
--- `over` tells which limits are passed behind the reader.
+-- `over` says which limits are passed after reading: by filters and changes.
 abbrev pub StopsReading : (Limit → Written → Type 0) → RunFault → ℕ → List ℕ → List ℕ → Type 0
 StopsReading over (fault.SyntaxAt k) start rest left = IsSyntaxFault k start rest left
 StopsReading over fault.Truncated start rest left = IsTruncated start rest left
@@ -71,27 +72,27 @@ StopsReading over fault.Memory start rest left = WantsMemory start rest left
 StopsReading over fault.CannotOpen start rest left = ⊥
 StopsReading over fault.WriteFault start rest left = ⊥
 
--- The same where an operand is read. There has to be one: only blanks are too little, too.
+-- The same while an operand is read: that only blanks are left is a truncated text, too.
 abbrev pub StopsAtOperand : RunFault → ℕ → List ℕ → List ℕ → Type 0
 StopsAtOperand fault.Truncated start rest left = IsTruncated start rest left ⊎ IsAllRead rest left
 StopsAtOperand f start rest left = StopsReading (λ which w. ⊥) f start rest left
 
--- ---- the ends of a run
+-- ---- the end of a run
 
--- The count that was asked for is reached, or there is nothing left to read.
+-- As many automata were kept as `-n` asks for, or there is nothing left to read.
 abbrev pub IsDone : Plan → Point → Type 0
 IsDone plan p = (asks_on plan p.kept ≡ false) ⊎ ((p.stream ≡ None) × (p.coming ≡ []))
 
 -- ---- `on` is the condition on which reading goes on
 
--- reading goes on, and the next file is that of this name
+-- reading goes on, and the next file has this name
 pub record WantsStream (on : Type 0) (p : Point) (name : List ℕ) : Type 0 where
   pub asks : on
   pub closed : p.stream ≡ None
   pub others : List (List ℕ)
   pub next : p.coming ≡ name ∷ others
 
--- Reading goes on, and something stands at the rest of the open file.
+-- Reading goes on, and `stops` holds of the rest of the open file.
 pub record AtStream (on : Type 0) (p : Point) (left : Option (List ℕ)) (stops : ℕ → List ℕ → List ℕ → Type 0) : Type 0 where
   pub asks : on
   pub stream : Stream
@@ -100,32 +101,32 @@ pub record AtStream (on : Type 0) (p : Point) (left : Option (List ℕ)) (stops 
   pub told : left ≡ Some now
   pub stands : stops (bytes_before stream.text stream.rest) stream.rest now
 
--- the open file is that of this name
+-- the same, where the open file has this name
 pub record AtNamed (on : Type 0) (p : Point) (name : List ℕ) (left : Option (List ℕ)) (stops : ℕ → List ℕ → List ℕ → Type 0) : Type 0 where
   pub at : AtStream on p left stops
   pub named : at.stream.name ≡ name
 
--- memory was wanting before anything was taken, at an opening, after which nothing is open, or in a file
+-- memory was wanting before anything was read, at an opening, after which nothing is open, or in the open file
 abbrev pub LacksMemory : Type 0 → Point → Option (List ℕ) → Type 0
 LacksMemory on p left = (left ≡ p.left) ⊎ (((name : List ℕ) × WantsStream on p name × (left ≡ Some [])) ⊎ AtStream on p left WantsMemory)
 
--- Where a run stands when this fault ends it, and what is left in the inputs then. `name` is the name in hand, where the line
--- about the fault has one. A write failed of what was read before.
+-- At which point a run may end with this fault, and what the inputs have left then. `name` is that of the file that was
+-- tried last, where the line about the fault has a name. A write fault concerns an automaton that was read before.
 abbrev pub StopsWhere : Type 0 → (RunFault → ℕ → List ℕ → List ℕ → Type 0) → RunFault → List ℕ → Point → Option (List ℕ) → Type 0
 StopsWhere on stops fault.CannotOpen name p left = WantsStream on p name × (left ≡ Some [])
 StopsWhere on stops fault.WriteFault name p left = left ≡ p.left
 StopsWhere on stops fault.Memory name p left = LacksMemory on p left
 StopsWhere on stops f name p left = AtNamed on p name left (stops f)
 
--- in the streams of a plan, whose operands these are: more automata are asked for
+-- in the streams of a plan with these operands, where fewer automata were kept than `-n` asks for
 abbrev pub StopsRun : Plan → List Automaton → RunFault → List ℕ → Point → Option (List ℕ) → Type 0
 StopsRun plan ops f name p left = StopsWhere (asks_on plan p.kept ≡ true) (StopsReading (λ which w. IsOverLimit which plan ops w)) f name p left
 
--- in the files of its operands
+-- in the files of operands
 abbrev pub StopsInOperands : RunFault → List ℕ → Point → Option (List ℕ) → Type 0
 StopsInOperands f name p left = StopsWhere (Unit {0}) StopsAtOperand f name p left
 
--- how many bytes were taken of the streams, where the run stands here and so much is left
+-- how many bytes of the open stream were taken, where so much is left
 abbrev pub taken_in : Option Stream → Option (List ℕ) → ℕ
 taken_in (Some s) (Some now) = bytes_before s.text now
 taken_in _ _ = 0
@@ -133,7 +134,7 @@ taken_in _ _ = 0
 abbrev pub taken_until : Point → Option (List ℕ) → ℕ
 taken_until p left = p.before + taken_in p.stream left
 
--- no more bytes were taken than may be; and all of them exactly where one more is asked for
+-- the limit of bytes isn't passed, and is reached exactly where the fault reports it
 pub record IsCounted (f : RunFault) (p : Point) (left : Option (List ℕ)) : Type 0 where
   pub few : taken_until p left ≤ MOST_BYTES
   pub within : IsWithinByteLimit (stop_of_run_fault f) (taken_until p left) MOST_BYTES

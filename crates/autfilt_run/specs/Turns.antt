@@ -23,7 +23,7 @@ use Rattle.hoa_parser.specs.Standing.{Aborted, Stands}
 use Rattle.hoa_reader.specs.Described.{described}
 use Rattle.plan_meaning.specs.Filters.{IsDropped, IsKept}
 
--- ---- what a session is seen as
+-- ---- what a session has done
 
 -- How far a session has come: how many streams were opened, whether the last one is open, how many automata were kept, and
 -- how many skipped.
@@ -39,34 +39,34 @@ progress s = record { opened = s.opened; is_open = s.is_open; kept = s.kept; ski
 abbrev pub asks : Session → Bool
 asks s = asks_on s.plan s.kept
 
--- more automata are asked for, and a stream is open
+-- fewer automata were kept than are asked for, and a stream is open
 pub record IsReading (s : Session) : Type 0 where
   pub asks : asks s ≡ true
   pub is_open : s.is_open ≡ true
 
--- more automata are asked for, none is open, and the next stream is that of this name
+-- fewer were kept than are asked for, no stream is open, and the next one has this name
 pub record IsOpening (s : Session) (name : List ℕ) : Type 0 where
   pub asks : asks s ≡ true
   pub is_closed : s.is_open ≡ false
   pub named : slice_get (plan_streams s.plan) s.opened ≡ Some name
 
--- The count that was asked for is reached, or there is nothing left to read.
+-- As many automata were kept as are asked for, or there is nothing left to read.
 abbrev pub IsDoneWith : Session → Type 0
 IsDoneWith s = (asks s ≡ false) ⊎ ((s.is_open ≡ false) × (s.opened ≡ length (plan_streams s.plan)))
 
--- ---- the outside of a step
+-- ---- inputs and sinks
 
--- nothing outside is touched
+-- no input or sink is touched
 pub record IsStill (seen seen' : Seen) (out out' : SinkSeen) : Type 0 where
   pub inputs : seen' ≡ seen
   pub output : out' ≡ out
 
--- A stream is opened, or isn't. Memory may be wanting before it is tried.
+-- A stream is opened, or its opening fails. Memory may be wanting before it is tried.
 abbrev pub OpensNext : Seen → List ℕ → Result (Unit {0}) OpenFail → Seen → Type 0
 OpensNext seen name (Err opening.Memory) seen' = (seen' ≡ seen) ⊎ Opens seen name (Err opening.Memory) seen'
 OpensNext seen name r seen' = Opens seen name r seen'
 
--- What is read, with what stands in the inputs before and after. Nothing is written.
+-- The open stream is read: `stands` holds of what the inputs had left before and have left after. Nothing is written.
 pub record ReadsInputs (stop : Stop) (stands : List ℕ → List ℕ → Type 0) (old new : Session) (seen seen' : Seen) (out out' : SinkSeen) : Type 0 where
   pub reading : IsReading old
   pub in_hand : new.tried ≡ old.tried
@@ -87,7 +87,7 @@ pub record KeepsAutomaton (old new : Session) (seen seen' : Seen) (out out' : Si
   pub gains : Gains out.written out'.written text
   pub writes : out'.faults ≡ out.faults
 
--- An automaton was read and is to be kept, but its text, which is printed, could not be written whole.
+-- An automaton was read and is to be kept, but its text could not be written whole.
 pub record KeepsInPart (old new : Session) (seen seen' : Seen) (out out' : SinkSeen) : Type 0 where
   pub prints : prints_each old.plan ≡ true
   pub reading : IsReading old
@@ -107,13 +107,13 @@ pub record Drops (old new : Session) (seen seen' : Seen) (out out' : SinkSeen) :
   pub dropped : IsDropped old.plan (operands_in old) (described automaton)
   pub reads : ReadsInputs Elsewhere (λ rest next. IsGood old.lexer.since rest automaton next) old new seen seen' out out'
 
--- A new text begins for the lexer.
+-- The lexer begins a new text.
 pub record BeginsText (old new : Session) : Type 0 where
   pub most : new.lexer.most ≡ old.lexer.most
   pub taken : new.lexer.taken ≡ old.lexer.taken
   pub since : new.lexer.since ≡ 0
 
--- The next stream is tried. Nothing is written.
+-- An opening of the next stream is tried. Nothing is written.
 pub record TriesStream (r : Result (Unit {0}) OpenFail) (old new : Session) (seen seen' : Seen) (out out' : SinkSeen) : Type 0 where
   pub name : List ℕ
   pub opening : IsOpening old name
@@ -124,7 +124,7 @@ pub record TriesStream (r : Result (Unit {0}) OpenFail) (old new : Session) (see
 
 -- ---- the answers
 
--- what a turn says
+-- what each turn means
 abbrev pub Turns : Turn → Session → Session → Seen → Seen → SinkSeen → SinkSeen → Type 0
 Turns turn.Done old new seen seen' out out' = IsDoneWith old × IsStill seen seen' out out' × (new.tried ≡ old.tried)
 Turns turn.Opened old new seen seen' out out' = TriesStream (Ok tt) old new seen seen' out out'
@@ -133,7 +133,7 @@ Turns turn.Kept old new seen seen' out out' = KeepsAutomaton old new seen seen' 
 Turns turn.Dropped old new seen seen' out out' = Drops old new seen seen' out out'
 Turns turn.Skipped old new seen seen' out out' = ReadsInputs Elsewhere (λ rest next. Stands (Aborted next) old.lexer.since rest) old new seen seen' out out'
 
--- what a fault says
+-- what each fault means
 abbrev pub FailsAfter : RunFault → Session → Session → Seen → Seen → SinkSeen → SinkSeen → Type 0
 FailsAfter fault.CannotOpen old new seen seen' out out' = TriesStream (Err opening.Failed) old new seen seen' out out'
 FailsAfter fault.WriteFault old new seen seen' out out' = KeepsInPart old new seen seen' out out'
@@ -145,14 +145,14 @@ abbrev pub StepsSession : Result Turn RunFault → Session → Session → Seen 
 StepsSession (Ok t) = Turns t
 StepsSession (Err f) = FailsAfter f
 
--- where an automaton is read, bytes are taken, also where the inputs don't tell what is left
+-- a step that reads an automaton takes bytes, also where the inputs' texts aren't known
 abbrev pub Rises : Turn → ℕ → ℕ → Type 0
 Rises turn.Kept before progress_after = before < progress_after
 Rises turn.Dropped before progress_after = before < progress_after
 Rises turn.Skipped before progress_after = before < progress_after
 Rises _ before progress_after = Unit {0}
 
--- how far the session has come after a turn
+-- what the session has done after a turn
 abbrev pub progress_after : Turn → Progress → Progress
 progress_after turn.Done p = p
 progress_after turn.Opened p = record p { opened = p.opened + 1; is_open = true }
@@ -161,7 +161,7 @@ progress_after turn.Kept p = record p { kept = p.kept + 1 }
 progress_after turn.Dropped p = p
 progress_after turn.Skipped p = record p { skipped = p.skipped + 1 }
 
--- One step, whatever it answers: what happened, and what is so of the session behind it. A fault changes no count.
+-- One step, whatever it answers: what happened, and the session after it. A fault changes none of its counts.
 pub record IsStep (r : Result Turn RunFault) (old new : Session) (seen seen' : Seen) (out out' : SinkSeen) : Type 0 where
   pub steps : StepsSession r old new seen seen' out out'
   pub plan : new.plan ≡ old.plan
@@ -173,7 +173,7 @@ pub record IsStep (r : Result Turn RunFault) (old new : Session) (seen seen' : S
   pub spent : OnOk r (new.lexer.spent ≡ false)
   pub held : OnOk r (new.lexer.held ≡ None)
 
--- The text of the count, where it is due, was written, or a part of it.
+-- The number, where it is due, was written, or a prefix of it where the write failed.
 abbrev pub WritesCount : Result (Unit {0}) RunFault → List ℕ → SinkSeen → SinkSeen → Type 0
 WritesCount (Ok done) text out out' = Gains out.written out'.written text × (out'.faults ≡ out.faults)
 WritesCount (Err fault.WriteFault) text out out' = GainsPrefix out.written out'.written text × Rose out.faults out'.faults

@@ -1,4 +1,4 @@
--- Definitions that only inner functions speak in.
+-- Definitions that only contracts of inner functions use.
 pub mod Handling
 pub mod OperandTurns
 pub mod Taking

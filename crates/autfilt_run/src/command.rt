@@ -1,4 +1,4 @@
-//! The top call.
+//! The whole run of a command line: operands, streams, the end, and the lines about faults.
 
 ghost use Rattle.std.specs.Prelude.{◌≡◌, ◌⊎◌, All, true};
 ghost use Rattle.autfilt_run.specs.Asked.{AreRefused, names_opened};
@@ -23,8 +23,8 @@ use made_stream::Made;
 use plan_meaning::Complements;
 use std::alloc::Global;
 
-/// Prepares a session, and notes the operands' automata that are passed over. Answers whether notes are taken still, or how
-/// the run ended.
+/// Prepares a session, and notes each abandoned automaton that is skipped in the files of operands. Answers whether notes are
+/// still taken (no note has failed), or how the run ended.
 fn prepare<I: Inputs, M: Sink>(
     alloc: Global,
     session: &mut Session,
@@ -48,8 +48,8 @@ fn prepare<I: Inputs, M: Sink>(
     }
 }
 
-/// Takes the steps of a session until it is done, and keeps the complements of its operands meanwhile. Notes are taken where
-/// they were before.
+/// Takes the steps of a session until it is done, and keeps the complements of operands from one step to the next. `noting`
+/// says whether notes are taken: no note has failed before.
 fn take_steps<I: Inputs, W: Sink, M: Sink>(
     alloc: Global,
     session: Session,
@@ -83,7 +83,7 @@ fn take_steps<I: Inputs, W: Sink, M: Sink>(
     }
 }
 
-/// Writes what is due at the end, and tells how the run ended.
+/// Writes what is due at the end, and answers how the run ended.
 fn finish<W: Sink>(session: &mut Session, out: &mut W) -> End
     requires { session.old.stage ≡ Stage.Done }
     ensures finishes { FinishesRun result (count_text session.old.plan session.old.kept) (record { kept = session.old.kept; skipped = session.old.skipped }) (W.seen out.old) (W.seen out.new) }
@@ -109,10 +109,10 @@ fn end_of(session: &Session) -> End
     }
 }
 
-/// Reads the words of the command line after the program's name and does what they ask for: reads the operands, and then
-/// automata from the streams; judges each, and writes the canonical text of what is made of those that are kept, a line of
-/// figures of it, a refutation of each, or how many they are. Automata that `--ABORT--` abandons are skipped, with a line in `notes` each. One line
-/// about a fault goes there, too.
+/// Reads the words of the command line after the program's name and does what they ask for: it reads the operands, and then
+/// automata from the streams; filters each, and writes the canonical text of what is made of those that are kept, a line of
+/// figures of it, a refutation of each, or their number. Each automaton that is abandoned by `--ABORT--` is skipped, with a
+/// line in `notes`; the line about a fault goes there, too.
 pub fn autfilt<I: Inputs, W: Sink, M: Sink>(
     alloc: Global,
     words: &Words,
@@ -123,10 +123,10 @@ pub fn autfilt<I: Inputs, W: Sink, M: Sink>(
     // No other name is opened than those of the plan's operands and streams.
     requires { (plan : Plan) → IsPlan words.now plan → All I.may_open (names_opened plan) }
 
-    // What was read, what was written and noted of it and what ended the run.
+    // What was read, what was written to the output and to the notes, and what ended the run.
     ensures run { EndsBy words.now result (I.seen inputs.old) (I.seen inputs.new) (W.seen out.old) (W.seen out.new) (M.seen notes.old) (M.seen notes.new) }
 
-    // A fault of the outside is answered only where its count rose, and any other answer only where no call failed.
+    // An I/O fault is answered only where its count rose, and any other answer only where no call failed.
     ensures causes { EndsBecause result (I.seen inputs.old) (I.seen inputs.new) (W.seen out.old) (W.seen out.new) }
 
     // Words that are no plan are refused, and they alone; then nothing is opened, read or written.

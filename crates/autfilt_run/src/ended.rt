@@ -24,7 +24,7 @@ pub enum Ended {
     CannotOpen,
     /// A read failed.
     ReadFault,
-    /// A text cannot go on as it does, or ended inside an automaton.
+    /// A text continues against the grammar, or ends inside an automaton.
     Syntax,
     /// An automaton breaks a rule.
     Invalid,
@@ -36,14 +36,14 @@ pub enum Ended {
     Memory,
 }
 
-/// How a run ended, with all that the line about it tells.
+/// How a run ended, with all that the line about it says.
 #[derive(Clone, Copy, Debug, PartialEq, Eq)]
 pub enum End {
     Output,
     NoneOutput,
     Aborts,
     Usage,
-    /// The session was over before its work was done.
+    /// A fault ended the session.
     Fault(RunFault),
 }
 

@@ -1,4 +1,4 @@
-//! Why a session is over before its work is done.
+//! Why a session ends before all is read.
 
 ghost use Rattle.std.specs.Prelude.{◌≡◌};
 ghost use Rattle.autfilt_run.specs.declared.fault.RunFault.{RunFault};
@@ -7,14 +7,14 @@ use aut_base::{Limit, Memory, OpenFail};
 use hoa_reader::{ElabFault, ReadFault, Rule};
 use plan_meaning::PlanFault;
 
-/// Why a session is over.
+/// Why a session ended before all was read.
 #[derive(Clone, Copy, Debug, PartialEq, Eq)]
 pub enum RunFault {
     /// A text could not be opened.
     CannotOpen,
     /// A read failed.
     ReadFault,
-    /// The offset at which a text cannot go on as it does.
+    /// The offset at which no token can continue the text.
     SyntaxAt(u64),
     /// A text ended inside an automaton, a comment or a token.
     Truncated,

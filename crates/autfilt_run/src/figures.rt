@@ -15,7 +15,7 @@ use lasso_emptiness::accepted_word;
 use std::alloc::Global;
 use word_syntax::print_word;
 
-/// The line that this format asks for.
+/// The line that this format of `--stats` asks for.
 pub(crate) fn line_of(alloc: Global, format: &StatsText, a: &Automaton) -> Result<Text, Memory>
     ensures { IfOk result (IsLine format.now (automaton_of a.now)) }
 {
@@ -29,7 +29,7 @@ pub(crate) fn line_of(alloc: Global, format: &StatsText, a: &Automaton) -> Resul
     Ok(line)
 }
 
-/// What stands for a piece of the format. What is reached is counted once for a line.
+/// The text of one piece of the format. The reached part is counted once for a whole line.
 fn piece_text(
     alloc: Global,
     piece: Piece,
@@ -77,7 +77,7 @@ fn edges_text(
     number_text(alloc, size.edges as u64)
 }
 
-/// How much of the automaton is reached, which is counted unless it is known.
+/// The numbers of reached states and edges, counted on the first call for a line.
 fn size_of(
     alloc: Global,
     a: &Automaton,

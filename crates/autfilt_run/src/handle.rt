@@ -1,4 +1,4 @@
-//! What becomes of an automaton that was read.
+//! Filtering and printing of an automaton that was read.
 
 ghost use Rattle.std.specs.Prelude.{◌≡◌, if◌then◌else◌, map, true, None};
 ghost use Rattle.std.specs.Option.{option_copied};
@@ -23,8 +23,8 @@ use hoa_writer::write_text;
 use plan_meaning::{Automata, Complements, PlanFault, change, judge};
 use std::alloc::Global;
 
-/// Judges an automaton that was read, writes its text where one is due, and answers whether it is kept. Of what was read nothing
-/// is left once the automaton is built, so it takes no memory while that is judged and changed.
+/// Filters an automaton that was read, writes its text where one is due, and answers whether it is kept. What was parsed is
+/// freed once the automaton is built, so that it takes no memory meanwhile.
 pub(crate) fn handle<W: Sink>(
     alloc: Global,
     plan: &Plan,

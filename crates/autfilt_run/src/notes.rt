@@ -1,4 +1,4 @@
-//! The lines about faults and about what is skipped. They are written in pieces, and no memory is taken for them.
+//! The lines about faults and about automata that are skipped. They are written in pieces and need no memory.
 
 ghost use Rattle.std.specs.Prelude.{◌≡◌, ℕ, List, ◌++◌, codes};
 ghost use Rattle.std.specs.Fmt.{decimal};
@@ -12,8 +12,8 @@ use aut_base::{Failed, Limit};
 use aut_io::Sink;
 use hoa_reader::Rule;
 
-/// Writes the line about how a run ended, if that has one, where the text of this name is in hand. Nothing is written after
-/// a write that failed, and nobody learns of it but by the count.
+/// Writes the line about an end, if it has one; `name` is that of the text that it is about. Nothing is written after a write
+/// that failed, and only the sink's count shows it.
 pub fn note<M: Sink>(notes: &mut M, name: &[u8], end: &End)
     ensures { Notes (line_of end.now name.now) (M.seen notes.old) (M.seen notes.new) }
 {
@@ -23,8 +23,8 @@ pub fn note<M: Sink>(notes: &mut M, name: &[u8], end: &End)
     }
 }
 
-/// Notes that an automaton of the text of this name is skipped, unless a note before failed, and answers whether none failed
-/// so far.
+/// Notes that an automaton of the text of this name is skipped, unless a note before failed. Answers whether no note has
+/// failed yet.
 pub(crate) fn note_skipped<M: Sink>(notes: &mut M, noting: bool, name: &[u8]) -> bool
     ensures { (first : SinkSeen) → (text : List ℕ) → HasNoted text noting first (M.seen notes.old) → HasNoted (text ++ aborted_line name.now) result first (M.seen notes.new) }
 {
@@ -37,7 +37,7 @@ pub(crate) fn note_skipped<M: Sink>(notes: &mut M, noting: bool, name: &[u8]) ->
     }
 }
 
-/// Notes how the run ended, unless a note before failed, and gives the end back.
+/// Notes how the run ended, unless a note before failed, and returns the end.
 pub(crate) fn note_end<M: Sink>(notes: &mut M, noting: bool, name: &[u8], end: End) -> End
     ensures same { result ≡ end }
     ensures noted { (first : SinkSeen) → (text : List ℕ) → HasNoted text noting first (M.seen notes.old) → Notes (text ++ line_of end name.now) first (M.seen notes.new) }
@@ -91,7 +91,7 @@ fn write_pieces<M: Sink>(
     notes.write(back)
 }
 
-/// Writes the line about an offset at which the text cannot go on.
+/// Writes the line about a syntax error at this offset.
 fn write_offset<M: Sink>(notes: &mut M, name: &[u8], offset: u64) -> Result<(), Failed>
     ensures { WritesPiece (M.seen notes.old) (line_about name.now (codes "syntax error at byte " ++ decimal offset)) result (M.seen notes.new) }
 {

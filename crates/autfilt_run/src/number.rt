@@ -1,4 +1,4 @@
-//! Numbers in decimal digits, written without memory.
+//! Numbers in decimal digits, written without an allocation.
 
 ghost use Rattle.std.specs.Prelude.{◌+◌, ◌++◌, ◌<◌, [], ◌∷◌, codes};
 ghost use Rattle.std.specs.Fmt.{decimal};

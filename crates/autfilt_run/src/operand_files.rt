@@ -20,7 +20,7 @@ pub(crate) fn operand_count(plan: &Plan) -> usize
     compared + combined + refuted_count(&plan.output)
 }
 
-/// The file of the operand at this place.
+/// The file of the operand at this index.
 pub(crate) fn operand_file(plan: &Plan, place: usize) -> &Text
     requires { place < length (operands plan.now) }
     ensures { result.now ≡ slice_index_or (operands plan.now) place [] }
@@ -39,7 +39,7 @@ pub(crate) fn operand_file(plan: &Plan, place: usize) -> &Text
     combined_file(plan, place - file_count(&plan.intersect))
 }
 
-/// The same, from the operand of the first operation on.
+/// The same among the operands from the first operation on.
 fn combined_file(plan: &Plan, place: usize) -> &Text
     requires { place < length (file_list plan.now.product ++ (file_list plan.now.product_or ++ (file_list plan.now.sum ++ file_list (refuted plan.now.output)))) }
     ensures { result.now ≡ slice_index_or (file_list plan.now.product ++ (file_list plan.now.product_or ++ (file_list plan.now.sum ++ file_list (refuted plan.now.output)))) place [] }
@@ -58,7 +58,7 @@ fn combined_file(plan: &Plan, place: usize) -> &Text
     refuted_file(&plan.output)
 }
 
-/// The file that there is.
+/// The file, which is there: the contract asks for Some.
 fn file_of(file: &Option<Text>) -> &Text
     requires { 0 < length (file_list file.now) }
     ensures { (rest : List (List ℕ)) → slice_index_or (file_list file.now ++ rest) 0 [] ≡ result.now }
@@ -69,7 +69,7 @@ fn file_of(file: &Option<Text>) -> &Text
     }
 }
 
-/// 1 where a refutation is printed.
+/// 1 where the plan prints refutations, and else 0.
 fn refuted_count(output: &Output) -> usize
     ensures number { result ≡ length (file_list (refuted output.now)) }
     ensures few { result ≤ 1 }
@@ -80,7 +80,7 @@ fn refuted_count(output: &Output) -> usize
     }
 }
 
-/// The file of the refutation that is printed.
+/// The operand's file of `--refute`.
 fn refuted_file(output: &Output) -> &Text
     requires { 0 < length (file_list (refuted output.now)) }
     ensures { result.now ≡ slice_index_or (file_list (refuted output.now)) 0 [] }

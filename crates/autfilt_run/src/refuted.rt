@@ -16,7 +16,8 @@ use std::alloc::Global;
 use word_syntax::print_word;
 
 // Why so: 'A line that refutes is said within limits' in docs/DECISIONS.md.
-/// A word that the automaton accepts and the operand of `--refute` doesn't, or `included` where there is none.
+/// A line with a word that the automaton accepts and the operand of `--refute` doesn't, or with `included` where there is
+/// none.
 pub(crate) fn refutation_line(
     alloc: Global,
     plan: &Plan,

@@ -1,4 +1,4 @@
-//! The session.
+//! The session: reads operands, and then streams step by step.
 
 ghost use Rattle.std.specs.Prelude.{◌≡◌, ◌+◌, ◌<◌, ◌≤◌, ◌⊎◌, All, None, false, length, map, true};
 ghost use Rattle.aut_base.specs.declared.limit.TheConstants.{MOST_BYTES};
@@ -30,25 +30,25 @@ pub enum Turn {
     Kept,
     /// An automaton was read and dropped.
     Dropped,
-    /// An abandoned automaton was skipped.
+    /// An automaton that is abandoned by `--ABORT--` was skipped.
     Skipped,
     /// Only blanks were left of the stream.
     StreamEnd,
-    /// The count that was asked for is reached, or there is nothing left to read.
+    /// As many automata were kept as `-n` asks for, or there is nothing left to read.
     Done,
 }
 
 // Why so: '`prepare` answers once for each automaton that is passed over' in docs/DECISIONS.md.
-/// How the operands were read.
+/// How far a call of `prepare` came.
 #[derive(Clone, Copy, Debug, PartialEq, Eq)]
 pub enum Prep {
-    /// All of them.
+    /// All operands are read.
     Ready,
-    /// An abandoned automaton was skipped before one of them.
+    /// An abandoned automaton was skipped in the file of the next operand; `prepare` is to be called again.
     Skipped,
 }
 
-/// What may be done with a session next.
+/// Which call is allowed next.
 #[derive(Clone, Copy, Debug, PartialEq, Eq)]
 pub enum Stage {
     /// `prepare`.
@@ -62,7 +62,7 @@ pub enum Stage {
 }
 
 // Why so: 'A session is seen by its fields, as a lexer is' in docs/DECISIONS.md.
-/// Automata of streams, one after the other, each read, judged, changed and written as a plan asks.
+/// Reads automata from streams, one after the other, filters and changes each by a plan, and writes them.
 #[derive(Drop)]
 pub struct Session {
     plan: Plan,
@@ -87,7 +87,7 @@ pub struct Session {
     ghost sized: { All IsOfReadSize (map automaton_of operands) },
     ghost all_read: { stage ≡ Stage.Prepared → length operands ≡ length (words.operands plan) },
     ghost most_is: { lexer.most ≡ MOST_BYTES },
-    // Each automaton takes a byte or more.
+    // Each automaton that was read took a byte or more.
     ghost counted: { kept + skipped ≤ lexer.taken },
     ghost spent: { stage ≡ Stage.New ⊎ stage ≡ Stage.Prepared → lexer.spent ≡ false },
     ghost held: { stage ≡ Stage.New ⊎ stage ≡ Stage.Prepared → lexer.held ≡ None },
@@ -103,7 +103,7 @@ impl Session {
     ghost use Rattle.plan_meaning.specs.Complements.{AreComplementsKept};
     ghost use Rattle.autfilt_run.specs.declared.session.Prep.TheVariants as prep;
 
-    /// A session for a plan, which may take 2^40 bytes.
+    /// A session for a plan, which may take at most 2^40 bytes.
     pub fn new(alloc: Global, plan: Plan) -> Session
         ensures plan { result.plan ≡ plan }
         ensures begins { progress result ≡ record { opened = 0; is_open = false; kept = 0; skipped = 0 } }
@@ -126,24 +126,24 @@ impl Session {
         }
     }
 
-    /// Reads the operands of the plan, each from the file of its name, in order: of each file the first automaton that isn't
-    /// abandoned. Where one is abandoned it answers `Skipped`, and is called again.
+    /// Reads the operands of the plan in order, each from its own file: the first automaton that isn't abandoned. Where an
+    /// abandoned one is skipped it answers `Skipped`, and is to be called again.
     pub fn prepare<I: Inputs>(&mut self, alloc: Global, inputs: &mut I) -> Result<Prep, RunFault>
         requires stage { self.old.stage ≡ Stage.New }
         requires names { All I.may_open (words.operands self.old.plan) }
 
-        // What happened, outside and to the session.
+        // What was read, and what it changed in the session.
         ensures prepares { Prepares result self.old self.new (I.seen inputs.old) (I.seen inputs.new) }
         ensures plan { self.new.plan ≡ self.old.plan }
         ensures most { self.new.lexer.most ≡ self.old.lexer.most }
         ensures opened { self.new.opened ≡ self.old.opened }
         ensures kept { self.new.kept ≡ self.old.kept }
 
-        // What may be done with it next.
+        // Which call is allowed next.
         ensures ready { IfOk result (λ p. p ≡ prep.Ready → self.new.stage ≡ Stage.Prepared) }
         ensures closed { IfOk result (λ p. p ≡ prep.Ready → self.new.is_open ≡ false) }
 
-        // The name in hand is that of the last operand then, or nothing where there is none.
+        // After `Ready` the name in hand is that of the last operand's file, or empty where there is no operand.
         ensures named { IfOk result (λ p. p ≡ prep.Ready → self.new.tried ≡ length (words.operands self.new.plan)) }
         ensures skipped { IfOk result (λ p. p ≡ prep.Skipped → self.new.stage ≡ Stage.New) }
         ensures over { OnErr result (self.new.stage ≡ Stage.Over) }
@@ -161,8 +161,8 @@ impl Session {
         }
     }
 
-    /// Opens the next stream, or reads the next automaton of the open one, judges it, and writes its text where one is due. What
-    /// is handed in of complements is that of the operands, and more may be kept behind.
+    /// Opens the next stream, or reads the next automaton of the open one, filters it, and writes its text where one is due.
+    /// `complements` may hold complements of the operands that were computed before; those that this step computes are added.
     pub fn step<I: Inputs, W: Sink>(
         &mut self,
         alloc: Global,
@@ -174,11 +174,11 @@ impl Session {
         requires names { All I.may_open (plan_streams self.old.plan) }
         requires kept { AreComplementsKept self.old.plan (operands_in self.old) complements.old }
 
-        // What happened, outside and to the session.
+        // What was read and written, and what it changed in the session.
         ensures step { IsStep result self.old self.new (I.seen inputs.old) (I.seen inputs.new) (W.seen out.old) (W.seen out.new) }
         ensures kept { AreComplementsKept self.old.plan (operands_in self.old) complements.new }
 
-        // What may be done with it next.
+        // Which call is allowed next.
         ensures prepared { IfOk result (λ turn. turn ≢ Turn.Done → self.new.stage ≡ Stage.Prepared) }
         ensures done { IfOk result (λ turn. turn ≡ Turn.Done → self.new.stage ≡ Stage.Done) }
         ensures over { OnErr result (self.new.stage ≡ Stage.Over) }
@@ -192,7 +192,7 @@ impl Session {
         Ok(turn)
     }
 
-    /// Where only the number of automata is asked for, writes how many were kept, and a line feed.
+    /// Under `-c`, writes how many automata were kept, and a line feed.
     pub fn finish<W: Sink>(&mut self, out: &mut W) -> Result<(), RunFault>
         requires { self.old.stage ≡ Stage.Done }
         ensures finishes { WritesCount result (count_text self.old.plan self.old.kept) (W.seen out.old) (W.seen out.new) }
@@ -212,7 +212,7 @@ impl Session {
         }
     }
 
-    /// Whether no step can be taken any more: once a step answered `Done`, and after a fault.
+    /// Whether no step is allowed any more: after `Done`, and after a fault.
     pub fn is_over(&self) -> bool
         ensures { IsTrue result ↔ (self.now.stage ≡ Stage.Done ⊎ self.now.stage ≡ Stage.Over) }
     {

@@ -21,7 +21,7 @@ pub(crate) fn stream_count(plan: &Plan) -> usize
     }
 }
 
-/// Opens the stream at this place.
+/// Opens the stream at this index.
 pub(crate) fn open_stream<I: Inputs>(
     alloc: Global,
     plan: &Plan,
@@ -41,7 +41,7 @@ pub(crate) fn open_stream<I: Inputs>(
     }
 }
 
-/// The name of the file at this place, those of operands first.
+/// The name of the file at this index, where the operands' files are counted first.
 pub(crate) fn file_name(plan: &Plan, place: u128) -> &[u8]
     requires { place < length (files_of plan.now) }
     ensures { result.now ≡ slice_index_or (files_of plan.now) place [] }
@@ -50,7 +50,7 @@ pub(crate) fn file_name(plan: &Plan, place: u128) -> &[u8]
     if place < operands {
         return operand_file(plan, place as usize).as_bytes();
     }
-    // There are no more streams than 64 bits count.
+    // The number of streams fits in 64 bits.
     let _streams = stream_count(plan);
     match plan.made {
         Some(_) => b"made",

@@ -12,7 +12,7 @@ use std::env;
 use std::process::ExitCode;
 
 // Why so: '`main` is one call' in docs/DECISIONS.md.
-/// Does what the arguments of the process ask for, and answers the status to end with.
+/// Does what the arguments of the process ask for, and answers the exit status.
 pub fn run(rt: HostRuntime) -> ExitCode {
     let mut out = RealSink::new(rt.stdout());
     let mut notes = RealSink::new(rt.stderr());

@@ -1,2 +1,2 @@
--- Definitions that only inner functions speak in.
+-- Definitions that only contracts of inner functions use.
 pub mod Systems

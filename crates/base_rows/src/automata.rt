@@ -1,4 +1,4 @@
-//! Calls of `aut_core` on small automata and names that rows write.
+//! Calls of `aut_core` on small automata and names of rows.
 
 use crate::words::{parted, text};
 use aut_base::{Memory, Text};
@@ -19,15 +19,15 @@ pub(crate) fn judged(alloc: Global, line: &str) -> Result<Text, Fault> {
     text(alloc, words)
 }
 
-/// The text of the label of the first edge of the last state, over these names and the automaton's own, from
-/// `NAMES; AUTOMATON`.
+/// From `NAMES; AUTOMATON`: the text of the label of the first edge of the last state, over these names and then the
+/// automaton's own.
 pub(crate) fn over(alloc: Global, line: &str) -> Result<Text, Fault> {
     let (names, rest) = parted(line)?;
     let a = read(alloc, rest)?;
     Ok(label_over(alloc, &a, names.as_bytes())?)
 }
 
-/// The text of the label of the first edge of the last state, over these names and the automaton's own.
+/// The text of the label of the first edge of the last state, over these names and then the automaton's own.
 fn label_over(alloc: Global, a: &Automaton, bytes: &[u8]) -> Result<Text, Memory> {
     match join_names(alloc, &named(alloc, bytes)?, a.names()) {
         Ok(names) => label_at(alloc, &a.over(alloc, &names)?),
@@ -46,7 +46,7 @@ fn label_at(alloc: Global, a: &Automaton) -> Result<Text, Memory> {
     }
 }
 
-/// The names of two lists put together, from `NAMES; NAMES`.
+/// From `NAMES; NAMES`: the joined names.
 pub(crate) fn together(alloc: Global, line: &str) -> Result<Text, Fault> {
     let (a, b) = parted(line)?;
     Ok(joined(alloc, names_of(a), names_of(b))?)
@@ -60,7 +60,7 @@ fn names_of(word: &str) -> &[u8] {
     word.as_bytes()
 }
 
-/// The first bytes of the names put together, `!` for too many, or `?` for want of memory.
+/// The first bytes of the joined names, `!` for too many, or `?` for want of memory.
 fn joined(alloc: Global, a: &[u8], b: &[u8]) -> Result<Text, Memory> {
     let mut text = Text::new(alloc);
     match join_names(alloc, &named(alloc, a)?, &named(alloc, b)?) {

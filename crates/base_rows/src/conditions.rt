@@ -1,19 +1,19 @@
-//! Conditions, as rows write them and as answers show them.
+//! Conditions, in the notation of rows and as text.
 
 use aut_base::{Formula, Formulas, Memory, Text};
 use row_files::{Fault, number};
 use std::alloc::Global;
 
-/// What parts stand under.
+/// What joins the parts of a condition.
 #[derive(Clone, Copy)]
 pub(crate) enum Node {
     And,
     Or,
 }
 
-/// A condition. Its words stand behind the words of their parts: `I0` and `F0` for `Inf(0)` and `Fin(0)`, `I!0` and `F!0`
-/// for the negated set, `t`, `f`, `&` and `|` for a node over the last two parts, `&&` and `||` for one over three, and
-/// `&40` for a conjunction of 40 times the last part.
+/// Reads a condition in reverse Polish notation: `I0` and `F0` are `Inf(0)` and `Fin(0)`, `I!0` and `F!0` have the negated
+/// set, `t` and `f`, `&` and `|` join the last two parts, `&&` and `||` the last three, and `&40` is a conjunction of 40
+/// copies of the last part.
 pub(crate) fn formula(alloc: Global, text: &str) -> Result<Formula, Fault> {
     let mut parts = Vec::new(alloc);
     for word in text.split(' ') {
@@ -47,7 +47,7 @@ fn atom(word: &str) -> Result<Formula, Fault> {
     Ok(Formula::Fin { set, neg })
 }
 
-/// Whether a `!` stands before a set, and the set.
+/// The set, and whether `!` precedes it.
 fn set_of(word: &str) -> Result<(bool, u32), Fault> {
     match word.strip_prefix('!') {
         Some(set) => Ok((true, number(set)?)),
@@ -68,7 +68,7 @@ fn last_three(alloc: Global, node: Node, parts: &mut Vec<Formula>) -> Result<For
     triple(alloc, node, first, second, third)
 }
 
-/// The conjunction of so many times the last part, two times at least.
+/// The conjunction of so many copies of the last part, at least two.
 fn repeated(alloc: Global, times: u32, parts: &mut Vec<Formula>) -> Result<Formula, Memory> {
     let part = last(parts);
     let mut copies = Formulas::pair(alloc, part.copy(alloc)?, part.copy(alloc)?)?;
@@ -78,7 +78,7 @@ fn repeated(alloc: Global, times: u32, parts: &mut Vec<Formula>) -> Result<Formu
     Ok(Formula::And(copies))
 }
 
-/// The last part. It is `f` where there is none.
+/// Takes the last part; it is `f` where there is none.
 fn last(parts: &mut Vec<Formula>) -> Formula {
     match parts.pop() {
         Some(part) => part,
@@ -86,7 +86,7 @@ fn last(parts: &mut Vec<Formula>) -> Formula {
     }
 }
 
-/// Two parts under a node.
+/// Two parts, joined.
 pub(crate) fn pair(
     alloc: Global,
     node: Node,
@@ -100,7 +100,7 @@ pub(crate) fn pair(
     }
 }
 
-/// Three parts under a node.
+/// Three parts, joined.
 pub(crate) fn triple(
     alloc: Global,
     node: Node,

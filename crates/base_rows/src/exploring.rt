@@ -1,4 +1,4 @@
-//! Explorations of two small systems under several limits.
+//! Explorations of two small transition systems under several limits.
 
 mod doubling;
 mod rising;
@@ -19,7 +19,7 @@ enum Outcome {
     Met(Fault),
 }
 
-/// How the exploration of the doubled numbers from 1 ends, from `BOUND; THINGS CLASSES`.
+/// From `BOUND; STATES CLASSES`: how the exploration of the doubled numbers from 1 ends.
 pub(crate) fn doubled(alloc: Global, line: &str) -> Result<Text, row_files::Fault> {
     let (bound, rest) = parted(line)?;
     let mut system = Doubling {
@@ -34,7 +34,7 @@ pub(crate) fn doubled(alloc: Global, line: &str) -> Result<Text, row_files::Faul
     shown(alloc, outcome_of(found))
 }
 
-/// How the exploration from the list of 1 and 2 ends, from `THINGS CLASSES`.
+/// From `STATES CLASSES`: how the exploration from the list of 1 and 2 ends.
 pub(crate) fn risen(alloc: Global, line: &str) -> Result<Text, row_files::Fault> {
     let limits = limits(line)?;
     if limits.states == 0 {

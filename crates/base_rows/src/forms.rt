@@ -1,4 +1,4 @@
-//! Calls of `acc_forms` on conditions that rows write.
+//! Calls of `acc_forms` on conditions of rows.
 
 pub(crate) mod calls;
 pub(crate) mod compare;
@@ -15,19 +15,19 @@ use calls::{
 use row_files::{Fault, number};
 use std::alloc::Global;
 
-/// What is made of one condition, or of two.
+/// The calls on one condition or two.
 #[derive(Clone, Copy)]
 pub(crate) enum Call {
     Dual,
     /// The sets raised by `RAISED`.
     Shift,
-    /// The condition of the terms.
+    /// The condition that is rebuilt from its terms.
     Spread,
     Conj,
     Disj,
 }
 
-/// What a call makes of the conditions of a line, as a text.
+/// What a call makes of the conditions of a line, as text.
 pub(crate) fn made(alloc: Global, call: Call, line: &str) -> Result<Text, Fault> {
     match call {
         Call::Dual | Call::Shift | Call::Spread => made_of_one(alloc, call, &formula(alloc, line)?),
@@ -51,7 +51,7 @@ fn shown_if(alloc: Global, made: &Option<Formula>) -> Result<Text, Fault> {
     }
 }
 
-/// The condition of the terms of a condition, if these aren't too many.
+/// The condition rebuilt from its terms, unless these are too many.
 fn spread_out(alloc: Global, f: &Formula) -> Result<Option<Formula>, Memory> {
     match terms(alloc, f)? {
         Some(found) => Ok(Some(spread(alloc, &found)?)),
@@ -92,12 +92,12 @@ pub(crate) fn parity_min_odd(alloc: Global, line: &str) -> Result<Text, Fault> {
     shown_if(alloc, &parity(alloc, number(line)?)?)
 }
 
-/// How many terms there would be.
+/// The number of terms of the disjunctive normal form, before it is made.
 pub(crate) fn terms_count(alloc: Global, line: &str) -> Result<Text, Fault> {
     digits(alloc, count(&formula(alloc, line)?))
 }
 
-/// How many terms there are, or `too many`.
+/// The number of terms that are made, or `too many`.
 pub(crate) fn disjuncts(alloc: Global, line: &str) -> Result<Text, Fault> {
     match terms(alloc, &formula(alloc, line)?)? {
         Some(found) => digits(alloc, found.len() as u64),

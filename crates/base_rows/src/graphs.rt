@@ -1,4 +1,4 @@
-//! Calls of `graph_walk` on graphs that rows write.
+//! Calls of `graph_walk` on graphs of rows.
 
 pub(crate) mod large;
 pub(crate) mod small;
@@ -12,7 +12,7 @@ use graph_walk::{Graph, components, path, reach};
 use row_files::{Fault, number};
 use std::alloc::Global;
 
-/// The graph of these arcs, without those that have an end that is no node.
+/// The graph of these arcs. An arc with an end that is no node is left out.
 pub(crate) fn graph(alloc: Global, nodes: u32, list: &[(u32, u32)]) -> Result<Graph, Memory>
     ensures nodes { IfOk result (λ graph. graph.nodes ≡ nodes) }
     ensures arcs { IfOk result (λ graph. HasNodes nodes graph.arcs) }
@@ -26,7 +26,7 @@ pub(crate) fn graph(alloc: Global, nodes: u32, list: &[(u32, u32)]) -> Result<Gr
     Ok(Graph { nodes, arcs })
 }
 
-/// The nodes of this list, without what is no node.
+/// The nodes of this list. A number that is no node is left out.
 fn starts(alloc: Global, nodes: u32, list: &[u32]) -> Result<Numbers, Memory>
     ensures { IfOk result (All (λ p. p < nodes)) }
 {
@@ -39,7 +39,7 @@ fn starts(alloc: Global, nodes: u32, list: &[u32]) -> Result<Numbers, Memory>
     Ok(starts)
 }
 
-/// Arcs with a space between any two, each as its tail, a `>` and its head; or `-` for none.
+/// Reads arcs, separated by spaces, each as its tail, `>` and its head; or `-` for none.
 fn arcs(alloc: Global, words: &str) -> Result<Vec<(u32, u32)>, Fault> {
     let mut arcs = Vec::new(alloc);
     if words == "-" {
@@ -52,7 +52,7 @@ fn arcs(alloc: Global, words: &str) -> Result<Vec<(u32, u32)>, Fault> {
     Ok(arcs)
 }
 
-/// The nodes that are reached from some, from `NODES; ARCS; STARTS`.
+/// From `NODES; ARCS; STARTS`: the nodes that are reached from the starts.
 pub(crate) fn reached(alloc: Global, line: &str) -> Result<Text, Fault> {
     let (nodes, rest) = parted(line)?;
     let (written, from) = parted(rest)?;
@@ -78,7 +78,7 @@ fn nodes_reached(
     Ok(answer)
 }
 
-/// The number of each node's component, from `NODES; ARCS`.
+/// From `NODES; ARCS`: the number of each node's component.
 pub(crate) fn numbered(alloc: Global, line: &str) -> Result<Text, Fault> {
     let (nodes, written) = parted(line)?;
     let graph = graph(alloc, number(nodes)?, &arcs(alloc, written)?)?;
@@ -89,7 +89,7 @@ pub(crate) fn numbered(alloc: Global, line: &str) -> Result<Text, Fault> {
     Ok(answer)
 }
 
-/// The places of the nodes of a shortest walk, or `none`, from `NODES; ARCS; FROM TO`.
+/// From `NODES; ARCS; FROM TO`: the indices of the arcs of a shortest path, or `none`.
 pub(crate) fn walked(alloc: Global, line: &str) -> Result<Text, Fault> {
     let Some(places) = shortest(alloc, line)? else {
         return text(alloc, b"none");
@@ -101,7 +101,7 @@ pub(crate) fn walked(alloc: Global, line: &str) -> Result<Text, Fault> {
     Ok(answer)
 }
 
-/// How many arcs a shortest walk has, or `none`, from `NODES; ARCS; FROM TO`.
+/// From `NODES; ARCS; FROM TO`: the number of arcs of a shortest path, or `none`.
 pub(crate) fn length(alloc: Global, line: &str) -> Result<Text, Fault> {
     match shortest(alloc, line)? {
         Some(places) => digits(alloc, places.len() as u64),

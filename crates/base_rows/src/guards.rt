@@ -1,4 +1,4 @@
-//! Calls of `label_guards` on labels that rows write.
+//! Calls of `label_guards` on labels of rows.
 
 pub(crate) mod calls;
 mod functions;
@@ -13,7 +13,7 @@ use label_guards::{Guard, GuardList, Guards};
 use row_files::{Fault, number};
 use std::alloc::Global;
 
-/// The text of a label over so many propositions, from `PROPOSITIONS; LABEL`. Both calls have to have the same.
+/// From `PROPOSITIONS; LABEL`: the text of a label over so many propositions. Both calls that write it have to agree.
 pub(crate) fn canonical(alloc: Global, line: &str) -> Result<Text, Fault> {
     let (props, written) = parted(line)?;
     let props = number(props)?;
@@ -49,7 +49,8 @@ fn add_cubes(alloc: Global, out: &mut Text, store: &Guards, guard: Guard) -> Res
     }
 }
 
-/// The classes of labels over two propositions, at most so many, or `more`, from `MOST; LABEL; LABEL..`, with `-` for no label.
+/// From `MOST; LABEL; LABEL..`, with `-` for no label: the classes of labels over two propositions, or `more` where there are
+/// more than `MOST`.
 pub(crate) fn divided(alloc: Global, line: &str) -> Result<Text, Fault> {
     let (most, written) = parted(line)?;
     let mut store = Guards::new(alloc, 2)?;

@@ -1,11 +1,11 @@
-//! Labels, as rows write them.
+//! Labels, in the notation of rows.
 
 use aut_base::{Label, Labels, Memory};
 use row_files::{Fault, number};
 use std::alloc::Global;
 
-/// A label. Its words stand behind the words of their parts: `t`, `f`, a number for a proposition, `!` for the negation of the
-/// last part, `&` and `|` for the conjunction and the disjunction of the last two, `&&` and `||` for those of three.
+/// Reads a label in reverse Polish notation: `t` and `f`, a number for a proposition, `!` negates the last part, `&` and `|`
+/// join the last two, `&&` and `||` the last three.
 pub(crate) fn label(alloc: Global, text: &str) -> Result<Label, Fault> {
     let mut parts = Vec::new(alloc);
     for word in text.split(' ') {
@@ -41,7 +41,7 @@ fn last_three(alloc: Global, parts: &mut Vec<Label>) -> Result<Labels, Memory> {
     Ok(all)
 }
 
-/// The last part. It is `f` where there is none.
+/// Takes the last part; it is `f` where there is none.
 fn last(parts: &mut Vec<Label>) -> Label {
     match parts.pop() {
         Some(part) => part,

@@ -1,5 +1,5 @@
-//! Asks the crates at the base for their answers to each row of the files of rows, and goes through all small conditions,
-//! graphs and truth functions. It prints what came out otherwise.
+//! Calls the base crates on each row of the files of rows, and on all small conditions, graphs and truth functions. Prints
+//! each row whose answer is another than the one that is stated or computed.
 #![tactic(auto)]
 
 mod automata;
@@ -38,7 +38,7 @@ fn main(rt: HostRuntime) -> Result<(), Stop> {
     count.end(&rt)
 }
 
-/// The calls, each under its name.
+/// The calls, by their names in rows.
 #[derive(Clone, Copy)]
 struct Base;
 

@@ -1,4 +1,4 @@
-//! Scripts of calls over the sources and sinks in memory, played by generic callers.
+//! Scripts of calls on the sources and sinks in memory, by generic callers.
 
 ghost use Rattle.std.specs.Prelude.{◌≡◌, ℕ, List, IfOk, length};
 
@@ -8,7 +8,7 @@ use aut_io::{Inputs, MemInputs, MemSink, Sink, SureInputs, SureSink};
 use row_files::{Fault, number};
 use std::alloc::Global;
 
-/// What a script answers over a source at which these calls fail, from `SCRIPT; CALLS`.
+/// From `SCRIPT; CALLS`: the answers of a source on which these calls fail.
 pub(crate) fn source(alloc: Global, line: &str) -> Result<Text, Fault> {
     let (script, failing) = parted(line)?;
     let failing = numbers_or_none(alloc, failing)?;
@@ -16,13 +16,14 @@ pub(crate) fn source(alloc: Global, line: &str) -> Result<Text, Fault> {
     play(alloc, &mut MemInputs::new(names, texts, failing), script)
 }
 
-/// What a script answers over a source that never fails.
+/// The answers of a source that never fails.
 pub(crate) fn sure_source(alloc: Global, line: &str) -> Result<Text, Fault> {
     let (names, texts) = two_texts(alloc)?;
     play(alloc, &mut SureInputs::new(names, texts), line)
 }
 
-/// What a sink of some capacity answers, at which these writes fail, and what it keeps, from `PIECES; CAPACITY; WRITES`.
+/// From `PIECES; CAPACITY; WRITES`: the answers of a sink of this capacity on which these writes fail, and what it holds
+/// then.
 pub(crate) fn sink(alloc: Global, line: &str) -> Result<Text, Fault> {
     let (pieces, rest) = parted(line)?;
     let (capacity, failing) = parted(rest)?;
@@ -35,7 +36,7 @@ pub(crate) fn sink(alloc: Global, line: &str) -> Result<Text, Fault> {
     Ok(answer)
 }
 
-/// What a sink that never fails answers.
+/// The answers of a sink that never fails.
 pub(crate) fn sure_sink(alloc: Global, line: &str) -> Result<Text, Fault> {
     write_all(alloc, &mut SureSink::new(), line)
 }
@@ -53,8 +54,8 @@ fn two_texts(alloc: Global) -> Result<(Names, Words), Memory>
     Ok((names, texts))
 }
 
-/// Makes the calls of a script and gives their answers: `n` reads, and any other letter opens the text of that
-/// name. `-` stands for a failed call, `+` for an open that succeeded, `.` for the end of the text.
+/// Makes the calls of a script and writes their answers: `n` reads, and any other letter opens the text of that name. The
+/// answers are `-` for a failed call, `+` for a text that was opened, `.` for the end of the text, and else the byte.
 fn play<I: Inputs>(alloc: Global, inputs: &mut I, script: &str) -> Result<Text, Fault>
     requires { (name : List ℕ) → I.may_open name }
 {
@@ -89,7 +90,7 @@ fn open<I: Inputs>(alloc: Global, inputs: &mut I, letter: u8) -> Result<u8, Memo
     }
 }
 
-/// Writes the pieces, with a comma between any two, and gives the answers: `+` where all was written, `-` for a failed write.
+/// Writes the pieces, which are separated by commas. The answers are `+` where all was written, and `-` for a failed write.
 fn write_all<S: Sink>(alloc: Global, sink: &mut S, pieces: &str) -> Result<Text, Fault> {
     let mut answers = Text::new(alloc);
     for piece in pieces.split(',') {

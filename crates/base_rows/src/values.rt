@@ -1,4 +1,4 @@
-//! Calls of `aut_base` on conditions, labels and letters that rows write.
+//! Calls of `aut_base` on conditions, labels and letters of rows.
 
 use crate::conditions::formula;
 use crate::labels::label;
@@ -7,7 +7,7 @@ use aut_base::{Letter, Marks, Memory, Text};
 use row_files::{Fault, number};
 use std::alloc::Global;
 
-/// Whether a condition is met on a cycle, from `CONDITION; EDGE; EDGE..`.
+/// From `CONDITION; EDGE; EDGE..`: whether the cycle of these edges meets the condition.
 pub(crate) fn met_by(alloc: Global, line: &str) -> Result<Text, Fault> {
     let (condition, edges) = parted(line)?;
     let mut cycle = Vec::new(alloc);
@@ -23,7 +23,7 @@ pub(crate) fn met_by(alloc: Global, line: &str) -> Result<Text, Fault> {
     )
 }
 
-/// The marks of an edge, in order and with a comma between any two, or none for `-`.
+/// The marks of an edge, in order and separated by commas, or none for `-`.
 fn marks(alloc: Global, words: &str) -> Result<Marks, Fault> {
     let mut marks = Marks::new(alloc);
     if words == "-" {
@@ -39,7 +39,7 @@ fn marks(alloc: Global, words: &str) -> Result<Marks, Fault> {
     Ok(marks)
 }
 
-/// The letter at which the propositions of these names hold, of one byte each, or none for `-`.
+/// The letter in which the propositions of these names hold, of one byte each, or none for `-`.
 fn letter(alloc: Global, names: &str) -> Result<Letter, Memory> {
     let mut letter = Letter::new(alloc);
     if names == "-" {
@@ -51,7 +51,7 @@ fn letter(alloc: Global, names: &str) -> Result<Letter, Memory> {
     Ok(letter)
 }
 
-/// Whether a label holds at a letter, from `LABEL; NAMES; LETTER`.
+/// From `LABEL; NAMES; LETTER`: whether the label holds at the letter.
 pub(crate) fn holds(alloc: Global, line: &str) -> Result<Text, Fault> {
     let (written, rest) = parted(line)?;
     let (names, at) = parted(rest)?;
@@ -65,7 +65,7 @@ pub(crate) fn holds(alloc: Global, line: &str) -> Result<Text, Fault> {
     truth(alloc, label.holds(names, &at))
 }
 
-/// Whether a label is true where these propositions hold, a digit for each, from `LABEL; DIGITS`.
+/// From `LABEL; DIGITS`: whether the label is true, where each digit is the truth of a proposition.
 pub(crate) fn is_true(alloc: Global, line: &str) -> Result<Text, Fault> {
     let (written, digits) = parted(line)?;
     let on: Vec<bool> = digits.bytes().map(|digit| digit == b'1').collect(alloc)?;
@@ -81,7 +81,7 @@ pub(crate) fn count_names(alloc: Global, line: &str) -> Result<Text, Fault> {
     digits(alloc, letter(alloc, line)?.names().len() as u64)
 }
 
-/// The place of a name in a letter, or `none`, from `LETTER; NAME`.
+/// From `LETTER; NAME`: the index of the name in the letter, or `none`.
 pub(crate) fn position(alloc: Global, line: &str) -> Result<Text, Fault> {
     let (names, name) = parted(line)?;
     let letter = letter(alloc, names)?;
@@ -96,7 +96,7 @@ pub(crate) fn position(alloc: Global, line: &str) -> Result<Text, Fault> {
     }
 }
 
-/// Whether a letter has a name, from `LETTER; NAME`.
+/// From `LETTER; NAME`: whether the letter has the name.
 pub(crate) fn has(alloc: Global, line: &str) -> Result<Text, Fault> {
     let (names, name) = parted(line)?;
     let letter = letter(alloc, names)?;

@@ -1,15 +1,15 @@
-//! What rows write, and how answers are written.
+//! The parts of a row's input, and of its answer.
 
 use aut_base::{Memory, Numbers, Text};
 use row_files::{Fault, numbers};
 use std::alloc::Global;
 
-/// What stands before the first `; `, and what stands behind it.
+/// The parts of a line before and after the first `; `.
 pub(crate) fn parted(line: &str) -> Result<(&str, &str), Fault> {
     line.split_once("; ").ok_or(Fault::Missing)
 }
 
-/// Numbers with a space between any two, or none for `-`.
+/// Numbers separated by spaces, or none for `-`.
 pub(crate) fn numbers_or_none(alloc: Global, words: &str) -> Result<Numbers, Fault> {
     if words == "-" {
         return Ok(Numbers::new(alloc));

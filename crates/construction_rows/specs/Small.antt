@@ -1,4 +1,4 @@
--- Automata whose numbers are far below the last of their type, and those that can be pruned.
+-- Automata with numbers far below 2^32, and those of one set that is to be met again and again.
 use Rattle.std.specs.Prelude.{◌≡◌, ◌<◌, false}
 use Rattle.aut_base.specs.Formula.{Inf}
 use Rattle.aut_core.specs.SymbolicAutomata.{SymbolicAutomaton}

@@ -1,4 +1,4 @@
-//! What rows ask for by name.
+//! The calls of rows, by their names.
 
 use crate::made::{Double, Made, Single, hidden, make, make_of_two};
 use crate::rings::{choices, ring};
@@ -10,7 +10,7 @@ use row_automata::{push_number, read, shown};
 use row_files::{Answers, Fault, kind_and_rest, number};
 use std::alloc::Global;
 
-/// Answers each call with what is made, in the notation of automata, or with why nothing is.
+/// Answers each call with the automaton that is made, in the notation of rows, or with why none is.
 #[derive(Drop)]
 pub(crate) struct Constructions;
 
@@ -53,7 +53,7 @@ fn double_call(name: &str) -> Option<Double> {
     }
 }
 
-/// The calls with other inputs or answers.
+/// The calls whose input isn't one automaton, or whose answer isn't an automaton.
 fn other_answer(alloc: Global, call: &str, line: &str) -> Result<Text, Fault> {
     let (call, rest) = kind_and_rest(call);
     match call {
@@ -91,7 +91,7 @@ fn answer_to(alloc: Global, made: Made) -> Result<Text, Fault> {
     }
 }
 
-/// The numbers of states and sets alone.
+/// The numbers of states and sets, without the automaton.
 fn size_answer(alloc: Global, made: Made) -> Result<Text, Fault> {
     match made {
         Made::Automaton(a) => Ok(pair(alloc, a.states(), a.sets())?),

@@ -1,4 +1,4 @@
-//! Automata by chance, and the words that are accepted by what is made of them.
+//! Random automata, compared with what constructions make of them: do they accept the right words?
 
 use crate::made::{Double, Made, Single, make, make_of_two};
 use aut_base::{Memory, Text};
@@ -7,12 +7,12 @@ use row_automata::{CONDITIONS, Choices, Paths, Words, chosen, condition, shown};
 use row_files::{Count, Fault};
 use std::alloc::Global;
 
-/// Which of the words of a list an automaton accepts.
+/// For each word of a list, whether the automaton accepts it.
 pub(crate) fn accepted(alloc: Global, a: &Automaton, words: &Words) -> Result<Vec<bool>, Memory> {
     Paths::new(alloc, a)?.accepted(alloc, a.formula(), words)
 }
 
-/// What to print of an automaton of which something was made that accepts other words.
+/// What is printed of an automaton, where something made of it accepts the wrong words.
 pub(crate) fn told(alloc: Global, call: &str, a: &Automaton) -> Result<String, Fault> {
     let text: Text = shown(alloc, a)?;
     let text = std::str::from_utf8(text.as_bytes()).unwrap_or("(no text)");
@@ -29,7 +29,7 @@ pub(crate) fn two_states(
     chosen(alloc, choices, b"a", 2, &[0, 0, 1, 1], condition)
 }
 
-/// Automata and pairs of them, made complete, trimmed, joined and, in their Büchi form, pruned.
+/// Random automata and pairs of them: completion, trimming, sum and products, and pruning of the Büchi form.
 pub(crate) fn operations(rt: &HostRuntime, count: &mut Count) -> Result<(), Fault> {
     let alloc = rt.alloc();
     let words = Words::new(alloc, 4, 1, 2)?;
@@ -61,7 +61,7 @@ fn over_one(
     chosen(alloc, choices, names, 2, &[0, 0, 1], condition)
 }
 
-/// Whether the operations on one automaton keep its words.
+/// Whether completion, trimming and pruning keep the words of an automaton.
 fn keep(alloc: Global, a: &Automaton, own: &[bool], words: &Words) -> Result<bool, Fault> {
     Ok(
         accept(alloc, make(alloc, Single::Complete, a)?, own, words)?
@@ -77,7 +77,7 @@ fn prune_keeps(alloc: Global, made: Made, own: &[bool], words: &Words) -> Result
     }
 }
 
-/// Whether sum and products accept the words of one of two automata, or of both.
+/// Whether the sum and the products of two automata accept the words that one of them accepts, or both.
 fn join(
     alloc: Global,
     a: &Automaton,
@@ -109,7 +109,7 @@ fn join(
     )
 }
 
-/// Whether an automaton was made that accepts just these words.
+/// Whether an automaton was made and accepts exactly these words.
 fn accept(alloc: Global, made: Made, wanted: &[bool], words: &Words) -> Result<bool, Fault> {
     match made {
         Made::Automaton(made) => Ok(accepted(alloc, &made, words)?.as_slice() == wanted),
@@ -117,7 +117,7 @@ fn accept(alloc: Global, made: Made, wanted: &[bool], words: &Words) -> Result<b
     }
 }
 
-/// An automaton under each condition, its copies without Fin, and its Büchi form.
+/// An automaton under each small condition, with its copies without Fin and its Büchi form.
 pub(crate) fn forms(rt: &HostRuntime, count: &mut Count) -> Result<(), Fault> {
     let alloc = rt.alloc();
     let words = Words::new(alloc, 2, 2, 3)?;
@@ -137,7 +137,7 @@ pub(crate) fn forms(rt: &HostRuntime, count: &mut Count) -> Result<(), Fault> {
     Ok(())
 }
 
-/// Automata over one name and over two, their parity automata and their complements.
+/// Automata over one name and over two, with their parity automata and their complements.
 pub(crate) fn parities(rt: &HostRuntime, count: &mut Count) -> Result<(), Fault> {
     let alloc = rt.alloc();
     let mut choices = Choices::chance();
@@ -154,7 +154,7 @@ pub(crate) fn parities(rt: &HostRuntime, count: &mut Count) -> Result<(), Fault>
     Ok(())
 }
 
-/// An automaton of one state to three, with two edges from each or, to be deterministic sometimes, with one.
+/// A random automaton of one state to three, with two edges from each, or one, so that some are deterministic.
 fn three_states(
     alloc: Global,
     choices: &mut Choices,
@@ -174,7 +174,7 @@ fn three_states(
     chosen(alloc, choices, names, states, from, condition)
 }
 
-/// What to print where the parity automaton of an automaton doesn't accept its words, or its complement not the others.
+/// What is printed where the parity automaton doesn't accept the words of an automaton, or its complement not the others.
 fn parity_differs(
     alloc: Global,
     a: &Automaton,
@@ -198,7 +198,7 @@ fn parity_differs(
     Ok(Some(told(alloc, "parity", a)?))
 }
 
-/// Whether each word has just one run in what was made.
+/// Whether each word has exactly one run in the automaton that was made.
 fn is_single(alloc: Global, made: &Made, letters: u32) -> Result<bool, Memory> {
     match made {
         Made::Automaton(made) => Ok(Paths::new(alloc, made)?.are_single(letters)),

@@ -1,4 +1,4 @@
-//! Automata by chance with `a` hidden, against hiding as it is defined.
+//! Random automata with `a` hidden, compared with the definition of hiding.
 
 use crate::compared::{accepted, told};
 use crate::made::hidden;
@@ -15,7 +15,7 @@ const WAYS: [(Hide, &str); 3] = [
     (Hide::Present, "present a"),
 ];
 
-/// Automata of two states and four edges, with each way of hiding.
+/// Random automata of two states and four edges, with each kind of hiding.
 pub(crate) fn compared(rt: &HostRuntime, count: &mut Count) -> Result<(), Fault> {
     let alloc = rt.alloc();
     let words = Words::new(alloc, 4, 1, 2)?;
@@ -36,7 +36,8 @@ pub(crate) fn compared(rt: &HostRuntime, count: &mut Count) -> Result<(), Fault>
     Ok(())
 }
 
-/// Whether a word is accepted with `a` hidden just where the automaton accepts some word that differs in `a` alone.
+/// Whether each word is accepted with `a` hidden exactly where the automaton accepts some word that differs from it in `a`
+/// alone.
 fn is_hidden(alloc: Global, a: &Automaton, how: Hide, words: &Words) -> Result<bool, Fault> {
     let blurred = Words {
         stems: blurred(alloc, how, &words.stems)?,
@@ -47,7 +48,7 @@ fn is_hidden(alloc: Global, a: &Automaton, how: Hide, words: &Words) -> Result<b
     Ok(accepted(alloc, &made, words)? == accepted(alloc, a, &blurred)?)
 }
 
-/// Lists of letters, each known by what it may be.
+/// Lists of letters, each with all letters that it may be with `a` hidden.
 fn blurred(alloc: Global, how: Hide, lists: &[Vec<u32>]) -> Result<Vec<Vec<u32>>, Memory> {
     let mut all = Vec::new(alloc);
     for list in lists {
@@ -60,7 +61,7 @@ fn blurred(alloc: Global, how: Hide, lists: &[Vec<u32>]) -> Result<Vec<Vec<u32>>
     Ok(all)
 }
 
-/// The letters that agree with this one on `b`: any of them, those without `a`, or those with it.
+/// The letters that agree with this one on `b`: all of them, those without `a`, or those with it.
 fn may_be(how: Hide, letter: u32) -> u32 {
     let alike = if letter < 4 { 0b0011 } else { 0b1100 };
     match how {

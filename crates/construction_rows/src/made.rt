@@ -1,4 +1,4 @@
-//! The constructions, each called in one place.
+//! The constructions, each called in a single function.
 
 ghost use Rattle.std.specs.Prelude.{◌≡◌, ◌<◌, IsTrue, false};
 ghost use Rattle.aut_base.specs.Formula.{Inf, formula_tree};
@@ -16,20 +16,20 @@ use parity_det::{CompFault, complement, parity};
 use row_files::Fault;
 use std::alloc::Global;
 
-/// The numbers of states and sets of the automata that are made complete.
+/// The greatest numbers of states and sets of the automata that are completed.
 const MOST: u32 = 1000;
 
-/// Copies of any automaton with so many states can be numbered.
+/// The greatest number of states of which copies can be numbered.
 const MOST_STATES: u32 = 4_190_211;
 
-/// What is made, or the word for what refuses it.
+/// The automaton that is made, or the word for why none is.
 #[derive(Drop)]
 pub(crate) enum Made {
     Automaton(Automaton),
     Refused(&'static str),
 }
 
-/// What is made of one automaton.
+/// The constructions on one automaton.
 #[derive(Clone, Copy)]
 pub(crate) enum Single {
     Complete,
@@ -43,7 +43,7 @@ pub(crate) enum Single {
     Complement,
 }
 
-/// What is made of two automata.
+/// The constructions on two automata.
 #[derive(Clone, Copy)]
 pub(crate) enum Double {
     Sum,
@@ -90,7 +90,7 @@ pub(crate) fn hidden(
     remove_ap(alloc, a, name, how)
 }
 
-/// Whether the numbers of states and sets are far below the last of their type.
+/// Whether the numbers of states and sets are far below 2^32.
 fn are_small(a: &Automaton, b: &Automaton) -> bool
     ensures { IsTrue result → AreSmall a.now b.now }
 {
@@ -127,7 +127,7 @@ fn prune_one(alloc: Global, a: &Automaton) -> Result<Automaton, Memory>
     prune(alloc, a)
 }
 
-/// Whether the condition is that set 0 comes again and again.
+/// Whether the condition is `Inf(0)`.
 #[tactic(auto, using(aut_base::proofs::trees::FormulaTrees::formula_trees))]
 fn is_again(condition: &Formula) -> bool
     ensures { IsTrue result → formula_tree condition.now ≡ Inf 0 false }
@@ -138,7 +138,7 @@ fn is_again(condition: &Formula) -> bool
     }
 }
 
-/// Whether there is one set, and the condition is that it comes again and again.
+/// Whether there is one set, and the condition is `Inf(0)`.
 fn has_one_set(a: &Automaton) -> bool
     ensures { IsTrue result → HasOneSet a.now }
 {

@@ -1,5 +1,5 @@
-//! Tells whether what constructions make of automata is what was worked out by hand, and whether what they make of small
-//! automata accepts the words that it should.
+//! Tells whether constructions make of automata what was worked out by hand, and whether what they make of small automata
+//! accepts the words that it should.
 #![tactic(auto)]
 
 mod calls;
@@ -29,7 +29,7 @@ fn main(rt: HostRuntime) -> Result<(), Stop> {
     count.end(&rt)
 }
 
-/// The rows that stand in no file: automata by chance.
+/// The rows that are in no file: random automata.
 fn try_small(rt: &HostRuntime, count: &mut Count) -> Result<(), Stop> {
     oracles::agree(rt, count)?;
     compared::operations(rt, count)?;

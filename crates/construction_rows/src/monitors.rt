@@ -1,4 +1,4 @@
-//! Automata by chance, against their monitors.
+//! Random automata, compared with their monitors.
 
 use crate::compared::{accepted, told, two_states};
 use crate::made::{Made, Single, make};
@@ -8,8 +8,8 @@ use row_automata::{Choices, Paths, Words};
 use row_files::{Count, Fault};
 use std::alloc::Global;
 
-/// How many letters of a word are looked at. Three sets of states at three places of a cycle behind a stem of two letters come
-/// again before.
+/// The length of the prefixes that are tried: after a stem of two letters, three sets of states at three positions of a cycle
+/// repeat by then.
 const LONGEST: usize = 14;
 
 /// Automata of two states under every tenth condition.
@@ -30,7 +30,7 @@ pub(crate) fn compared(rt: &HostRuntime, count: &mut Count) -> Result<(), Fault>
     Ok(())
 }
 
-/// The words each of whose beginnings can be gone on with so that the automaton accepts.
+/// The words each of whose prefixes can be continued to a word that the automaton accepts.
 fn wanted(alloc: Global, a: &Automaton, words: &Words, ends: &Words) -> Result<Vec<bool>, Memory> {
     let paths = Paths::new(alloc, a)?;
     let alive = paths.alive(alloc, a.formula(), ends)?;
@@ -43,7 +43,7 @@ fn wanted(alloc: Global, a: &Automaton, words: &Words, ends: &Words) -> Result<V
     Ok(wanted)
 }
 
-/// Whether each beginning of the word leads to a state from which some word is accepted.
+/// Whether each prefix of the word leads to a state from which some word is accepted.
 fn goes_on(
     alloc: Global,
     paths: &Paths,

@@ -1,4 +1,4 @@
-//! Two ways to find out whether a word is accepted, each tried against the other.
+//! Two ways to decide whether a word is accepted, compared with each other.
 
 use crate::compared::{accepted, told};
 use aut_core::Automaton;
@@ -6,7 +6,8 @@ use row_automata::{Choices, Word, Words, accepts, chosen, condition};
 use row_files::{Count, Fault};
 use std::alloc::Global;
 
-/// All automata over `a` of two states with an edge from each, and some with more edges, under one condition after the other.
+/// All automata over `a` of two states with an edge from each, and some with more edges; the condition changes from one to
+/// the next.
 pub(crate) fn agree(rt: &HostRuntime, count: &mut Count) -> Result<(), Fault> {
     let alloc = rt.alloc();
     let words = Words::new(alloc, 2, 1, 2)?;

@@ -6,7 +6,7 @@ use row_automata::{automaton, marks};
 use row_files::Fault;
 use std::alloc::Global;
 
-/// The ring of so many states whose last edge is in the first of two sets, both to be met again and again.
+/// A ring of so many states whose last edge is in the first of two sets, under `Inf(0) & Inf(1)`.
 pub(crate) fn ring(alloc: Global, states: u32) -> Result<Automaton, Fault> {
     let mut edges = Edges::new(alloc);
     for from in 0..states {
@@ -22,7 +22,7 @@ pub(crate) fn ring(alloc: Global, states: u32) -> Result<Automaton, Fault> {
     standing(alloc, states, edges, both)
 }
 
-/// One state with a loop in set 0, under so many times `Fin(0) | Inf(1)`.
+/// One state with a loop in set 0, under a conjunction of so many times `Fin(0) | Inf(1)`.
 pub(crate) fn choices(alloc: Global, count: u32) -> Result<Automaton, Fault> {
     let mut parts = Formulas::pair(alloc, choice(alloc)?, choice(alloc)?)?;
     for _ in 2..count {
@@ -47,7 +47,7 @@ fn inf(set: u32) -> Formula {
     Formula::Inf { set, neg: false }
 }
 
-/// The automaton over `a` that starts in the first state.
+/// The automaton over `a` of these edges that starts in the first state.
 fn standing(
     alloc: Global,
     states: u32,

@@ -1,4 +1,4 @@
-//! The decisions, each called in one place.
+//! The decision procedures, each called in a single function.
 
 ghost use Rattle.std.specs.Prelude.{◌+◌, ◌<◌, ◌^◌};
 
@@ -14,17 +14,17 @@ use unambiguous::{SquareFault, is_unambiguous};
 /// More sets than the automata of rows have.
 const MOST: u32 = 1000;
 
-/// What is found, or the word for what refuses it.
+/// The word that is found, that there is none, or the word for why neither is known.
 #[derive(Drop)]
 pub(crate) enum Found {
     Word(Lasso),
     Nothing,
     Refused(&'static str),
-    /// Two calls that should agree don't.
+    /// Two calls that should agree disagree.
     Apart,
 }
 
-/// A word that the automaton accepts. What is said without a word has to agree.
+/// A word that the automaton accepts. The call that answers without a word has to agree.
 pub(crate) fn word_of(alloc: Global, a: &Automaton) -> Result<Found, Memory> {
     let found = found_word(alloc, a)?;
     if accepts_some(alloc, a)? != found.is_some() {
@@ -40,7 +40,7 @@ fn found_word(alloc: Global, a: &Automaton) -> Result<Option<Lasso>, Memory> {
     accepted_word(alloc, a)
 }
 
-/// A word that both accept. What is said without a word has to agree.
+/// A word that both accept. The call that answers without a word has to agree.
 pub(crate) fn word_of_both(alloc: Global, a: &Automaton, b: &Automaton) -> Result<Found, Fault> {
     if a.sets() > MOST || b.sets() > MOST {
         return Ok(Found::Refused("large"));
@@ -71,7 +71,7 @@ fn said_of_both(alloc: Global, a: &Automaton, b: &Automaton) -> Result<bool, Pai
     accept_together(alloc, a, b)
 }
 
-/// What is said of the runs of an automaton.
+/// Whether the automaton is unambiguous.
 pub(crate) fn verdict(alloc: Global, a: &Automaton) -> Result<&'static str, Fault> {
     if a.sets() > MOST {
         return Ok("large");

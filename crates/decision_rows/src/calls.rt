@@ -1,4 +1,4 @@
-//! What rows ask for by name.
+//! The calls of rows, by their names.
 
 use crate::ask_about::{Found, verdict, word_of, word_of_both};
 use crate::runs::{is_reduced, read_word};
@@ -9,7 +9,7 @@ use row_automata::{accepts, push_number, read};
 use row_files::{Answers, Fault, kind_and_rest, number};
 use std::alloc::Global;
 
-/// Answers whether there is a word, and how long it is where the automaton is large, or what is said of the runs.
+/// Answers whether there is a word, how long it is where the automaton is large, or whether the automaton is unambiguous.
 #[derive(Drop)]
 pub(crate) struct Decisions;
 
@@ -34,7 +34,7 @@ impl Answers for Decisions {
     }
 }
 
-/// The calls on large automata, which aren't written out.
+/// The calls on large automata, which rows name by their shape.
 fn large_answer(alloc: Global, call: &str, line: &str) -> Result<Text, Fault> {
     match call {
         "word_of_line" => length_answer(alloc, &word_of(alloc, &self::line(alloc, line)?)?),
@@ -53,7 +53,7 @@ fn large_answer(alloc: Global, call: &str, line: &str) -> Result<Text, Fault> {
     }
 }
 
-/// Whether there is a word. One that is found has to be accepted by both and to be reduced.
+/// Whether there is a word. If so, it has to be reduced, and both have to accept it.
 fn word_answer(alloc: Global, found: &Found, a: &Automaton, b: &Automaton) -> Result<Text, Fault> {
     match found {
         Found::Word(word) => {
@@ -79,7 +79,7 @@ pub(crate) fn is_right(
     Ok(is_reduced(&read) && accepts(alloc, a, &read)? && accepts(alloc, b, &read)?)
 }
 
-/// The lengths of the stem and the cycle of the word that is found.
+/// The lengths of the stem and the cycle of the word.
 fn length_answer(alloc: Global, found: &Found) -> Result<Text, Fault> {
     match found {
         Found::Word(word) => Ok(pair(alloc, word.stem.len(), word.cycle.len())?),

@@ -1,4 +1,4 @@
-//! Automata by chance, and whether a word is found where some short word is accepted.
+//! Random automata: a word is found exactly where some short word is accepted.
 
 use crate::ask_about::{Found, word_of};
 use crate::calls::is_right;
@@ -8,7 +8,7 @@ use row_automata::{Choices, Paths, Words, chosen, condition, shown};
 use row_files::{Count, Fault};
 use std::alloc::Global;
 
-/// What to print of automata of which something wrong is said.
+/// What is printed of automata on which an answer is wrong.
 pub(crate) fn told(
     alloc: Global,
     call: &str,
@@ -22,12 +22,12 @@ pub(crate) fn told(
     Ok(format!(in alloc; "? {call}\n< {first}\n< {second}")?)
 }
 
-/// Which of the words of a list an automaton accepts.
+/// For each word of a list, whether the automaton accepts it.
 pub(crate) fn accepted(alloc: Global, a: &Automaton, words: &Words) -> Result<Vec<bool>, Memory> {
     Paths::new(alloc, a)?.accepted(alloc, a.formula(), words)
 }
 
-/// Automata of two states with three edges, under one condition after the other.
+/// Random automata of two states with three edges; the condition changes from one to the next.
 pub(crate) fn compared(rt: &HostRuntime, count: &mut Count) -> Result<(), Fault> {
     let alloc = rt.alloc();
     let words = Words::new(alloc, 2, 2, 4)?;

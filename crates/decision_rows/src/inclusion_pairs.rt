@@ -1,4 +1,4 @@
-//! Pairs of automata by chance, and whether a word is found where both accept some short word.
+//! Random pairs of automata: a word is found exactly where both accept some short word.
 
 use crate::ask_about::{Found, word_of_both};
 use crate::calls::is_right;
@@ -9,7 +9,7 @@ use row_automata::{Choices, Words, chosen, condition};
 use row_files::{Count, Fault};
 use std::alloc::Global;
 
-/// Pairs of automata of three states, with two edges from each, over one or both of the names.
+/// Random pairs of automata of three states, with two edges from each, over one or both of the names.
 pub(crate) fn compared(rt: &HostRuntime, count: &mut Count) -> Result<(), Fault> {
     let alloc = rt.alloc();
     let words = Words::new(alloc, 4, 2, 3)?;

@@ -1,5 +1,5 @@
-//! Tells whether what is decided of automata is what was worked out by hand, and of small automata what is found by trying
-//! words and runs.
+//! Compares what is decided of automata with what was worked out by hand, and of small automata with what a search through
+//! words and runs finds.
 #![tactic(auto)]
 
 mod ask_about;

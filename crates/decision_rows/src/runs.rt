@@ -1,10 +1,10 @@
-//! Words that are found, as the oracles take them.
+//! Lasso words, in the form that the oracles read.
 
 use aut_base::{Lasso, Letter, Memory, Text};
 use row_automata::Word;
 use std::alloc::Global;
 
-/// The word over `a` and `b`. A letter with another name stands as none, which no edge reads.
+/// The word over `a` and `b`. A letter with another name becomes one that no edge reads.
 pub(crate) fn read_word(alloc: Global, word: &Lasso) -> Result<Word, Memory> {
     Ok(Word {
         stem: letters(alloc, word.stem.as_slice())?,
@@ -37,7 +37,8 @@ fn bit(has_a: bool, has_b: bool) -> u32 {
     }
 }
 
-/// Whether the cycle is no repetition, and the stem ends in another letter.
+/// Whether the word is reduced: the cycle is no repetition of a shorter one, and the stem ends in another letter than the
+/// cycle.
 pub(crate) fn is_reduced(word: &Word) -> bool {
     if !word.stem.is_empty() && word.stem.last() == word.cycle.last() {
         return false;
@@ -50,7 +51,7 @@ pub(crate) fn is_reduced(word: &Word) -> bool {
     !word.cycle.is_empty()
 }
 
-/// Whether each letter is the one so many places before it.
+/// Whether the cycle repeats its first `part` letters.
 fn repeats(cycle: &[u32], part: usize) -> bool {
     cycle
         .iter()

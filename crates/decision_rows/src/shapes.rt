@@ -1,4 +1,4 @@
-//! Large automata over `a`: rings, at the limit of pairs, and lines in which a recursion over the states would go deep.
+//! Large automata over `a`: rings, at the limit of pairs, and lines, in which a recursion over the states would go deep.
 
 use aut_base::{Edge, Edges, Formula, Formulas, Label, Memory, Numbers};
 use aut_core::Automaton;
@@ -9,8 +9,8 @@ use std::alloc::Global;
 /// The number of states of a line.
 const STATES: u32 = 100_000;
 
-/// A ring whose first states are starts, with an edge from each state to the next where the name holds. The edge back is in
-/// the set that has to be met again and again, or is not.
+/// A ring whose first states are starts, with an edge from each state to the next where `a` holds. The edge back is in the
+/// set of the condition `Inf(0)`, or isn't.
 pub(crate) fn ring(
     alloc: Global,
     states: u32,
@@ -27,7 +27,7 @@ pub(crate) fn ring(
     standing(alloc, states, starts, edges, again)
 }
 
-/// A line of states under `Inf(0) & Fin(1)`, with an edge from each to the next where the name holds. Where it fails,
+/// A line of states under `Inf(0) & Fin(1)`, with an edge from each to the next where `a` holds. Where `a` doesn't hold,
 /// - `marked`: the last has a loop in set 0;
 /// - `unmarked`: it has one in no set;
 /// - `ring`: the last leads back to the first, in set 0;
@@ -53,7 +53,7 @@ pub(crate) fn line(alloc: Global, shape: &str) -> Result<Automaton, Fault> {
     standing(alloc, STATES, 1, edges, both)
 }
 
-/// An edge where the name holds or fails, and a bit for each of its sets.
+/// An edge where `a` holds, or where it doesn't, in the sets whose bits are set.
 fn edge(alloc: Global, from: u32, holds: bool, to: u32, sets: u32) -> Result<Edge, Memory> {
     let label = if holds {
         Label::Prop(0)

@@ -1,4 +1,4 @@
-//! Automata by chance, and whether two runs over one word differ, by the definition: pairs of paths of few edges are tried.
+//! Random automata: ambiguity by its definition, with a search through all pairs of short paths.
 
 use crate::ask_about::verdict;
 use crate::emptiness::told;
@@ -8,11 +8,10 @@ use row_automata::{Choices, chosen, condition, marks};
 use row_files::{Count, Fault};
 use std::alloc::Global;
 
-/// The most edges of a run, those of its cycle gone once.
+/// The most edges of a run, its cycle counted once.
 const LENGTH: usize = 5;
 
-/// An edge, with a bit for each letter at which it can be gone, where the name fails and where it holds, and for each of its
-/// sets.
+/// An edge, with a bit for each letter that it reads (where `a` fails and where it holds) and for each of its sets.
 #[derive(Clone, Copy)]
 struct Way {
     from: u32,
@@ -21,10 +20,10 @@ struct Way {
     sets: u32,
 }
 
-/// A path, or no edge where it has ended.
+/// A path, with no edge after its end.
 type Path = [Option<Way>; LENGTH];
 
-/// Automata of two states with three edges, under one condition after the other.
+/// Random automata of two states with three edges; the condition changes from one to the next.
 pub(crate) fn compared(rt: &HostRuntime, count: &mut Count) -> Result<(), Fault> {
     let alloc = rt.alloc();
     let mut choices = Choices::chance();
@@ -52,8 +51,8 @@ pub(crate) fn compared(rt: &HostRuntime, count: &mut Count) -> Result<(), Fault>
     Ok(())
 }
 
-/// Whether over some word of few letters two accepting runs differ. Two runs over one word close together where they go
-/// round more often, so it is enough to try paths of one length whose cycles have one length.
+/// Whether two different accepting runs read one short word. Two runs over one word return to their states together after
+/// enough rounds, so paths of one length with cycles of one length suffice.
 fn has_two_runs(alloc: Global, a: &Automaton) -> Result<bool, Memory> {
     let ways = ways(alloc, a)?;
     let runs = runs(alloc, a, &ways)?;
@@ -67,7 +66,7 @@ fn has_two_runs(alloc: Global, a: &Automaton) -> Result<bool, Memory> {
     Ok(false)
 }
 
-/// The edges that can be gone at some letter.
+/// The edges that read some letter.
 fn ways(alloc: Global, a: &Automaton) -> Result<Vec<Way>, Memory> {
     let mut ways = Vec::new(alloc);
     for link in a.links() {
@@ -81,7 +80,7 @@ fn ways(alloc: Global, a: &Automaton) -> Result<Vec<Way>, Memory> {
     Ok(ways)
 }
 
-/// The letters of an edge, by the numbers of valuations of the only name.
+/// The letters that an edge reads, by the numbers of valuations of the only name.
 fn letters(a: &Automaton, link: &Link) -> u32 {
     if !a.guards().has(link.guard) {
         return 0;
@@ -91,7 +90,8 @@ fn letters(a: &Automaton, link: &Link) -> u32 {
     off | on << 1
 }
 
-/// All paths of few edges from a start. An edge has the number of its place, and the end of a path that behind the last.
+/// All short paths from a start, by the digits of numbers: a digit is the index of an edge, and the number of edges ends the
+/// path.
 fn runs(alloc: Global, a: &Automaton, ways: &[Way]) -> Result<Vec<Path>, Memory> {
     let mut runs = Vec::new(alloc);
     for number in 0..1024u32 {
@@ -103,7 +103,7 @@ fn runs(alloc: Global, a: &Automaton, ways: &[Way]) -> Result<Vec<Path>, Memory>
     Ok(runs)
 }
 
-/// The path of the digits of a number to the base four.
+/// The path of the digits of a number in base four.
 fn path(ways: &[Way], number: u32) -> Path {
     let mut rest = number;
     let mut path = [None; LENGTH];
@@ -114,7 +114,7 @@ fn path(ways: &[Way], number: u32) -> Path {
     path
 }
 
-/// Whether the path begins at a start, and each edge where the one before it ends. Behind its end there is no edge.
+/// Whether the path begins at a start, each edge begins where the one before it ends, and no edge comes after its end.
 fn is_run(a: &Automaton, path: &Path) -> bool {
     let mut state = None;
     let mut is_over = false;
@@ -136,7 +136,7 @@ fn is_run(a: &Automaton, path: &Path) -> bool {
     state.is_some()
 }
 
-/// Whether the paths have one length and at each place some letter meets both edges.
+/// Whether the paths have the same length and at each position some letter is read by both edges.
 fn read_alike(path: &Path, other: &Path) -> bool {
     path.iter().zip(other.iter()).all(|(first, second)| match (first, second) {
         (None, None) => true,
@@ -145,7 +145,7 @@ fn read_alike(path: &Path, other: &Path) -> bool {
     })
 }
 
-/// Whether from some place on both are cycles that meet the condition.
+/// Whether from some position on both are cycles that meet the condition.
 fn both_accept(
     alloc: Global,
     formula: &Formula,
@@ -162,7 +162,7 @@ fn both_accept(
     Ok(false)
 }
 
-/// Whether the path from this place on is a cycle that meets the condition.
+/// Whether the path is a cycle that meets the condition from this position on.
 fn accepts_from(
     alloc: Global,
     formula: &Formula,

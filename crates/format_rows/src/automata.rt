@@ -1,4 +1,4 @@
-//! An automaton as it is written, in words: parts of a conjunction or disjunction stand behind its sign.
+//! An automaton as it was parsed, in words: a conjunction or disjunction in Polish notation.
 
 use crate::conditions::show_formula;
 use crate::parts::{show_count, show_marks, show_number, show_numbers, show_text, show_texts};

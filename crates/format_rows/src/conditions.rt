@@ -1,4 +1,4 @@
-//! An acceptance condition in words: parts of a conjunction or disjunction stand behind its sign.
+//! An acceptance condition in words: a conjunction or disjunction in Polish notation.
 
 use crate::parts::show_number;
 use aut_base::{Formula, Formulas, Memory, Text};
@@ -19,7 +19,7 @@ fn show_set(
     show_number(alloc, line, u64::from(set))
 }
 
-/// Adds a condition of one node, or `?` for another.
+/// Adds a condition without parts, or `?` for another.
 fn show_node(alloc: Global, line: &mut Text, formula: &Formula) -> Result<(), Memory> {
     match formula {
         Formula::True => line.push(b't'),
@@ -30,7 +30,7 @@ fn show_node(alloc: Global, line: &mut Text, formula: &Formula) -> Result<(), Me
     }
 }
 
-/// Adds the parts of a condition, each of one node.
+/// Adds the parts of a condition, none of which has parts.
 fn show_nodes(alloc: Global, line: &mut Text, parts: &Formulas) -> Result<(), Memory> {
     for place in 0..parts.len() {
         line.push(b' ')?;
@@ -39,7 +39,7 @@ fn show_nodes(alloc: Global, line: &mut Text, parts: &Formulas) -> Result<(), Me
     line.push(b')')
 }
 
-/// Adds a condition whose parts have one node each.
+/// Adds a condition whose parts have none.
 fn show_flat(alloc: Global, line: &mut Text, formula: &Formula) -> Result<(), Memory> {
     match formula {
         Formula::And(parts) => {
@@ -54,7 +54,7 @@ fn show_flat(alloc: Global, line: &mut Text, formula: &Formula) -> Result<(), Me
     }
 }
 
-/// Adds the parts of a condition, each of which is flat.
+/// Adds the parts of a condition, whose own parts have none.
 fn show_flats(alloc: Global, line: &mut Text, parts: &Formulas) -> Result<(), Memory> {
     for place in 0..parts.len() {
         line.push(b' ')?;
@@ -63,7 +63,7 @@ fn show_flats(alloc: Global, line: &mut Text, parts: &Formulas) -> Result<(), Me
     line.push(b')')
 }
 
-/// Adds a condition whose parts are flat.
+/// Adds a condition of at most three levels; deeper ones are `?`.
 pub(crate) fn show_formula(
     alloc: Global,
     line: &mut Text,

@@ -1,4 +1,4 @@
-//! What is described, or why nothing is, in words.
+//! What `describe` answers, in words: the automaton that is described, or the fault.
 
 use crate::conditions::show_formula;
 use crate::parts::{show_count, show_marks, show_number, show_numbers, show_texts};
@@ -17,7 +17,7 @@ fn show_refusal(alloc: Global, line: &mut Text, fault: ElabFault) -> Result<(), 
     line.extend(words.as_bytes())
 }
 
-/// Adds a label of one node, or of one behind `!`, or `?` for another.
+/// Adds a label that is an atom or a negated atom, or `?` for another.
 fn show_node(alloc: Global, line: &mut Text, label: &Label) -> Result<(), Memory> {
     match label {
         Label::True => line.push(b't'),
@@ -38,7 +38,7 @@ fn show_node(alloc: Global, line: &mut Text, label: &Label) -> Result<(), Memory
     }
 }
 
-/// Adds the parts of a label, each of one node.
+/// Adds the parts of a label, each an atom or a negated one.
 fn show_nodes(alloc: Global, line: &mut Text, parts: &Labels) -> Result<(), Memory> {
     for place in 0..parts.len() {
         line.push(b' ')?;
@@ -47,7 +47,7 @@ fn show_nodes(alloc: Global, line: &mut Text, parts: &Labels) -> Result<(), Memo
     line.push(b')')
 }
 
-/// Adds a label whose parts have one node each.
+/// Adds a label of at most two levels.
 fn show_label(alloc: Global, line: &mut Text, label: &Label) -> Result<(), Memory> {
     match label {
         Label::And(parts) => {
@@ -88,7 +88,7 @@ fn show_description(alloc: Global, line: &mut Text, described: &Description) -> 
     Ok(())
 }
 
-/// Adds what `describe` answers: what is described only where it is asked for.
+/// Adds what `describe` answers: the automaton itself only where the row asks for it.
 pub(crate) fn show_described(
     alloc: Global,
     line: &mut Text,

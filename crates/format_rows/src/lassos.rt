@@ -1,4 +1,4 @@
-//! Lasso words of rows.
+//! Lasso words, in the notation of rows.
 
 use aut_base::{Lasso, Letter, Letters, Names, Text};
 use row_files::Fault;
@@ -11,8 +11,8 @@ pub(crate) struct Named {
     pub(crate) word: Lasso,
 }
 
-/// The word of a text such as `ab|c`: a letter for each byte, with the byte as its name, or the letter without names for
-/// `-`. Behind the bar stands the cycle.
+/// The word of a text such as `ab|c`: each byte is a letter with this byte as its only name, `-` is the letter without names,
+/// and the cycle comes after the bar.
 pub(crate) fn simple_word(alloc: Global, text: &[u8]) -> Result<Lasso, Fault> {
     let mut stem = Letters::new(alloc);
     let mut cycle = Letters::new(alloc);
@@ -29,7 +29,7 @@ pub(crate) fn simple_word(alloc: Global, text: &[u8]) -> Result<Lasso, Fault> {
     whole(stem, cycle)
 }
 
-/// A word that is not without cycle.
+/// The word of this stem and cycle; a cycle without letters is a fault.
 fn whole(stem: Letters, cycle: Letters) -> Result<Lasso, Fault> {
     if cycle.is_empty() {
         return Err(Fault::Missing);
@@ -45,7 +45,7 @@ fn simple_letter(alloc: Global, byte: u8) -> Result<Letter, Fault> {
     Ok(letter)
 }
 
-/// The word of so many letters in its cycle, `a` and `b` by turns.
+/// The word with a cycle of so many letters, `a` and `b` in turns.
 pub(crate) fn long_word(alloc: Global, letters: u32) -> Result<Lasso, Fault> {
     let mut cycle = Letters::new(alloc);
     for place in 0..letters {
@@ -55,8 +55,8 @@ pub(crate) fn long_word(alloc: Global, letters: u32) -> Result<Lasso, Fault> {
     whole(Letters::new(alloc), cycle)
 }
 
-/// The word of a text such as `a,b/01,-/1`: names, the letters of the stem and those of the cycle. A letter has a digit for
-/// each name that it holds.
+/// The word of a text such as `a,b/01,-/1`: names, the letters of the stem, and those of the cycle. A letter has a digit for
+/// each name that holds in it.
 pub(crate) fn named_word(alloc: Global, text: &[u8]) -> Result<Named, Fault> {
     let mut names = Names::new(alloc);
     let mut stem = Letters::new(alloc);

@@ -1,5 +1,5 @@
-//! Makes the calls of the lexer, the reader and `word_syntax` on each row of the files of rows, and prints which rows came
-//! out otherwise.
+//! Calls the lexer, the parser, the reader and `word_syntax` on each row of the files of rows, and prints the rows whose
+//! answers are others than those that are stated.
 #![tactic(auto)]
 
 mod automata;

@@ -1,4 +1,4 @@
-//! Words, patterns and automata of patterns, in words.
+//! Word patterns, words and automata of patterns, in words.
 
 use crate::parts::show_number;
 use aut_base::{Label, Labels, Lasso, Letter, Memory, Text};
@@ -6,11 +6,11 @@ use aut_core::Automaton;
 use std::alloc::Global;
 use word_syntax::{LabelList, Pattern};
 
-/// How deep a formula is written.
+/// The greatest depth of a formula that is written.
 const DEPTH: u32 = 2_000;
 
-/// The names with commas between them, a space, and the letters: those of the stem each followed by `;`, and those of the
-/// cycle in braces with `;` between them. A formula stands in Polish notation, with a number for each proposition.
+/// The names with commas between them, a space, and the letters: each of the stem with `;` after it, and those of the cycle
+/// in braces with `;` between them. A formula is in Polish notation, with a number for each proposition.
 pub(crate) fn pattern(alloc: Global, pattern: &Pattern) -> Result<Text, Memory> {
     let mut text = Text::new(alloc);
     for (place, name) in pattern.names.as_slice().iter().enumerate() {
@@ -79,7 +79,7 @@ fn add_labels(alloc: Global, text: &mut Text, parts: &Labels, depth: u32) -> Res
     text.extend(b")")
 }
 
-/// The word as rows write it: the first name of each letter, or `-`.
+/// The word in the notation of rows: the first name of each letter, or `-`.
 pub(crate) fn simple_word(alloc: Global, word: &Lasso) -> Result<Text, Memory> {
     let mut text = Text::new(alloc);
     for letter in word.stem.as_slice() {
@@ -99,7 +99,7 @@ fn add_letter(text: &mut Text, letter: &Letter) -> Result<(), Memory> {
     }
 }
 
-/// The number of states, and for each edge its ends.
+/// The number of states, and the two ends of each edge.
 pub(crate) fn automaton(alloc: Global, automaton: &Automaton) -> Result<Text, Memory> {
     let mut text = Text::new(alloc);
     show_number(alloc, &mut text, u64::from(automaton.states()))?;

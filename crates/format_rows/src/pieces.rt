@@ -1,4 +1,4 @@
-//! Sources that have bytes at hand: a text that comes in two pieces.
+//! A source whose text comes in two pieces, each of them as bytes at hand.
 
 use aut_base::{Memory, Text};
 use aut_io::Inputs;
@@ -25,7 +25,7 @@ impl Opener for NoFiles {
     }
 }
 
-/// A source of one text, opened, which comes in two pieces that are cut at this place. Each piece is at hand at once.
+/// A source of one text, opened, that comes in two pieces, cut at this byte. All bytes of a piece are at hand at once.
 pub(crate) fn cut(
     alloc: Global,
     text: &[u8],

@@ -1,4 +1,4 @@
-//! The calls of the lexer and the reader, and their answers in words.
+//! The calls of the lexer, the parser and the reader, and their answers in words.
 
 ghost use Rattle.std.specs.Prelude.{◌≡◌, false};
 
@@ -18,13 +18,13 @@ use std::alloc::Global;
 pub(crate) enum Call {
     /// `Lexer::next`
     Next,
-    /// `Lexer::next`, until there is no other
+    /// `Lexer::next`, until no token is left
     All,
     /// `read_raw`
     ReadRaw,
-    /// `describe`, in short
+    /// `describe`, without the automaton
     Describe,
-    /// `describe`, with what is described
+    /// `describe`, with the automaton
     Description,
 }
 
@@ -42,7 +42,7 @@ impl Call {
     }
 }
 
-/// Which call is made, how often at most, and behind how many answers a new text begins.
+/// Which call is made, how often at most, and after how many answers a new text begins.
 #[derive(Clone, Copy)]
 pub(crate) struct Script {
     pub(crate) call: Call,
@@ -61,7 +61,7 @@ pub(crate) fn opened(alloc: Global, text: &[u8], failing: Numbers) -> Result<Mem
     Ok(inputs)
 }
 
-/// What comes out of the calls that a script tells.
+/// The answers to the calls of a script.
 pub(crate) fn carry_out<I: Inputs + Drop>(
     alloc: Global,
     script: Script,
@@ -105,7 +105,7 @@ fn ask_all_times<I: Inputs>(
     Ok(())
 }
 
-/// How many bytes are left of the open text. They are taken, past reads that fail.
+/// How many bytes are left of the open text. They are read for it, again after reads that fail.
 fn bytes_left<I: Inputs>(inputs: &mut I) -> u32 {
     let mut left = 0u32;
     for _ in 0..u32::MAX {
@@ -118,7 +118,7 @@ fn bytes_left<I: Inputs>(inputs: &mut I) -> u32 {
     left
 }
 
-/// Adds the answer of one call, and answers whether there may be another.
+/// Adds the answer of a call, and answers whether another may follow.
 fn ask<I: Inputs>(
     alloc: Global,
     answer: &mut Text,
@@ -137,7 +137,7 @@ fn ask<I: Inputs>(
     }
 }
 
-/// Adds the next automaton, or what is answered of it.
+/// Adds the next automaton, or what is said of it.
 fn ask_automaton<I: Inputs>(
     alloc: Global,
     answer: &mut Text,

@@ -1,4 +1,4 @@
-//! One row: what a call is made on, and what it must answer.
+//! One row: the input of a call, and the answer that is stated.
 
 use crate::pieces::cut;
 use crate::reading::{self, Script, opened};
@@ -9,7 +9,7 @@ use row_files::{Fault, Row, add, add_escaped, copied, kind_and_rest, number, num
 use std::alloc::Global;
 use std::fmt;
 
-/// Which call rows are of.
+/// The crate whose call rows are of.
 #[derive(Clone, Copy)]
 enum Call {
     Reading(reading::Call),
@@ -36,26 +36,26 @@ impl fmt::Display for Ran {
     }
 }
 
-/// What the number of a run tells, where a row is run more than once.
+/// What the number of a run means, where a row is run several times.
 #[derive(Clone, Copy)]
 enum Each {
     Nothing,
     /// Which call of the inputs fails.
     Call,
-    /// How many bytes of the text are there.
+    /// How long the prefix of the text is that is read.
     Front,
     /// How many bytes the lexer may take.
     Most,
 }
 
-/// How many bytes a text has at most that is cut in two at each place.
+/// The longest text, in bytes, that is tried in two pieces at every cut.
 const LONGEST: usize = 400;
 
-/// What a call is made on and what it must answer, as far as the lines were read.
+/// The input of a call and the stated answer, as far as the row's lines were read.
 #[derive(Drop)]
 pub(crate) struct TextRow {
     call: Option<Call>,
-    /// The lines as they were read, but for that of the answer.
+    /// The lines as they were read, without that of the answer.
     lines: String,
     text: Text,
     failing: Numbers,
@@ -95,7 +95,7 @@ impl TextRow {
         !self.lines.as_str().is_empty()
     }
 
-    /// Adds to the lines that are printed where something else comes out.
+    /// Keeps a line, to be printed where the answer is another.
     fn keep(&mut self, mark: &str, line: &str) -> Result<(), Fault> {
         self.lines.push_str(mark)?;
         self.lines.push_str(line)?;
@@ -103,7 +103,7 @@ impl TextRow {
         Ok(())
     }
 
-    /// Takes the name of the call, for this row and those behind it.
+    /// Takes the name of the call, for this row and those after it.
     fn set_call(&mut self, name: &str) -> Result<(), Fault> {
         if self.is_begun() {
             return Err(Fault::Misplaced);
@@ -115,13 +115,13 @@ impl TextRow {
         Ok(())
     }
 
-    /// Adds to the answer, and tells whether it is whole: one that ends with its line is.
+    /// Adds to the stated answer, and answers whether it is complete, as a whole line is.
     fn add_answer(&mut self, rt: &HostRuntime, form: &str, rest: &str) -> Result<bool, Fault> {
         add(rt, &mut self.answer, form, rest)?;
         Ok(form.is_empty())
     }
 
-    /// Adds a piece without its `^`, whose offset is that of the fault that is wanted.
+    /// Adds a piece without its `^`. The stated answer is a fault at the offset of that.
     fn add_marked(&mut self, alloc: Global, piece: &str) -> Result<(), Fault> {
         let Some((front, back)) = piece.split_once('^') else {
             return Err(Fault::Missing);
@@ -137,7 +137,7 @@ impl TextRow {
         add_escaped(alloc, &mut self.text, back, 0)
     }
 
-    /// Takes a line that is no line of a text.
+    /// Takes a line that adds to no text.
     fn add_other(&mut self, alloc: Global, kind: &str, rest: &str) -> Result<(), Fault> {
         match kind {
             "failing-calls" => self.failing = numbers(alloc, rest)?,
@@ -154,7 +154,7 @@ impl TextRow {
         Ok(())
     }
 
-    /// Takes the numbers of the first run and the last.
+    /// Takes the first and the last number of runs.
     fn repeat(&mut self, each: Each, rest: &str) -> Result<(), Fault> {
         let (first, last) = range(rest)?;
         self.each = each;
@@ -163,7 +163,7 @@ impl TextRow {
         Ok(())
     }
 
-    /// What comes out of the run of this number.
+    /// The outcome of the run of this number.
     fn ran(&self, alloc: Global, run: u32) -> Result<Ran, Fault> {
         match self.call {
             Some(Call::Reading(call)) => self.read(alloc, call, run),
@@ -176,7 +176,7 @@ impl TextRow {
         }
     }
 
-    /// What comes out of the run of this number, of the lexer or the reader.
+    /// The outcome of the run of this number, of the lexer, the parser or the reader.
     fn read(&self, alloc: Global, call: reading::Call, run: u32) -> Result<Ran, Fault> {
         let mut failing = copied(alloc, &self.failing)?;
         let mut most = self.most;
@@ -194,7 +194,7 @@ impl TextRow {
         Ok(reading::carry_out(alloc, self.script(call), lexer, inputs)?)
     }
 
-    /// What comes out of the lexer or the reader where the text comes in two pieces, each of which is at hand at once.
+    /// The outcome where the text comes in two pieces, each at hand at once.
     fn read_in_pieces(
         &self,
         alloc: Global,
@@ -206,7 +206,7 @@ impl TextRow {
         Ok(reading::carry_out(alloc, self.script(call), lexer, inputs)?)
     }
 
-    /// How often this call is made, and where a new text begins.
+    /// How often the call is made, and after how many answers a new text begins.
     fn script(&self, call: reading::Call) -> Script {
         let times = match (self.times, call) {
             (Some(times), _) => times,
@@ -220,21 +220,21 @@ impl TextRow {
         }
     }
 
-    /// Whether a run answers, takes and leaves what is wanted.
+    /// Whether the outcome is the one that is stated.
     fn is_met(&self, ran: &Ran) -> bool {
         ran.answer == self.answer
             && self.taken.is_none_or(|taken| u64::from(taken) == ran.taken)
             && self.left.is_none_or(|left| left == ran.left)
     }
 
-    /// Adds to what is printed what came out of the run of this number, where it isn't what is wanted.
+    /// Adds the outcome of the run of this number to what is printed, where it is another than the stated one.
     fn add_different(&self, alloc: Global, shown: &mut String, run: u32) -> Result<(), Fault> {
         let ran = self.ran(alloc, run)?;
         self.compare(alloc, shown, "run", run as usize, &ran)
     }
 
-    /// Does the same of runs over the text in two pieces, cut at each place, where the row has one run, none of its calls fails and
-    /// the text isn't long.
+    /// The same for the text in two pieces, at every cut, where the row has one run, no call of it fails and the text isn't
+    /// long.
     fn add_pieces(&self, alloc: Global, shown: &mut String) -> Result<(), Fault> {
         let (Some(Call::Reading(call)), Each::Nothing) = (self.call, self.each) else {
             return Ok(());
@@ -249,7 +249,7 @@ impl TextRow {
         Ok(())
     }
 
-    /// Adds to what is printed what came out, where it isn't what is wanted.
+    /// Adds an outcome to what is printed, where it is another than the stated one.
     fn compare(
         &self,
         alloc: Global,

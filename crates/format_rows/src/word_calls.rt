@@ -22,7 +22,7 @@ pub(crate) enum Call {
     PatternAutomaton,
     /// `reduce`
     Reduce,
-    /// `reduce` of a cycle of so many letters, two by turns
+    /// `reduce` of a cycle of so many letters, `a` and `b` in turns
     ReduceLong,
     /// `print_word`
     PrintWord,

@@ -2,8 +2,8 @@
 use Rattle.std.specs.Prelude.{◌≡◌, ℕ, zero, suc, ◌&&◌, ◌==◌, true, MatchBool, List, [], ◌∷◌, ◌++◌}
 use Rattle.hoa_lexer.specs.Bytes.{is_space}
 
--- The bytes close this many open comments, and end where the last one does. Each `/*` opens one more, and its two
--- bytes are used: in `/*/` nothing is closed.
+-- The bytes close this many open comments, and end where the last one does. Each `/*` opens another comment, and its bytes
+-- are not read twice: `/*/` closes nothing.
 abbrev pub ClosesComments : ℕ → List ℕ → Type 0
 ClosesComments zero [] = Unit {0}
 ClosesComments zero (b ∷ bs) = ⊥
@@ -20,7 +20,7 @@ pub data IsBlanks : List ℕ → Type 0 where
   -- `/*`, then what closes it
   comment : {text : List ℕ} (body bs : List ℕ) → ClosesComments 1 body → IsBlanks bs → text ≡ 47 ∷ 42 ∷ (body ++ bs) → IsBlanks text
 
--- a comment opens here, and no front of what follows closes it
+-- a comment begins here, and the text ends before it is closed
 pub record IsOpenComment (bytes : List ℕ) : Type 0 where
   pub rest : List ℕ
   pub opens : bytes ≡ 47 ∷ 42 ∷ rest

@@ -1,4 +1,4 @@
--- What the definitions amount to.
+-- The statements of the lexer's laws: a text has one list of tokens, and the last byte of a token was needed.
 use Rattle.std.specs.Prelude.{◌≡◌, ℕ, ◌+◌, ◌==◌, true, is_some, not, length, Option, List, [], ◌∷◌, ◌++◌, map}
 use Rattle.std.specs.List.{list_all}
 use Rattle.hoa_lexer.specs.Blanks.{IsBlanks, IsOpenComment}
@@ -13,14 +13,14 @@ OneNextToken =
     (input : List ℕ) (start : ℕ) (t u : Token) (i k : ℕ) (rest rest' : List ℕ)
     → IsNext input start t i rest → IsNext input start u k rest' → (t ≡ u) × (i ≡ k) × (rest ≡ rest')
 
--- So a text has at most one list of tokens up to blanks.
+-- So a text that ends in blanks has at most one list of tokens.
 abbrev pub OneTokenList : Type 0
 OneTokenList =
     (input : List ℕ) (start : ℕ) (ts us : List (Token × ℕ)) (rest rest' : List ℕ)
     → Lexes input start ts rest → IsBlanks rest → Lexes input start us rest' → IsBlanks rest' → (ts ≡ us) × (rest ≡ rest')
 
--- What stands next in a text: nothing but blanks, a token at an offset with what follows it, bytes at an offset that can be
--- no token, or an end inside a comment, a string or another token.
+-- What comes next in a text: only blanks, a token with its offset and what follows it, an offset at which no token can begin,
+-- or an end inside a comment, a string or another token.
 pub data Next : Type 0 where
   NoMore : Next
   OneToken : Token → ℕ → List ℕ → Next
@@ -37,16 +37,16 @@ StandsNext InComment start text = AfterBlanks text IsOpenComment
 StandsNext InString start text = AfterBlanks text IsOpenString
 StandsNext InToken start text = AfterBlanks text IsOpenToken
 
--- No more than one of these holds of a text,
+-- At most one of these is so of a text.
 abbrev pub OneNext : Type 0
 OneNext = (start : ℕ) (text : List ℕ) (a b : Next) → StandsNext a start text → StandsNext b start text → a ≡ b
 
--- and there is no text of which none holds.
+-- At least one is.
 abbrev pub SomeNext : Type 0
 SomeNext = (start : ℕ) (text : List ℕ) → ((a : Next) → StandsNext a start text → ⊥) → ⊥
 
--- The last byte that is taken for a token is asked for: the bytes before it close no token and can go on so that they
--- do. A byte behind the token is held where it was needed to close it.
+-- A token never takes a byte too many: the bytes before its last one contain no complete token, and can be continued so that
+-- they do. A byte past the token is held exactly where it was needed to see its end.
 abbrev pub LastIsAskedFor : Type 0
 LastIsAskedFor =
     (input : List ℕ) (start offset : ℕ) (token : Token) (held : Option ℕ) (left : List ℕ)
@@ -57,7 +57,7 @@ abbrev pub IsGap : List ℕ → Type 0
 IsGap [] = ⊥
 IsGap (b ∷ bs) = list_all (λ c. c == 32) (b ∷ bs) ≡ true
 
--- the tokens, each spelled and followed by spaces
+-- the tokens, each followed by spaces
 abbrev pub IsSpelledApart : List Token → List ℕ → Type 0
 IsSpelledApart [] text = text ≡ []
 IsSpelledApart (t ∷ ts) text =

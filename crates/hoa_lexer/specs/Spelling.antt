@@ -1,4 +1,4 @@
--- How each token is spelled (HOA v1, Grammar), and where it ends.
+-- How each token is spelled (HOA v1, Grammar), and what may follow it.
 use Rattle.std.specs.Prelude.{◌≡◌, ◌≢◌, ℕ, zero, suc, ◌+◌, ◌-◌, ◌*◌, ◌^◌, ◌<◌, ◌==◌, Bool, true, false, List, [], ◌∷◌, ◌++◌, codes, fold}
 use Rattle.std.specs.List.{list_all}
 pub use Rattle.aut_base.specs.Strings.{Quotes, escaped, nothing, plain}
@@ -17,7 +17,7 @@ abbrev pub IsAliasName : List ℕ → Type 0
 IsAliasName [] = ⊥
 IsAliasName (b ∷ bs) = list_all is_word (b ∷ bs) ≡ true
 
--- what digits stand for in base ten
+-- the value of digits in base ten
 abbrev pub value_of : List ℕ → ℕ
 value_of = fold (λ value digit. 10 * value + (digit - 48)) 0
 
@@ -47,13 +47,13 @@ Spells Body word = word ≡ codes "--BODY--"
 Spells End word = word ≡ codes "--END--"
 Spells Abort word = word ≡ codes "--ABORT--"
 
--- a byte stands next, and it fails the test
+-- there is a next byte, and it fails the test
 abbrev pub StopsAt : (ℕ → Bool) → List ℕ → Type 0
 StopsAt goes_on [] = ⊥
 StopsAt goes_on (b ∷ rest) = goes_on b ≡ false
 
--- What has to follow a token that a further byte could extend: a byte that does not. A colon would make a header's
--- name of an identifier. The other tokens, `0` among them, are closed by their own last byte.
+-- A token that a further byte could extend has to be followed by a byte that doesn't; a colon extends an identifier to a
+-- header's name. The other tokens, `0` among them, are complete with their own last byte.
 abbrev pub IsDelimited : Token → List ℕ → Type 0
 IsDelimited (Identifier name) rest = StopsAt is_word rest × StopsAt (λ b. b == 58) rest
 IsDelimited (Int zero) rest = Unit {0}
@@ -61,7 +61,7 @@ IsDelimited (Int (suc n)) rest = StopsAt is_digit rest
 IsDelimited (Alias name) rest = StopsAt is_word rest
 IsDelimited _ rest = Unit {0}
 
--- a token is closed by its own last byte
+-- a token is complete with its own last byte, whatever follows
 abbrev pub closes_itself : Token → Bool
 closes_itself (Identifier name) = false
 closes_itself (Int zero) = true

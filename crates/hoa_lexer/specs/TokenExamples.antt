@@ -1,4 +1,4 @@
--- Some texts and their tokens, as one sees by eye.
+-- Some texts and their tokens.
 use Rattle.std.specs.Prelude.{[], ◌∷◌, codes}
 use Rattle.hoa_lexer.specs.Blanks.{IsBlanks}
 use Rattle.hoa_lexer.specs.Laws.{HasTokens}
@@ -7,7 +7,7 @@ use Rattle.hoa_lexer.specs.declared.token.Token.TheVariants.{HeaderName, Identif
 pub record TokenExamples : Type 0 where
   -- a colon closes the name of a header
   pub header : HasTokens (codes "HOA:v1 ") 0 (HeaderName (codes "HOA") ∷ Identifier (codes "v1") ∷ [])
-  -- `0` is closed at once, and another number goes on as far as its digits do
+  -- `0` is a token at once, and any other number takes all digits that follow
   pub zero_first : HasTokens (codes "010 ") 0 (Int 0 ∷ Int 10 ∷ [])
   -- `"a\""`
   pub quoted : HasTokens (34 ∷ 97 ∷ 92 ∷ 34 ∷ 34 ∷ []) 0 (Str (97 ∷ 34 ∷ []) ∷ [])

@@ -13,22 +13,23 @@ pub fn one_token_list()
     ensures { OneTokenList }
 {}
 
-/// No more than one thing stands next in a text.
+/// At most one of these is so of a text: only blanks are left, a token is next, no token can begin there, or the text ends
+/// inside one.
 pub fn one_next()
     ensures { OneNext }
 {}
 
-/// In every text something stands next.
+/// At least one of these is so of every text.
 pub fn some_next()
     ensures { SomeNext }
 {}
 
-/// The last byte that is taken for a token is asked for.
+/// A token never takes a byte too many: without its last byte no token is complete, and there could be one.
 pub fn last_is_asked_for()
     ensures { LastIsAskedFor }
 {}
 
-/// Tokens that are spelled one after the other, with spaces after each, are read back.
+/// Tokens that are spelled one after the other, each followed by spaces, are read back.
 pub fn spelled_apart_is_read()
     ensures { SpelledApartIsRead }
 {}

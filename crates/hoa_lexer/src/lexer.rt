@@ -1,4 +1,4 @@
-//! The lexer.
+//! The lexer: its state, and its two calls for the next token.
 
 ghost use Rattle.std.specs.Prelude.{◌≡◌, ◌≢◌, ◌+◌, ◌-◌, ◌<◌, ◌≤◌, ◌∷◌, None, false, is_err, IsSome, IsTrue, IfOk, OnErr, OnOk};
 ghost use Rattle.hoa_lexer.specs.Bytes as kinds;
@@ -21,7 +21,7 @@ use aut_io::Inputs;
 use std::alloc::Global;
 
 // Why so: 'A lexer is seen by its fields' in docs/DECISIONS.md.
-/// Reads tokens from inputs, up to a number of bytes.
+/// Reads tokens from inputs, and takes at most so many bytes. It holds at most one byte of lookahead.
 #[derive(Debug, Drop)]
 pub struct Lexer {
     most: u64,
@@ -93,7 +93,7 @@ impl Lexer {
         self.spent
     }
 
-    /// The next token of the inputs' open text, or None where only blanks stood before its end.
+    /// The next token of the inputs' open text, or None where only blanks were left of it.
     pub fn next<I: Inputs>(
         &mut self,
         alloc: Global,
@@ -101,7 +101,7 @@ impl Lexer {
     ) -> Result<Option<Token>, LexFault>
         requires { self.old.spent ≡ false }
 
-        // The answer, by the bytes that were not read yet.
+        // What the answer means for the bytes that were unread before.
         ensures answers { Tells (I.seen inputs.old) (I.seen inputs.new) (λ old new.
             AnswersToken result (self.old.since - held_count self.old.held) self.new.offset (unread self.old.held old) (unread self.new.held new)) }
         ensures places { Tells (I.seen inputs.old) (I.seen inputs.new) (λ old new.
@@ -122,8 +122,8 @@ impl Lexer {
     }
 
     // Why so: 'A token is put in the place of the one before' in docs/DECISIONS.md.
-    /// The next token of the inputs' open text, which is put in the place of this one, and true; or false, where only blanks
-    /// stood before its end. Then, as after a fault, the token stays what it was.
+    /// Replaces the token by the next one of the inputs' open text and answers true; or answers false where only blanks were
+    /// left. Then, as after a fault, the token stays what it was.
     pub fn renew<I: Inputs>(
         &mut self,
         alloc: Global,
@@ -149,7 +149,7 @@ impl Lexer {
         answer
     }
 
-    /// Blanks and the next token.
+    /// Skips blanks and reads the next token.
     fn scan<I: Inputs>(
         &mut self,
         alloc: Global,
@@ -176,8 +176,8 @@ impl Lexer {
         }
     }
 
-    /// Puts the token that begins with the byte that is held, which no blank does, in the place of this one. After a fault this
-    /// one stays what it was.
+    /// Replaces the token by the one that begins with the byte that is held, which is no blank's. After a fault the old one
+    /// stays.
     fn token<I: Inputs>(
         &mut self,
         alloc: Global,

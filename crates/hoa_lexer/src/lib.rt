@@ -1,9 +1,10 @@
 //! The tokens of HOA v1, read byte by byte, and words by runs of the bytes at hand: each token the longest that the bytes
 //! allow, and not one byte more is taken than tells that it ends.
 //!
-//! A caller sees the lexer, its tokens with their names, its faults, and laws. What the next token of a text is stands in
-//! `specs/Text` and `specs/Spelling`, what an answer says in these terms in `specs/Reading`, and what each call counts in
-//! `specs/Moves`. `specs/Blanks` and `Bytes` say what stands between tokens; `specs/inner` speaks of the inner functions.
+//! A caller sees the lexer, its tokens with their names, its faults, and laws. `specs/Text` and `specs/Spelling` define the
+//! next token of a text, `specs/Reading` what an answer of the lexer means in those terms, and `specs/Moves` what each call
+//! counts. `specs/Blanks` defines what may occur between tokens, and `specs/Bytes` the kinds of bytes; `specs/inner` is about
+//! the inner functions.
 #![tactic(auto)]
 
 mod laws;

@@ -1,4 +1,4 @@
-//! Words of a text.
+//! Names of headers, identifiers and aliases, as lists of bytes.
 
 ghost use Rattle.std.specs.Prelude.{◌≡◌, ◌==◌, ◌↔◌, ◌<◌, ◌≤◌, ◌+◌, ◌-◌, [], ◌∷◌, ◌++◌, length, IfOk, IsTrue, OnOk, OnErr};
 ghost use Rattle.aut_base.specs.Text.{same_text};
@@ -7,7 +7,7 @@ use aut_base::Memory;
 use std::alloc::Global;
 use std::marker::Model;
 
-/// How many bytes lie in the value itself.
+/// The greatest number of bytes that are stored in the value itself.
 const MOST_SHORT: usize = 16;
 
 // Why so: 'What is short lies in the value itself' in docs/DECISIONS.md.
@@ -18,7 +18,7 @@ pub struct Name {
     held: Held,
 }
 
-/// Where the bytes lie.
+/// Where the bytes are stored.
 #[derive(Debug, Drop)]
 pub(crate) enum Held {
     Short(Short),
@@ -34,7 +34,7 @@ impl Model for Name {
     ghost view = { λ n. held_bytes n.held };
 }
 
-/// A few bytes, which lie in the value itself.
+/// A few bytes, stored in the value itself.
 #[derive(Debug, Drop)]
 pub(crate) struct Short {
     length: usize,
@@ -63,7 +63,7 @@ impl Short {
         }
     }
 
-    /// How many more there may be.
+    /// How many more bytes fit.
     #[inline]
     fn room(&self) -> usize
         ensures { result + length self.now ≡ 16 }
@@ -123,7 +123,7 @@ impl Name {
         Ok(name)
     }
 
-    /// Adds a byte at the end. Refused for want of memory, it leaves the name as it was.
+    /// Adds a byte at the end. Where memory is wanting, the name stays as it was.
     #[inline]
     pub(crate) fn push(&mut self, byte: u8) -> Result<(), Memory>
         ensures ok { OnOk result (self.new ≡ self.old ++ byte ∷ []) }
@@ -132,7 +132,7 @@ impl Name {
         self.extend(&[byte])
     }
 
-    /// Adds bytes at the end. Refused for want of memory, it leaves the name as it was.
+    /// Adds bytes at the end. Where memory is wanting, the name stays as it was.
     #[inline]
     pub(crate) fn extend(&mut self, bytes: &[u8]) -> Result<(), Memory>
         ensures ok { OnOk result (self.new ≡ self.old ++ bytes.now) }
@@ -172,7 +172,7 @@ impl Name {
         }
     }
 
-    /// Whether the name has just these bytes.
+    /// Whether the name is exactly these bytes.
     #[inline]
     pub fn is(&self, bytes: &[u8]) -> bool
         ensures same { result ≡ same_text self.now bytes.now }
@@ -182,7 +182,7 @@ impl Name {
     }
 }
 
-/// Both runs of bytes, in a list.
+/// A list of the bytes of both.
 #[cold]
 fn joined(alloc: Global, first: &[u8], second: &[u8]) -> Result<Vec<u8>, Memory>
     ensures { IfOk result (λ list. list.items ≡ first.now ++ second.now) }

@@ -1,4 +1,4 @@
-//! Tokens, and why there may be none.
+//! Tokens, and why there may be no next one.
 
 ghost use Rattle.std.specs.Prelude.{◌≡◌};
 ghost use Rattle.hoa_lexer.specs.declared.token.LexFault.{LexFault};
@@ -35,11 +35,11 @@ pub enum Token {
     Abort,
 }
 
-/// Why the lexer gives no token. It is spent after each of these.
+/// Why there is no next token. The lexer isn't called again after one of these.
 #[derive(Clone, Copy, Debug, PartialEq, Eq)]
 pub enum LexFault {
     // Why so: '`BadToken` is about every continuation' in docs/DECISIONS.md.
-    /// The bytes from this offset on are no token, however they go on.
+    /// No token and no comment begins with the bytes from this offset on, whatever follows them.
     BadToken(u64),
     /// The text ended inside a comment.
     OpenComment,
@@ -49,7 +49,7 @@ pub enum LexFault {
     OpenToken,
     /// A read failed.
     Read,
-    /// As many bytes as the lexer may take were taken, and one more was asked for.
+    /// The limit of bytes was reached, and the token needs another one.
     Bytes,
     /// Want of memory.
     Memory,

@@ -1,4 +1,4 @@
--- The text, piece by piece.
+-- Lemmas on the pieces of the text.
 pub mod Formulas
 pub mod InOrder
 pub mod Lines

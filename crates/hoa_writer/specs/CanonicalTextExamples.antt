@@ -1,4 +1,4 @@
--- A canonical text, line by line, as one sees by eye: an exclusive or, a label that is always true, a name with a quote.
+-- A canonical text, line by line: an exclusive or, a label that is always true, a name with a quote.
 use Rattle.std.specs.Prelude.{◌≡◌, true, false, [], ◌∷◌, ◌++◌, codes, Some}
 use Rattle.aut_base.specs.Automaton.{Automaton}
 use Rattle.aut_base.specs.Formula.{Inf, Fin, And, none}

@@ -1,4 +1,4 @@
--- What the canonical text of an automaton writes, and that it reads back as the automaton.
+-- The described automaton that a canonical text spells, and the law that it reads back.
 use Rattle.std.specs.Prelude.{◌≡◌, ◌↔◌, ◌<◌, ◌^◌, ℕ, ◌==◌, List, [], ◌∷◌, ◌++◌, length, map, filter, codes, Option, Some, None}
 use Rattle.std.specs.List.{range_with_len}
 use Rattle.aut_base.specs.Acceptance.{Accepts}
@@ -52,7 +52,7 @@ canonical_items a name =
     ++ (raw.Ap (length a.names) a.names ∷ raw.Acceptance a.sets a.formula
     ∷ raw.Properties (codes "trans-labels" ∷ codes "explicit-labels" ∷ codes "trans-acc" ∷ []) ∷ [])))
 
--- what the canonical text of an automaton, and of its name if it has one, writes
+-- what the canonical text of an automaton, and of its name if it has one, spells
 abbrev pub canonical_written : Automaton → Option (List ℕ) → Written
 canonical_written a name = record {
   version = codes "v1";
@@ -60,8 +60,8 @@ canonical_written a name = record {
   states = map (canonical_state a) (range_with_len 0 a.states);
 }
 
--- The text's tokens spell one automaton and no other. It is valid, and it describes the one that was written, with each
--- label in its canonical form, so it accepts the same words. No limit of a reader plays a part.
+-- The text's tokens spell one automaton and no other. It is valid, and it describes the one that was written, with each label
+-- in its canonical form, so it accepts the same words. No limit of a reader is involved.
 pub record ReadsBack (text : List ℕ) (a : Automaton) (name : Option (List ℕ)) : Type 0 where
   pub tokens : List Token
   pub lexes : HasTokens text 0 tokens
@@ -73,10 +73,10 @@ pub record ReadsBack (text : List ℕ) (a : Automaton) (name : Option (List ℕ)
   pub accepts : (u v : List NameSet) → Accepts (described (canonical_written a name)) u v ↔ Accepts a u v
   pub named : name_of (canonical_written a name) ≡ name
 
--- The canonical text of every well-formed automaton reads back, whose numbers a lexer can read.
+-- The canonical text of every well-formed automaton reads back, where its numbers are ones that a lexer reads.
 abbrev pub CanonicalTextReadsBack : Type 0
 CanonicalTextReadsBack = (a : Automaton) (name : Option (List ℕ)) → IsWellFormed a → a.states < 2 ^ 32 → a.sets < 2 ^ 32 → length a.names < 2 ^ 32 → ReadsBack (canonical_text a name) a name
 
--- An automaton and its canonical form have one text.
+-- An automaton and its canonical form have the same text.
 abbrev pub CanonicalFormHasTheSameText : Type 0
 CanonicalFormHasTheSameText = (a : Automaton) (name : Option (List ℕ)) → canonical_text (canonical a) name ≡ canonical_text a name

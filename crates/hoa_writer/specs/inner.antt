@@ -1,3 +1,3 @@
--- Definitions that only inner functions speak in.
+-- Definitions that only contracts of inner functions use.
 pub mod Lines
 pub mod JoinedTexts

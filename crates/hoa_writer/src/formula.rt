@@ -29,7 +29,7 @@ pub(crate) fn push_formula(out: &mut Text, formula: &Formula) -> Result<(), Memo
     }
 }
 
-/// Adds the number of an acceptance set, with `!` before it where it is negated, and `)` behind it.
+/// Adds the number of an acceptance set, with `!` before it where it is negated, and `)` after it.
 fn push_set(out: &mut Text, set: u32, neg: bool) -> Result<(), Memory>
     ensures { OnOk result (out.new ≡ out.old ++ (set_text set neg ++ codes ")")) }
 {

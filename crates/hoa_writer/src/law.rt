@@ -1,4 +1,4 @@
-//! What holds of canonical texts.
+//! Laws of canonical texts.
 
 ghost use Rattle.hoa_writer.specs.CanonicalTextExamples.{CanonicalTextExamples};
 ghost use Rattle.hoa_writer.specs.CanonicalWritten.{CanonicalFormHasTheSameText, CanonicalTextReadsBack};
@@ -8,7 +8,7 @@ pub fn canonical_text_reads_back()
     ensures { CanonicalTextReadsBack }
 {}
 
-/// An automaton has the text of its canonical form: labels of one truth are written alike.
+/// An automaton and its canonical form have the same text: labels of equal truth are written alike.
 pub fn canonical_form_has_the_same_text()
     ensures { CanonicalFormHasTheSameText }
 {}

@@ -1,8 +1,8 @@
 //! The canonical text of an automaton.
 //!
-//! A caller sees `write_text` and the law of its texts. What a canonical text is stands in `specs/CanonicalText`,
-//! with the text of a label as `aut_base` has it, and `specs/CanonicalWritten` says what it writes and that it reads back.
-//! The other definitions speak of the inner functions only.
+//! A caller sees `write_text` and the laws of its texts. `specs/CanonicalText` defines the canonical text, with the text of a
+//! label from `aut_base`, and `specs/CanonicalWritten` says that it reads back as the automaton. The other definitions are
+//! about the inner functions only.
 #![tactic(auto)]
 
 mod formula;

@@ -1,4 +1,4 @@
-//! The lines of the text.
+//! The lines of the text: the header, and the states with their edges.
 
 ghost use Rattle.std.specs.Prelude.{◌≡◌, ◌<◌, ◌≤◌, ◌==◌, ◌++◌, ◌^◌, length, filter, flat_map, codes, IfOk, OnOk};
 ghost use Rattle.std.specs.Option.{option_copied};
@@ -44,7 +44,7 @@ fn reads_back(a: &Automaton, _name: Option<&Text>)
     fits(a.sets());
 }
 
-/// A number of 32 bits is below 2^32. Nothing is computed.
+/// A number of 32 bits is below 2^32, as the contract of the round trip asks. Nothing is computed.
 fn fits(_number: u32)
     ensures { _number < 2 ^ 32 }
 {}

@@ -1,4 +1,4 @@
-//! Calls over a file that signals and short calls come between, and over what finds no memory.
+//! Calls on a file whose reads and writes are interrupted and short, and on files that no memory is found to open.
 
 use crate::no_memory::NoMemory;
 use crate::pattern::{NAME, count_pattern, pattern, write_pattern};
@@ -14,7 +14,7 @@ use std::fs::File;
 /// The file that is written.
 const UNSTEADY_NAME: &str = "unsteady.bytes";
 
-/// The calls, each under its name.
+/// The calls, by their names in rows.
 #[derive(Clone, Copy)]
 pub(crate) struct Calls;
 
@@ -33,7 +33,7 @@ impl Answers for Calls {
     }
 }
 
-/// How many bytes of a file are those of the pattern, and that there are others behind them.
+/// How many bytes of a file are those of the pattern, and whether others follow.
 fn found(rt: &HostRuntime, name: &str) -> Result<Text, Fault> {
     let bytes = fs::read(rt, name)?;
     let count = count_pattern(&bytes);
@@ -49,7 +49,7 @@ fn digits(alloc: Global, count: u32) -> Result<String, Fault> {
     Ok(format!(in alloc; "{count}")?)
 }
 
-/// What a file has that is written by unsteady calls, and whether a write failed, from `SIGNALS GOOD`.
+/// From `SIGNALS GOOD`: what a file contains after it was written by unsteady calls, and whether a write failed.
 fn written(rt: &HostRuntime, line: &str) -> Result<Text, Fault> {
     let (signals, good) = kind_and_rest(line);
     let file = File::create(rt, UNSTEADY_NAME)?;
@@ -63,7 +63,7 @@ fn written(rt: &HostRuntime, line: &str) -> Result<Text, Fault> {
     Ok(answer)
 }
 
-/// How many bytes of the file come by unsteady calls, and what the two calls behind them answer, from `SIGNALS GOOD`.
+/// From `SIGNALS GOOD`: how many bytes of the file are read by unsteady calls, and what the two calls after them answer.
 fn read(rt: &HostRuntime, line: &str) -> Result<Text, Fault> {
     let (signals, good) = kind_and_rest(line);
     let file = File::open(rt, NAME)?;
@@ -75,7 +75,7 @@ fn read(rt: &HostRuntime, line: &str) -> Result<Text, Fault> {
     taken(rt.alloc(), &mut inputs)
 }
 
-/// How many bytes come, and what the two calls behind them answer.
+/// How many bytes are read, and what the two calls after them answer.
 fn taken<I: Inputs>(alloc: Global, inputs: &mut I) -> Result<Text, Fault> {
     let mut count = 0u32;
     let mut last = inputs.next();
@@ -93,7 +93,7 @@ fn taken<I: Inputs>(alloc: Global, inputs: &mut I) -> Result<Text, Fault> {
     Ok(answer)
 }
 
-/// What a call answered.
+/// The answer of a call, in words.
 fn told(answer: &Result<Option<u8>, Failed>) -> &'static [u8] {
     match answer {
         Ok(Some(_)) => b", another byte",
@@ -102,7 +102,7 @@ fn told(answer: &Result<Option<u8>, Failed>) -> &'static [u8] {
     }
 }
 
-/// What is answered where no memory is found to open a file, and by a read behind that.
+/// The answer where no memory is found to open a file, and that of a read after it.
 fn opened_without_memory(alloc: Global, name: &str) -> Result<Text, Fault> {
     let mut inputs = RealInputs::new(alloc, b"".as_slice(), NoMemory::new())?;
     let opened: &[u8] = match inputs.open(&Text::from_bytes(alloc, name.as_bytes())?) {

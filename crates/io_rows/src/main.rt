@@ -1,6 +1,7 @@
-//! Runs the adapters of `real_io` over files on each row of the files of rows, and prints which rows came out otherwise.
+//! Runs `RealInputs` and `RealSink` over files on each row of the files of rows, and prints the rows whose outcome is another
+//! than the stated one.
 //!
-//! The file of several blocks is written first. It stands for standard input, too.
+//! The file of several blocks is written first. It serves as standard input, too.
 #![tactic(auto)]
 
 mod calls;

@@ -1,4 +1,4 @@
-//! What finds no memory to open a file.
+//! An opener that never has the memory to open a file.
 
 use real_io::Opener;
 use std::fs::File;
@@ -11,7 +11,7 @@ pub(crate) struct NoMemory {
 }
 
 impl NoMemory {
-    /// Nothing was asked for yet.
+    /// An opener that wasn't called yet.
     pub(crate) fn new() -> Self {
         NoMemory { calls: 0 }
     }

@@ -1,4 +1,4 @@
-//! Names that are opened one after the other, and what must come out.
+//! Names that are opened one after the other, and the outcomes that are stated.
 
 ghost use Rattle.std.specs.Prelude.{ℕ, List};
 
@@ -10,26 +10,26 @@ use row_files::{Fault, Row, add_escaped, kind_and_rest, number, range};
 use std::alloc::Global;
 use std::fs::File;
 
-/// What comes out where a name is opened and read.
+/// What comes of opening and reading a name.
 #[derive(Clone, Copy)]
 enum Outcome {
     /// It can't be opened, and then nothing is read.
     Refused,
     /// It is opened, and the first read fails.
     Unreadable,
-    /// The bytes of the pattern from one place to another, read no further.
+    /// The bytes of the pattern from one index to another, and no more is read.
     Part(u32, u32),
-    /// The bytes of the pattern from this place to its last, and then the end, twice.
+    /// The bytes of the pattern from this index to its last, and then the end, twice.
     Rest(u32),
     /// A byte that is not the pattern's first.
     Other,
 }
 
-/// A name and what must come out, and the inputs: what one row leaves is there when the next begins.
+/// A name and its stated outcome, and the inputs, which each row leaves to the next as they are.
 #[derive(Drop)]
 pub(crate) struct Openings<'a> {
     inputs: RealInputs<File, SystemFiles<&'a HostRuntime>>,
-    /// The lines of the row as they stand.
+    /// The lines of the row, as they were read.
     lines: String,
     name: Text,
     is_met: bool,
@@ -89,7 +89,7 @@ impl<'a> Row for Openings<'a> {
     }
 }
 
-/// The outcome that a line says.
+/// The outcome that a line states.
 fn stated(words: &str) -> Result<Outcome, Fault> {
     let (kind, rest) = kind_and_rest(words);
     match kind {
@@ -105,7 +105,7 @@ fn stated(words: &str) -> Result<Outcome, Fault> {
     }
 }
 
-/// Whether the opening of a name comes out as it must.
+/// Whether the opening of a name has this outcome.
 fn is_met<I: Inputs>(inputs: &mut I, name: &Text, outcome: Outcome) -> bool
     requires { (name : List ℕ) → I.may_open name }
 {
@@ -129,7 +129,7 @@ fn gives<I: Inputs>(inputs: &mut I, from: u32, to: u32) -> bool {
     true
 }
 
-/// Whether nothing is left, and nothing comes after that.
+/// Whether the text is at its end, and stays so.
 fn is_ended<I: Inputs>(inputs: &mut I) -> bool {
     matches!(inputs.next(), Ok(None)) && matches!(inputs.next(), Ok(None))
 }

@@ -9,13 +9,13 @@ use std::io::Write;
 /// Its name.
 pub(crate) const NAME: &str = "blocks.bytes";
 
-/// The size of the file: three blocks and a part of one.
+/// The size of the file: three blocks and a part of a fourth.
 pub(crate) const SIZE: u32 = 200_001;
 
-/// How many bytes a piece has.
+/// The size of the pieces that are written.
 const PIECE: u32 = 7_001;
 
-/// The byte at this place of the file. No two blocks are alike.
+/// The byte at this index of the file. No two blocks are equal.
 pub(crate) fn pattern(place: u32) -> u8 {
     (place % 251) as u8
 }
@@ -41,7 +41,7 @@ fn write<S: Sink>(sink: &mut S, piece: &[u8]) -> Result<(), Fault> {
     }
 }
 
-/// How many of these bytes, from the first on, are those of the file.
+/// How many of these bytes, from the first on, agree with the file.
 pub(crate) fn count_pattern(bytes: &[u8]) -> u32 {
     let mut count = 0u32;
     for byte in bytes {

@@ -1,4 +1,4 @@
-//! A file that signals and short calls come between.
+//! A file whose calls are interrupted by signals, and short.
 
 use std::fs::File;
 use std::io::{self, ErrorKind, Read, Write};
@@ -6,8 +6,8 @@ use std::io::{self, ErrorKind, Read, Write};
 /// How many bytes a call takes or gives at most.
 const FEW: usize = 4_000;
 
-/// A file of which so many calls before each good one are broken off by a signal, and a good one takes or gives a few bytes.
-/// Behind the good calls all fail.
+/// A file on which a signal interrupts so many calls before each good one, and a good one reads or writes only a few bytes.
+/// After the good calls all fail.
 #[derive(Drop)]
 pub(crate) struct Unsteady {
     file: File,

@@ -11,6 +11,6 @@ pub record ShowsWord (a : Automaton) (text : List ℕ) : Type 0 where
   pub accepted : IsAcceptedWord a word
   pub shown : text ≡ word_text a.names word.stem word.cycle
 
--- A word that is accepted, and `nothing` where none is.
+-- The text shows such a word, or is `nothing` where the automaton accepts none.
 abbrev pub IsShown : Automaton → List ℕ → Type 0
 IsShown a text = ShowsWord a text ⊎ (AcceptsNothing a × (text ≡ codes "nothing"))

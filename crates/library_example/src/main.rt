@@ -22,7 +22,7 @@ fn main(rt: HostRuntime) -> Result<(), Failed> {
     print_words(rt.alloc(), &mut inputs, &mut out).ok_or(Failed)
 }
 
-/// A line for each automaton. None where one can't be read or printed.
+/// Prints a line for each automaton. None where one can't be read or printed.
 fn print_words<I: Inputs, W: Sink>(alloc: Global, inputs: &mut I, out: &mut W) -> Option<()>
     requires { (name : List ℕ) → I.may_open name }
 {
@@ -45,7 +45,7 @@ fn line_of(alloc: Global, raw: &Raw) -> Option<Text> {
     Some(line)
 }
 
-/// A word that the automaton accepts, or `nothing`.
+/// The text of a word that the automaton accepts, or `nothing`.
 fn text_of(alloc: Global, a: &Automaton) -> Result<Text, Memory>
     ensures { IfOk result (IsShown (automaton_of a.now)) }
 {

@@ -1,4 +1,4 @@
-//! Reads the plan of the words of each row, and prints each that came out otherwise.
+//! Reads the words of each row as a plan, and prints each row whose outcome is another than the stated one.
 #![tactic(auto)]
 
 mod row;

@@ -1,4 +1,4 @@
-//! One row: the words, and what is wanted of them.
+//! One row: the words, and the outcome that is stated.
 
 use crate::shown::show;
 use aut_base::{Memory, Text, Words};
@@ -6,7 +6,7 @@ use filter_plan::{Plan, UsageFault, read_plan};
 use row_files::{Fault, Row, add, add_escaped, kind_and_rest, number};
 use std::alloc::Global;
 
-/// The words and what is wanted of them, as far as the lines were read.
+/// The words and the stated outcome, as far as the row's lines were read.
 #[derive(Drop)]
 pub(crate) struct PlanRow {
     name: String,
@@ -40,7 +40,7 @@ impl PlanRow {
         Ok(())
     }
 
-    /// Adds the words that have a space between any two, or none.
+    /// Adds the words, which are separated by single spaces, or none.
     fn add_words(&mut self, alloc: Global, rest: &str) -> Result<(), Fault> {
         self.has_words = true;
         if rest.is_empty() {
@@ -52,7 +52,7 @@ impl PlanRow {
         Ok(())
     }
 
-    /// Adds a word as often as the number before it says.
+    /// Adds a word as many times as the number before it says.
     fn add_repeated(&mut self, alloc: Global, rest: &str) -> Result<(), Fault> {
         self.has_words = true;
         let (count, word) = kind_and_rest(rest);
@@ -62,7 +62,7 @@ impl PlanRow {
         Ok(())
     }
 
-    /// Adds a word with escapes. The number is that of the repetition, from 0.
+    /// Adds a word with escapes. The number counts its repetitions, from 0.
     fn add_word(&mut self, alloc: Global, word: &str, number: u32) -> Result<(), Fault> {
         let mut text = Text::new(alloc);
         add_escaped(alloc, &mut text, word, number)?;
@@ -70,7 +70,7 @@ impl PlanRow {
         Ok(())
     }
 
-    /// What comes out of the words, as a text.
+    /// The outcome of reading the words, as text.
     fn shown(&self, alloc: Global) -> Result<Text, Memory> {
         match plan_of(alloc, &self.words) {
             Ok(plan) => show(alloc, &plan),

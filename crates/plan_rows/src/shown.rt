@@ -1,4 +1,4 @@
-//! A plan as a text: a line for each field that isn't as it is where no option stands.
+//! A plan as text: a line for each field that differs from the plan of no words.
 
 use crate::values::{show_count, show_file, show_hidden, show_output, show_pattern, show_range};
 use aut_base::{Memory, Text};
@@ -31,7 +31,7 @@ fn show_filters(alloc: Global, text: &mut Text, plan: &Plan) -> Result<(), Memor
     show_ranges(alloc, text, plan)
 }
 
-/// Adds the filters by numbers.
+/// Adds the filters that are ranges of numbers.
 fn show_ranges(alloc: Global, text: &mut Text, plan: &Plan) -> Result<(), Memory> {
     show_range(alloc, text, b"states", plan.states)?;
     show_range(alloc, text, b"edges", plan.edges)?;
@@ -63,7 +63,7 @@ fn show_form(text: &mut Text, plan: &Plan) -> Result<(), Memory> {
     text.extend(line)
 }
 
-/// Adds what the run as a whole is told.
+/// Adds the options of the whole run.
 fn show_run(alloc: Global, text: &mut Text, plan: &Plan) -> Result<(), Memory> {
     show_flag(text, b"invert", plan.invert)?;
     show_flag(text, b"count", plan.count)?;
@@ -76,7 +76,7 @@ fn show_run(alloc: Global, text: &mut Text, plan: &Plan) -> Result<(), Memory> {
     Ok(())
 }
 
-/// Adds a flag that stands.
+/// Adds a flag that is set.
 fn show_flag(text: &mut Text, name: &[u8], stands: bool) -> Result<(), Memory> {
     if stands {
         return show_line(text, name, b"");

@@ -1,4 +1,4 @@
-//! The values of options, as lines.
+//! The values of a plan's fields, as lines.
 
 use crate::shown::show_line;
 use ap_project::Hide;
@@ -31,7 +31,7 @@ pub(crate) fn show_count(
     Ok(())
 }
 
-/// Adds a range, with both its ends.
+/// Adds a range by its two ends.
 pub(crate) fn show_range(
     alloc: Global,
     text: &mut Text,
@@ -50,7 +50,7 @@ pub(crate) fn show_range(
     Ok(())
 }
 
-/// Adds a pattern: its names, and how many letters its stem and its cycle have.
+/// Adds a pattern: its names, and the numbers of letters of its stem and its cycle.
 pub(crate) fn show_pattern(
     alloc: Global,
     text: &mut Text,
@@ -84,7 +84,7 @@ pub(crate) fn show_hidden(text: &mut Text, hidden: &Option<Hidden>) -> Result<()
     Ok(())
 }
 
-/// Adds what is printed of an automaton, where that isn't its text.
+/// Adds what is printed of each automaton, where that isn't its text.
 pub(crate) fn show_output(text: &mut Text, output: &Output) -> Result<(), Memory> {
     match output {
         Output::Hoa => Ok(()),
@@ -99,7 +99,7 @@ pub(crate) fn show_output(text: &mut Text, output: &Output) -> Result<(), Memory
     }
 }
 
-/// Adds a piece of a format. What isn't a byte has brackets.
+/// Adds a piece of a format, in brackets unless it is a byte.
 fn show_piece(text: &mut Text, piece: Piece) -> Result<(), Memory> {
     match piece {
         Piece::Byte(byte) => text.push(byte),

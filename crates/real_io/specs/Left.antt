@@ -1,4 +1,4 @@
--- What real inputs tell, and what they have still to give.
+-- What is known of real inputs: the bytes at hand, and those that the open text and standard input have left.
 use Rattle.std.specs.Prelude.{◌≡◌, ℕ, List, [], Option, None, Some}
 use Rattle.std.specs.Io.KnownBytes.{prepend_known}
 use Rattle.aut_io.specs.Seen.{Seen}
@@ -6,7 +6,7 @@ use Rattle.real_io.specs.declared.inputs.Origin.{Origin}
 use Rattle.real_io.specs.declared.inputs.Origin.TheVariants.{File, Nothing, Standard}
 use Rattle.real_io.specs.declared.inputs.RealInputs.{RealInputs}
 
--- Of all texts they tell only how many calls failed.
+-- what `Seen` has of them: nothing but the counts of failed calls
 abbrev pub seen_of_real : {R O F : Type 0} → RealInputs R O F → Seen
 seen_of_real s = record { texts = None; left = None; openings = s.openings; open_faults = s.open_faults; read_faults = s.read_faults }
 
@@ -18,7 +18,7 @@ at_hand_in _ block = block
 abbrev pub at_hand : {R O F : Type 0} → RealInputs R O F → List ℕ
 at_hand s = at_hand_in s.origin s.block
 
--- the bytes of the block that are standard input's: while a file is open, they are the file's
+-- the bytes of the block that belong to standard input; while a file is open they are the file's
 abbrev pub of_standard : {F : Type 0} → Origin F → List ℕ → List ℕ
 of_standard (File file) block = []
 of_standard _ block = block

@@ -1,4 +1,4 @@
--- What opening a name leaves.
+-- What is open after an opening, and how its error is answered.
 use Rattle.std.specs.Prelude.{◌≡◌, ℕ, List, [], ◌∷◌, Result, Ok, Err}
 use Rattle.std.specs.IoError.{error_kind}
 use Rattle.std.specs.declared.io.Error.{Error}
@@ -13,17 +13,17 @@ use Rattle.real_io.specs.declared.inputs.Origin.TheVariants.{File, Nothing}
 abbrev pub standard_name : List ℕ
 standard_name = 45 ∷ []
 
--- why a text is not opened: want of memory is told apart
+-- why a text is not opened: want of memory, or any other error
 abbrev pub fail_of : ErrorKind → OpenFail
 fail_of OutOfMemory = fail.Memory
 fail_of _ = fail.Failed
 
--- the answer to an opening, with its error as a text's
+-- the answer to an opening, with std's error as an `OpenFail`
 abbrev pub told_of : {F : Type 0} → Result F Error → Result F OpenFail
 told_of (Ok file) = Ok file
 told_of (Err error) = Err (fail_of (error_kind error))
 
--- The file was opened as the system answered.
+-- The answer is the system's, with its error as an `OpenFail`.
 pub record IsAnswered {F : Type 0} (answers : Result F Error → Type 0) (result : Result F OpenFail) : Type 0 where
   pub answer : Result F Error
   pub given : answers answer
@@ -34,7 +34,7 @@ abbrev pub LeavesOpen : {F : Type 0} → Result F OpenFail → Result (Unit {0})
 LeavesOpen (Ok file) result origin = (result ≡ Ok tt) × (origin ≡ File file)
 LeavesOpen (Err why) result origin = (result ≡ Err why) × (origin ≡ Nothing)
 
--- The file is open that the system gave, or nothing is and the result says why.
+-- The file that the system answered is open, or nothing is and the result says why.
 pub record OpensFile {F : Type 0} (answers : Result F Error → Type 0) (result : Result (Unit {0}) OpenFail) (origin : Origin F) : Type 0 where
   pub opened : Result F OpenFail
   pub answered : IsAnswered answers opened

@@ -2,7 +2,7 @@
 use Rattle.std.specs.Prelude.{ℕ, ◌≤◌, List, Option, length, take}
 use Rattle.std.specs.Io.KnownBytes.{Appends}
 
--- known bytes grow by the first ones of the piece
+-- the writer's bytes gain a prefix of the piece
 pub record AppendsFront (old new : Option (List ℕ)) (piece : List ℕ) : Type 0 where
   pub count : ℕ
   pub within : count ≤ length piece

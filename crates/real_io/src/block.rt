@@ -1,4 +1,4 @@
-//! Bytes of a reader, which are read by blocks.
+//! A buffer of one block, through which a reader is read.
 
 ghost use Rattle.std.specs.Prelude.{◌≡◌, ◌≢◌, ◌≤◌, ◌<◌, ◌∷◌, [], None, drop, length, IfErr, IfOk, OnErr, OnOk};
 ghost use Rattle.std.specs.Io.KnownBytes.{Consumes, IsAtEnd, Keeps, prepend_known};
@@ -35,7 +35,7 @@ impl Model for Block {
 }
 
 impl Block {
-    /// Takes room for one block. Nothing is read yet.
+    /// Allocates the buffer of one block. Nothing is read yet.
     pub(crate) fn new(alloc: Global) -> Result<Self, Memory>
         ensures { IfOk result (λ block. block ≡ []) }
     {
@@ -46,7 +46,7 @@ impl Block {
         })
     }
 
-    /// Lets the bytes go that were not given yet.
+    /// Discards the bytes that were not given yet.
     pub(crate) fn clear(&mut self)
         ensures { self.new ≡ [] }
     {
@@ -54,8 +54,8 @@ impl Block {
         self.end = 0;
     }
 
-    /// The next byte, or `None` at the end of the reader: the first of those that the block still holds, followed by
-    /// those that the reader has left.
+    /// The next byte, or `None` at the end of the reader: the first of those left in the block and, after them, in the
+    /// reader.
     #[inline(always)]
     pub(crate) fn next<R: Read>(
         &mut self,
@@ -86,7 +86,7 @@ impl Block {
         &self.bytes[self.place..self.end]
     }
 
-    /// Takes so many of the bytes that the block holds.
+    /// Takes the first so many of the bytes that the block holds.
     #[inline]
     pub(crate) fn skip(&mut self, count: usize)
         requires { count ≤ length self.old }
@@ -131,8 +131,8 @@ impl Block {
     }
 }
 
-/// Reads into the block, once more where a signal came between, and answers how many bytes were read. The turns are counted so
-/// that the loop is proved to end.
+/// Reads into the block, and again where a signal interrupted it, and answers how many bytes were read. The turns are counted
+/// so that the loop is proved to end.
 #[cold]
 fn read_block<R: Read>(
     reader: &mut R,

@@ -27,14 +27,14 @@ pub(crate) enum Origin<F> {
     File(F),
 }
 
-/// Standard input under the name `-`, and files under all other names, which are read through one block.
+/// Standard input under the name `-`, and files under all other names, all read through one buffer.
 #[derive(Drop)]
 pub struct RealInputs<R, O: Opener> {
     standard: R,
     opener: O,
     origin: Origin<O::File>,
-    /// Bytes of the open file, or of standard input where no file is open: what was read of it and not given stays,
-    /// since the system gives each byte once.
+    /// Bytes of the open file, or of standard input where no file is open: what was read of standard input and not given yet
+    /// stays, since the system gives each byte once.
     block: Block,
     openings: u64,
     open_faults: u64,
@@ -42,7 +42,7 @@ pub struct RealInputs<R, O: Opener> {
 }
 
 impl<R: Read + Drop, O: Opener + Drop> RealInputs<R, O> {
-    /// Takes room for one block.
+    /// Allocates the buffer of one block.
     pub fn new(alloc: Global, standard: R, opener: O) -> Result<Self, Memory>
         ensures counts { IfOk result (λ inputs. (inputs.openings ≡ 0) × (inputs.open_faults ≡ 0) × (inputs.read_faults ≡ 0)) }
         ensures standard { IfOk result (λ inputs. (inputs.standard ≡ standard) × (inputs.block ≡ [])) }
@@ -71,7 +71,7 @@ impl<R: Read + Drop, O: Opener + Drop> Inputs for RealInputs<R, O> {
     fn open(&mut self, name: &Text) -> Result<(), OpenFail>
         ensures told { Opens (seen_of_real self.old) name.now result (seen_of_real self.new) }
 
-        // What is open then: standard input, a file as the opener gave it, or nothing.
+        // What is open after the call: standard input, a file as the opener answered it, or nothing.
         ensures standard { name.now ≡ standard_name → (result ≡ Ok tt) × (self.new.origin ≡ Origin.Standard) }
         ensures bytes { ¬ IsUtf8 name.now → (result ≡ Err OpenFail.Failed) × (self.new.origin ≡ Origin.Nothing) }
         ensures file { name.now ≢ standard_name → IsUtf8 name.now → OpensFile (O.answers self.old.opener name.now) result self.new.origin }
@@ -80,7 +80,7 @@ impl<R: Read + Drop, O: Opener + Drop> Inputs for RealInputs<R, O> {
         ensures block { self.new.block ≡ of_standard self.new.origin (of_standard self.old.origin self.old.block) }
         ensures kept { self.new.standard ≡ self.old.standard }
 
-        // A file is asked for once, and nothing else is.
+        // A file is asked for once, and standard input never.
         ensures once { name.now ≢ standard_name → IsUtf8 name.now → Rose (O.calls self.old.opener) (O.calls self.new.opener) }
         ensures none_by_name { name.now ≡ standard_name → self.new.opener ≡ self.old.opener }
         ensures none_by_bytes { ¬ IsUtf8 name.now → self.new.opener ≡ self.old.opener }
@@ -112,11 +112,11 @@ impl<R: Read + Drop, O: Opener + Drop> Inputs for RealInputs<R, O> {
     fn next(&mut self) -> Result<Option<u8>, Failed>
         ensures told { Nexts (seen_of_real self.old) result (seen_of_real self.new) }
 
-        // The first byte of what the block still holds, followed by what the reader of the open text has left.
+        // The first of the bytes left in the block and, after them, in the reader of the open text.
         ensures gives { GivesFirst (unread_text R.remaining O.File.remaining self.old) (unread_text R.remaining O.File.remaining self.new) result }
         ensures closed { self.old.origin ≡ Origin.Nothing → result ≡ Ok None }
 
-        // At its end a text is let go, so it is not asked for more behind it.
+        // At its end a text is closed, so its reader isn't asked again.
         ensures ended { result ≡ Ok None → self.new.origin ≡ Origin.Nothing }
 
         // The same of standard input where it is open. A read takes nothing of it where it isn't.
@@ -154,7 +154,7 @@ impl<R: Read + Drop, O: Opener + Drop> Inputs for RealInputs<R, O> {
         requires { count ≤ length (at_hand self.old) }
         ensures told { SkipsBytes (seen_of_real self.old) (take count (at_hand self.old)) (seen_of_real self.new) }
 
-        // These bytes are the first of what the open text has left, and the others stay.
+        // The bytes are the first that the open text has left, and the others stay.
         ensures gives { Consumes (unread_text R.remaining O.File.remaining self.old) (unread_text R.remaining O.File.remaining self.new) (take count (at_hand self.old)) }
         ensures open { self.new.origin ≡ self.old.origin }
 
@@ -170,7 +170,7 @@ impl<R: Read + Drop, O: Opener + Drop> Inputs for RealInputs<R, O> {
     }
 }
 
-/// Opens the file under a name, by one call, where the name is text.
+/// Opens the file under a name by one call of the opener, where the name is UTF-8.
 fn open_file<O: Opener>(opener: &mut O, name: &Text) -> Result<O::File, OpenFail>
     ensures bytes { ¬ IsUtf8 name.now → (result ≡ Err OpenFail.Failed) × (opener.new ≡ opener.old) }
     ensures text { IsUtf8 name.now → IsAnswered (O.answers opener.old name.now) result }
@@ -185,7 +185,7 @@ fn open_file<O: Opener>(opener: &mut O, name: &Text) -> Result<O::File, OpenFail
     }
 }
 
-/// Why a text is not opened: want of memory is told apart.
+/// Why a text is not opened: want of memory, or any other error.
 fn fail_of(kind: ErrorKind) -> OpenFail
     ensures { result ≡ fail_of kind }
 {

@@ -1,7 +1,7 @@
-//! What reads from the system, byte by byte or by runs of bytes, and what writes to it: a reader by blocks, and a sink.
+//! Standard input and files as a source of bytes, and a writer as a sink: what reads from the system and writes to it.
 //!
-//! Both are generic over std's `Read` and `Write`, so their contracts say which bytes they pass on, wherever those of the
-//! reader or writer are known. `specs/Unread` has the words for it.
+//! Both are generic over std's `Read` and `Write`. Where the bytes of the reader or writer are known, their contracts say
+//! which of them they pass on. `specs/Unread` has the definitions for it.
 #![tactic(auto)]
 
 mod block;

@@ -1,4 +1,4 @@
-//! What opens files.
+//! How files are opened.
 
 ghost use Rattle.std.specs.Prelude.{◌≡◌, ℕ, List, Result};
 ghost use Rattle.std.specs.declared.io.Error.{Error};
@@ -14,10 +14,10 @@ pub trait Opener {
     /// An open file.
     type File: Read + Drop;
 
-    /// What may be answered where a name is opened.
+    /// What the answer to an opening of a name may be.
     ghost answers: { Self → List ℕ → Result Self.File Error → Type 0 };
 
-    /// How many times `open` was called. It stands still at the last value of a `u64`.
+    /// How many times `open` was called, up to the last value of a `u64`.
     ghost calls: { Self → ℕ };
 
     /// Opens the file under a name, to be read from its beginning.
@@ -26,7 +26,7 @@ pub trait Opener {
         ensures called { Rose (calls self.old) (calls self.new) };
 }
 
-/// The files of the system. No contract can know what stands under their names.
+/// The files of the system. No contract can know what the system has under a name.
 #[derive(Drop)]
 pub struct SystemFiles<F> {
     files: F,
@@ -34,7 +34,7 @@ pub struct SystemFiles<F> {
 }
 
 impl<F> SystemFiles<F> {
-    /// The files that are opened by this. None was asked for yet.
+    /// Opens files through these of the system. None was asked for yet.
     pub fn new(files: F) -> Self
         ensures { result.calls ≡ 0 }
     {

@@ -1,4 +1,4 @@
-//! How many calls of the system failed.
+//! The count of calls of the system that failed.
 
 ghost use Rattle.std.specs.Prelude.{◌≡◌, ◌≢◌, ◌≤◌, ◌<◌, ◌-◌, ◌^◌, IfErr, IfOk, MatchOption, OnErr, OnOk, length, take};
 ghost use Rattle.std.specs.Io.KnownBytes.{Appends, Consumes, IsAtEnd, Keeps};
@@ -8,8 +8,8 @@ ghost use Rattle.real_io.specs.Unread.{held};
 use std::io::{ErrorKind, Read, Write};
 use std::marker::Model;
 
-/// How many calls of the system failed. It rises in this file alone: where a call is refused, and not for a signal, or where
-/// signals kept a loop from its end.
+/// How many calls of the system failed. It rises in this file alone: where a call failed and no signal interrupted it, or
+/// where a loop was interrupted as many times as a `u64` counts.
 #[derive(Drop)]
 pub(crate) struct Refusals {
     count: u64,
@@ -24,14 +24,14 @@ impl Model for Refusals {
 }
 
 impl Refusals {
-    /// None yet.
+    /// A count of zero.
     pub(crate) fn new() -> Self
         ensures { result ≡ 0 }
     {
         Refusals { count: 0 }
     }
 
-    /// One read, which answers how many bytes it gave, or None where a signal came between.
+    /// One read: how many bytes it gave, or None where a signal interrupted it.
     pub(crate) fn read<R: Read>(
         &mut self,
         reader: &mut R,
@@ -61,8 +61,8 @@ impl Refusals {
         }
     }
 
-    /// One write of bytes, which answers how many were taken: none where a signal came between. A writer that takes none of them
-    /// has failed, as for std's `write_all`.
+    /// One write: how many bytes were taken, none where a signal interrupted it. A writer that takes none has failed, as for
+    /// std's `write_all`.
     pub(crate) fn write<W: Write>(
         &mut self,
         writer: &mut W,
@@ -94,7 +94,7 @@ impl Refusals {
         }
     }
 
-    /// As many turns were taken as a `u64` counts, so that a loop is proved to end.
+    /// Fails a loop that was interrupted as many times as a `u64` counts, so that loops are proved to end.
     pub(crate) fn give_up(&mut self, turns: u64) -> ErrorKind
         requires { turns ≡ 2 ^ 64 - 1 }
         ensures rose { Rose self.old self.new }
@@ -105,7 +105,7 @@ impl Refusals {
         ErrorKind::TimedOut
     }
 
-    /// One more.
+    /// Counts another failure.
     fn raise(&mut self)
         ensures rose { Rose self.old self.new }
         ensures later { self.old ≤ self.new }

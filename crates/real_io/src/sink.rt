@@ -11,7 +11,7 @@ use aut_base::Failed;
 use aut_io::Sink;
 use std::io::{ErrorKind, Write};
 
-/// Writes each piece at once, by as many calls of the system as it takes.
+/// Passes each piece to the writer at once, by as many calls as it takes.
 #[derive(Drop)]
 pub struct RealSink<W> {
     writer: W,
@@ -19,7 +19,7 @@ pub struct RealSink<W> {
 }
 
 impl<W> RealSink<W> {
-    /// What this writer writes to.
+    /// A sink over this writer.
     pub fn new(writer: W) -> Self
         ensures writer { result.writer ≡ writer }
         ensures faults { result.faults ≡ 0 }
@@ -37,11 +37,12 @@ impl<W: Write> Sink for RealSink<W> {
     fn write(&mut self, piece: &[u8]) -> Result<(), Failed>
         ensures told { WritesPiece (record { written = None; faults = self.old.faults }) piece.now result (record { written = None; faults = self.new.faults }) }
 
-        // The writer holds the piece more, or a front of it where the write failed: no byte is written twice or out of its turn.
+        // The writer has gained the piece, or a prefix of it where the write failed: no byte is written twice or out of
+        // order.
         ensures gains { OnOk result (Appends (W.contents self.old.writer) (W.contents self.new.writer) piece.now) }
         ensures front { OnErr result (AppendsFront (W.contents self.old.writer) (W.contents self.new.writer) piece.now) }
 
-        // Of an empty piece nothing can fail, so what stands behind it in a line is written as well.
+        // A write of an empty piece can't fail.
         ensures nothing { piece.now ≡ [] → OnErr result ⊥ }
     {
         if piece.is_empty() {
@@ -54,7 +55,7 @@ impl<W: Write> Sink for RealSink<W> {
     }
 }
 
-/// Writes the bytes by as many calls as it takes, once more where a signal came between, and answers how many the writer took.
+/// Writes the bytes by as many calls as it takes, again where a signal interrupted one, and answers how many the writer took.
 /// (std's `write_all` doesn't say what it took before it failed.) The turns are counted so that the loop is proved to end.
 fn send<W: Write>(
     writer: &mut W,

@@ -1,4 +1,4 @@
-//! Automata as the moves of their letters.
+//! The letters of automata, as sets of moves.
 
 ghost use Rattle.std.specs.Prelude.{◌<◌};
 
@@ -7,8 +7,8 @@ use row_files::Sequence;
 use safra_trees::{Move, Moves};
 use std::alloc::Global;
 
-/// How a state may lead to another: not, by a move, or by an accepting one. The next digit of a number to the base three
-/// says which.
+/// How one state leads to another: not at all, by a move, or by an accepting one, as the next digit of a number in base three
+/// says.
 #[derive(Clone, Copy)]
 struct Digits {
     rest: u32,
@@ -22,7 +22,7 @@ impl Digits {
     }
 }
 
-/// The moves of a letter among so few states by the digits of a number.
+/// The moves of a letter among so few states, by the digits of a number.
 pub(crate) fn moves_by_digits(alloc: Global, states: u32, number: u32) -> Result<Moves, Memory> {
     let mut digits = Digits { rest: number };
     let mut moves = Moves::new(alloc);
@@ -41,7 +41,7 @@ pub(crate) fn moves_by_digits(alloc: Global, states: u32, number: u32) -> Result
     Ok(moves)
 }
 
-/// The moves of every letter there can be among so few states.
+/// All letters that there can be among so few states.
 pub(crate) fn every_letter(alloc: Global, states: u32) -> Result<Vec<Moves>, Memory> {
     let mut count: u32 = 1;
     for _ in 0..states.saturating_mul(states) {
@@ -54,7 +54,7 @@ pub(crate) fn every_letter(alloc: Global, states: u32) -> Result<Vec<Moves>, Mem
     Ok(letters)
 }
 
-/// Moves that a sequence gives, each of the pairs with one chance in three.
+/// A random letter: each pair of states has a move with probability one third.
 pub(crate) fn moves_by_chance(
     alloc: Global,
     states: u32,
@@ -76,7 +76,7 @@ pub(crate) fn moves_by_chance(
     Ok(moves)
 }
 
-/// Each state stays, and moves on to the next by an accepting move.
+/// The letter under which each state stays, and goes on to the next by an accepting move.
 pub(crate) fn chain(alloc: Global, states: u32) -> Result<Moves, Memory> {
     let mut moves = Moves::new(alloc);
     for from in 0..states {
@@ -96,7 +96,7 @@ pub(crate) fn chain(alloc: Global, states: u32) -> Result<Moves, Memory> {
     Ok(moves)
 }
 
-/// The last state leads back to the first.
+/// The letter under which the last state leads back to the first.
 pub(crate) fn back(alloc: Global, states: u32) -> Result<Moves, Memory>
     requires { 0 < states }
 {

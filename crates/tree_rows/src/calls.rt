@@ -1,4 +1,4 @@
-//! What rows ask for by name.
+//! The calls of rows, by their names.
 
 use crate::automata::{back, chain};
 use crate::long_letters::letters;
@@ -8,7 +8,7 @@ use row_files::{Answers, Fault, Sequence, kind_and_rest, number, numbers, range}
 use safra_trees::{Event, Move, Moves, SafraTree, TreeFault, start, step};
 use std::alloc::Global;
 
-/// Answers with what trees are reached.
+/// Answers with the trees that are reached.
 #[derive(Drop)]
 pub(crate) struct Trees;
 
@@ -30,8 +30,9 @@ impl Answers for Trees {
     }
 }
 
-/// The first tree's nodes, and behind a comma what each step gives: the nodes, the least names that were red and green, and the
-/// first earlier tree that the new one equals. The first line has the starts, or `-`, each further one the moves of a letter.
+/// The number of nodes of the first tree, and for each step, after a comma: the number of nodes, the least red and green
+/// names, and the first earlier tree that equals the new one. The first line has the starts, or `-`, and each further line
+/// the moves of a letter.
 fn walk(alloc: Global, lines: &str) -> Result<String, Fault> {
     let (first, letters) = lines.split_once('\n').unwrap_or((lines, ""));
     let starts = if first == "-" {
@@ -49,7 +50,7 @@ fn walk(alloc: Global, lines: &str) -> Result<String, Fault> {
     Ok(answer)
 }
 
-/// A step of the last tree, which is told of and goes behind it.
+/// Steps the last tree, adds the answer, and adds the new tree to the list.
 fn take(
     alloc: Global,
     trees: &mut Vec<SafraTree>,
@@ -77,7 +78,7 @@ fn take(
     Ok(())
 }
 
-/// How many nodes a tree has, and the least names that were red and green.
+/// The number of nodes of a tree, and the least red and green names.
 fn told(alloc: Global, tree: &SafraTree, event: &Event) -> Result<String, Fault> {
     let red = name(alloc, event.red)?;
     let green = name(alloc, event.green)?;
@@ -91,7 +92,7 @@ fn name(alloc: Global, name: Option<u32>) -> Result<String, Fault> {
     }
 }
 
-/// The moves of a line: `FROM>TO`, or `FROM*TO` for an accepting one, with a space between any two; or `-`.
+/// Reads the moves of a line: `FROM>TO`, or `FROM*TO` for an accepting one, separated by spaces; or `-`.
 fn moves(alloc: Global, line: &str) -> Result<Moves, Fault> {
     let mut moves = Moves::new(alloc);
     for word in line.split(' ') {
@@ -112,8 +113,8 @@ fn moves(alloc: Global, line: &str) -> Result<Moves, Fault> {
     Ok(moves)
 }
 
-/// How many nodes the tree of a chain of so many states has after so many steps; or what a step gives that leads from it back to
-/// the first state.
+/// The number of nodes after so many steps of a chain of so many states; or with `goes_back`, what a further step that leads
+/// back to the first state answers.
 fn chained(alloc: Global, line: &str, goes_back: bool) -> Result<String, Fault> {
     let (states, steps) = range(line)?;
     let moves = chain(alloc, states)?;
@@ -135,7 +136,7 @@ fn chained(alloc: Global, line: &str, goes_back: bool) -> Result<String, Fault> 
     }
 }
 
-/// The step, or none where there are too many nodes.
+/// The next tree, or None where it has too many nodes.
 fn next(
     alloc: Global,
     tree: &SafraTree,
@@ -148,7 +149,7 @@ fn next(
     }
 }
 
-/// What a long walk sees, in two lines. The first number is that of a sequence.
+/// What is seen on a long walk, in two lines. The first argument is the seed of the random sequence.
 pub(crate) fn steps_told(alloc: Global, first: u32, steps: u32) -> Result<String, Fault> {
     let mut sequence = Sequence::new(first);
     let letters = letters(alloc, &mut sequence)?;

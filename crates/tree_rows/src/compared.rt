@@ -1,4 +1,4 @@
-//! Trees beside plain ones.
+//! Trees of `safra_trees` and plain ones, stepped together and compared.
 
 ghost use Rattle.std.specs.Prelude.{◌<◌, All, IsTrue};
 ghost use Rattle.safra_trees.specs.Events.{IsMoveInRange};
@@ -11,25 +11,25 @@ use row_files::{Count, Fault, Sequence};
 use safra_trees::{Event, Move, Moves, SafraTree, Scratch, TreeFault, start, step, step_in_room};
 use std::alloc::Global;
 
-/// More trees than three states can have.
+/// An upper bound for the number of trees of three states.
 const MOST_TREES: usize = 100;
 
-/// A tree and the plain one that it should be.
+/// A tree, and the plain one that it should equal.
 #[derive(Drop)]
 struct Pair {
     tree: SafraTree,
     plain: Vec<PlainNode>,
 }
 
-/// A step of each.
+/// A step of both.
 #[derive(Drop)]
 struct Stepped {
     pair: Pair,
     agrees: bool,
 }
 
-/// Every tree that so few states can have, stepped under every letter there can be among them. So every step is here that
-/// an automaton of so many states takes, however many letters it has. Answers how many trees there are, too.
+/// Steps all trees of so few states under all letters that there can be among them, which covers all steps of all automata of
+/// so many states. Answers also how many trees there are.
 pub(crate) fn all_of(alloc: Global, states: u32, count: &mut Count) -> Result<usize, Fault> {
     let letters = every_letter(alloc, states)?;
     let mut pairs = Vec::new(alloc);
@@ -45,7 +45,7 @@ pub(crate) fn all_of(alloc: Global, states: u32, count: &mut Count) -> Result<us
     Ok(pairs.len())
 }
 
-/// Automata of one to eight states by chance, and of each a walk.
+/// A random walk in each of some random automata of one to eight states.
 pub(crate) fn by_chance(alloc: Global, count: &mut Count) -> Result<(), Fault> {
     let mut sequence = Sequence::new(1);
     for _ in 0..400 {
@@ -59,7 +59,7 @@ pub(crate) fn by_chance(alloc: Global, count: &mut Count) -> Result<(), Fault> {
     Ok(())
 }
 
-/// The tree at a place under a letter. Where the next tree is new, it goes behind the others.
+/// Steps the tree at an index under a letter. A tree that is new is added to the list.
 fn visit(
     alloc: Global,
     states: u32,
@@ -81,7 +81,7 @@ fn visit(
     Ok(())
 }
 
-/// A walk of some steps under letters by chance.
+/// A walk of some steps under random letters.
 fn walk(
     alloc: Global,
     states: u32,
@@ -117,7 +117,7 @@ fn first(alloc: Global, states: u32) -> Result<Pair, Fault> {
     })
 }
 
-/// The step, or `Fault::Failed` where an end of a move is no state.
+/// The next tree, or `Fault::Failed` where an end of a move is no state.
 fn next_tree(
     alloc: Global,
     states: u32,
@@ -154,7 +154,7 @@ fn are_within(states: u32, moves: &[Move]) -> bool
     true
 }
 
-/// The step of a tree and of the plain one, and whether they agree; none where there are too many nodes.
+/// The step of a tree and of the plain one, and whether they agree; None where there are too many nodes.
 fn both(alloc: Global, states: u32, pair: &Pair, moves: &Moves) -> Result<Option<Stepped>, Fault> {
     match next_tree(alloc, states, &pair.tree, moves)? {
         Ok((tree, event)) => {
@@ -176,7 +176,7 @@ fn both(alloc: Global, states: u32, pair: &Pair, moves: &Moves) -> Result<Option
     }
 }
 
-/// Whether the step that is told no number of states gives the same.
+/// Whether the step without a given number of states answers the same.
 fn gives_the_same(
     alloc: Global,
     tree: &SafraTree,
@@ -195,7 +195,7 @@ fn is_same_size(tree: &SafraTree, plain: &[PlainNode]) -> bool {
     tree.nodes() as usize == plain.len()
 }
 
-/// Whether the states of the root are those of the plain root.
+/// Whether the root has the states of the plain root.
 fn has_root(tree: &SafraTree, plain: &[PlainNode]) -> bool {
     let Some(root) = plain.first() else {
         return tree.root_states().len() == 0;
@@ -208,7 +208,7 @@ fn has_root(tree: &SafraTree, plain: &[PlainNode]) -> bool {
     all && held == tree.root_states().len()
 }
 
-/// Whether the tree equals just those of earlier ones whose plain tree equals the plain one.
+/// Whether the tree equals exactly those earlier ones whose plain trees are equal.
 fn are_alike(pairs: &[Pair], pair: &Pair) -> bool {
     for earlier in pairs {
         let same = earlier.plain == pair.plain;

@@ -1,4 +1,4 @@
-//! Letters by chance: almost all states stay, and few go on or elsewhere.
+//! Random letters for a long walk: most states stay, and a few go elsewhere.
 
 ghost use Rattle.std.specs.Prelude.{◌≡◌, ◌<◌, All, IfOk, OnOk, length};
 ghost use Rattle.safra_trees.specs.Events.{IsMoveInRange};
@@ -9,13 +9,13 @@ use row_files::{Fault, Sequence};
 use safra_trees::{Move, Moves};
 use std::alloc::Global;
 
-/// The number of states, all of which a letter may have moves of.
+/// The number of states.
 pub(crate) const STATES: u32 = 64;
 
 /// The number of letters.
 pub(crate) const LETTERS: u32 = 64;
 
-/// Letters by chance.
+/// Random letters.
 pub(crate) fn letters(alloc: Global, sequence: &mut Sequence) -> Result<Vec<Moves>, Fault>
     ensures count { IfOk result (λ letters. length letters.items ≡ LETTERS) }
     ensures within { IfOk result (λ letters. All (λ letter. All (IsMoveInRange STATES) letter) letters.items) }
@@ -27,7 +27,8 @@ pub(crate) fn letters(alloc: Global, sequence: &mut Sequence) -> Result<Vec<Move
     Ok(letters)
 }
 
-/// Each state stays with 97 chances in 100, goes on to the next by an accepting move with five, and with three to some state.
+/// Each state stays with probability 97 in 100, goes on to the next by an accepting move with 5 in 100, and to a random state
+/// with 3 in 100.
 fn letter_by_chance(alloc: Global, sequence: &mut Sequence) -> Result<Moves, Memory>
     ensures { IfOk result (λ moves. All (IsMoveInRange STATES) moves) }
 {
@@ -60,7 +61,7 @@ pub(crate) fn growing_letter(alloc: Global) -> Result<Moves, Memory>
     Ok(moves)
 }
 
-/// One move more.
+/// Adds a move.
 fn add(moves: &mut Moves, from: u32, to: u32, accepting: bool) -> Result<(), Memory>
     requires from { from < STATES }
     requires to { to < STATES }

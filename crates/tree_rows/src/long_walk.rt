@@ -1,4 +1,4 @@
-//! A long walk from tree to tree, to count what a step costs.
+//! A long walk from tree to tree, to measure what a step costs.
 
 ghost use Rattle.std.specs.Prelude.{◌≡◌, ◌<◌, All, length};
 ghost use Rattle.safra_trees.specs.Events.{IsMoveInRange};
@@ -12,39 +12,39 @@ use row_files::{Fault, Sequence};
 use safra_trees::{Event, Moves, SafraTree, Scratch, TreeFault, start, step_in_room};
 use std::alloc::Global;
 
-/// The sizes of the trees that are stepped.
+/// The least and the greatest number of nodes of trees that are stepped.
 const LEAST_NODES: u32 = 10;
 
 const MOST_NODES: u32 = 40;
 
-/// How many nodes the first of them has.
+/// The number of nodes of the first tree.
 const FIRST_NODES: u32 = 31;
 
-/// More than any priority.
+/// Greater than any priority.
 const NO_PRIORITY: u32 = 1000;
 
-/// A tree whose states are states of the letters.
+/// A tree over the states of the letters.
 #[derive(Drop)]
 struct Standing {
     tree: SafraTree,
     ghost states: { All (λ s. s < STATES) (root_states (tree_of tree)) },
 }
 
-/// What a walk has seen.
+/// What was seen on a walk.
 #[derive(Clone, Copy)]
 pub(crate) struct Seen {
     /// The least and the greatest number of nodes of the trees that were stepped.
     pub(crate) least: u32,
     pub(crate) most: u32,
-    /// How many steps had a least name that was red, and how many one that was green.
+    /// How many steps had a red name, and how many a green one.
     pub(crate) red: u32,
     pub(crate) green: u32,
-    /// Of the numbers of nodes and states of all trees that the steps gave, and of their least names.
+    /// A checksum of the numbers of nodes and states of all new trees, and of their least red and green names.
     pub(crate) checksum: u32,
 }
 
-/// Takes so many steps under letters by chance. A tree that has too few nodes or too many isn't stepped; then the same one is
-/// taken again.
+/// Takes so many steps under random letters. A tree with too few or too many nodes isn't stepped; the one before it is
+/// stepped again.
 pub(crate) fn long_walk(
     alloc: Global,
     letters: &[Moves],
@@ -73,7 +73,7 @@ pub(crate) fn long_walk(
     Ok(seen)
 }
 
-/// The first tree that is stepped: a chain of nodes.
+/// The first tree: a chain of nodes.
 fn first(alloc: Global) -> Result<Standing, Fault> {
     let mut standing = one_node(alloc)?;
     let moves = growing_letter(alloc)?;
@@ -92,7 +92,7 @@ fn one_node(alloc: Global) -> Result<Standing, Fault> {
     Ok(Standing { tree })
 }
 
-/// The step of a tree under one of the letters.
+/// The step of a tree under a random letter.
 fn next_by_chance(
     alloc: Global,
     standing: &Standing,
@@ -124,12 +124,13 @@ fn next(
     }
 }
 
-/// Whether trees with so many nodes are stepped.
+/// Whether trees of so many nodes are stepped.
 fn is_stepped(nodes: u32) -> bool {
     LEAST_NODES <= nodes && nodes <= MOST_NODES
 }
 
-/// The least of 2f and 2g + 1, for the names f that was red and g that was green; `NO_PRIORITY` where neither was.
+/// Piterman's priority: the least of 2f and 2g + 1, for the least red name f and the least green name g; `NO_PRIORITY` where
+/// there is neither.
 fn priority(event: &Event) -> u32 {
     let red = match event.red {
         Some(name) => name.saturating_mul(2),
@@ -143,7 +144,7 @@ fn priority(event: &Event) -> u32 {
 }
 
 impl Seen {
-    /// One step more: the tree that it gave, and its event.
+    /// Counts a step, by the new tree and its event.
     fn add(&mut self, tree: &SafraTree, event: &Event) {
         let nodes = tree.nodes();
         if is_stepped(nodes) {

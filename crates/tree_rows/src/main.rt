@@ -1,5 +1,5 @@
-//! Tells whether the trees of `safra_trees` and their steps are those of a plain program over lists of sets, and those
-//! that were worked out by hand. With two numbers as arguments it takes a long walk instead, to be measured.
+//! Compares the trees of `safra_trees` and their steps with those of a plain program over lists of sets, and with some that
+//! were worked out by hand. With two numbers as arguments it takes a long walk instead, to be measured.
 #![tactic(auto)]
 
 mod automata;
@@ -15,7 +15,7 @@ use row_files::{Count, Fault, Stop, ask, number};
 use std::alloc::Global;
 use std::env;
 
-/// How many trees one, two and three states can have, with the one without nodes.
+/// The number of trees that one, two and three states have, with the empty one.
 const TREES: [(u32, usize); 3] = [(1, 2), (2, 6), (3, 32)];
 
 fn main(rt: HostRuntime) -> Result<(), Stop> {
@@ -29,7 +29,7 @@ fn main(rt: HostRuntime) -> Result<(), Stop> {
     count.end(&rt)
 }
 
-/// The two numbers behind the program's name, or none where nothing stands there.
+/// The two numbers after the program's name, or None where there are no arguments.
 fn asked(rt: &HostRuntime) -> Result<Option<(u32, u32)>, Fault> {
     let arguments: Vec<String> = env::args(rt)?.collect(rt.alloc())?;
     match arguments.as_slice() {
@@ -45,7 +45,7 @@ fn print_long_walk(rt: &HostRuntime, first: u32, steps: u32) -> Result<(), Fault
     Ok(())
 }
 
-/// The rows that stand in no file: each step of all trees of up to three states, the numbers of these, and walks.
+/// The rows that are in no file: each step of all trees of up to three states, the numbers of these, and random walks.
 fn compare(alloc: Global, count: &mut Count) -> Result<(), Fault> {
     for (states, trees) in TREES {
         let found = compared::all_of(alloc, states, count)?;

@@ -1,16 +1,16 @@
-//! Trees as lists of sets, and their step part by part, as it is told.
+//! Safra trees as lists of sets, and their step, written out part by part as in the papers.
 
 use safra_trees::Move;
 use std::alloc::{AllocError, Global};
 
-/// A node: the name of its parent, and for each state whether it holds it.
+/// A node: the name of its parent, and for each state whether it has it in its set.
 #[derive(PartialEq, Eq, Drop)]
 pub(crate) struct PlainNode {
     pub(crate) parent: usize,
     pub(crate) holds: Vec<bool>,
 }
 
-/// What a step gives.
+/// The answer of a step.
 #[derive(Drop)]
 pub(crate) struct PlainStep {
     pub(crate) tree: Vec<PlainNode>,
@@ -35,7 +35,7 @@ pub(crate) fn plain_start(
     Ok(tree)
 }
 
-/// The step: goals, fresh children, what younger siblings lose, and what goes then.
+/// The step: successors and fresh children, horizontal merge, vertical merge, and new names.
 pub(crate) fn plain_step(
     alloc: Global,
     tree: &[PlainNode],
@@ -62,7 +62,7 @@ pub(crate) fn plain_step(
     })
 }
 
-/// Each node with its goals, and behind them a youngest child of each with the goals of its accepting moves.
+/// Each node with the successors of its set, and after all of them a youngest child of each with its accepting successors.
 fn grown(alloc: Global, tree: &[PlainNode], moves: &[Move]) -> Result<Vec<PlainNode>, AllocError> {
     let mut nodes = Vec::new(alloc);
     for node in tree {
@@ -80,7 +80,7 @@ fn grown(alloc: Global, tree: &[PlainNode], moves: &[Move]) -> Result<Vec<PlainN
     Ok(nodes)
 }
 
-/// The goals of moves from a set, or of the accepting ones alone.
+/// The successors of a set by all moves, or by accepting ones alone.
 fn goals(
     alloc: Global,
     from: &[bool],
@@ -96,7 +96,7 @@ fn goals(
     Ok(found)
 }
 
-/// Each node with what its parent keeps and no older sibling holds.
+/// The horizontal merge: each node with the states that its parent keeps and no older sibling has.
 fn kept(alloc: Global, nodes: &[PlainNode]) -> Result<Vec<PlainNode>, AllocError> {
     let mut kept = Vec::new(alloc);
     for (name, node) in nodes.iter().enumerate() {
@@ -112,7 +112,7 @@ fn kept(alloc: Global, nodes: &[PlainNode]) -> Result<Vec<PlainNode>, AllocError
     Ok(kept)
 }
 
-/// Whether a parent keeps a state and no child of it that stands in the list does.
+/// Whether a parent keeps a state that no child before this one in the list has.
 fn is_left(kept: &[PlainNode], parent: usize, state: usize) -> bool {
     let mut left = false;
     for (name, node) in kept.iter().enumerate() {
@@ -125,7 +125,7 @@ fn is_left(kept: &[PlainNode], parent: usize, state: usize) -> bool {
     left
 }
 
-/// Which nodes stay: those with states none of whose ancestors is covered.
+/// The vertical merge, which nodes stay: those with states, none of whose ancestors is covered by its children.
 fn stay(alloc: Global, kept: &[PlainNode]) -> Result<Vec<bool>, AllocError> {
     let mut stay = Vec::new(alloc);
     for (name, node) in kept.iter().enumerate() {
@@ -135,7 +135,7 @@ fn stay(alloc: Global, kept: &[PlainNode]) -> Result<Vec<bool>, AllocError> {
     Ok(stay)
 }
 
-/// Whether each state of a node is held by a child of it.
+/// Whether the children of a node cover it: each of its states is in one of them.
 fn is_covered(kept: &[PlainNode], name: usize) -> bool {
     let Some(node) = kept.get(name) else {
         return false;
@@ -157,7 +157,7 @@ fn in_child(kept: &[PlainNode], parent: usize, state: usize) -> bool {
     false
 }
 
-/// The nodes that stay, by their new names.
+/// The nodes that stay, with names closed up.
 fn renamed(alloc: Global, kept: &[PlainNode], stay: &[bool]) -> Result<Vec<PlainNode>, AllocError> {
     let mut tree = Vec::new(alloc);
     for (name, node) in kept.iter().enumerate() {
@@ -171,7 +171,7 @@ fn renamed(alloc: Global, kept: &[PlainNode], stay: &[bool]) -> Result<Vec<Plain
     Ok(tree)
 }
 
-/// How many names before this one stay.
+/// How many of the names before this one stay.
 fn rank(stay: &[bool], name: usize) -> usize {
     stay.iter().take(name).filter(|stays| **stays).count()
 }

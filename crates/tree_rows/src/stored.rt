@@ -1,4 +1,4 @@
-//! Plain trees as `safra_trees` stores its trees.
+//! Plain trees in the form in which `safra_trees` stores trees.
 
 use crate::plain::{PlainNode, is_set};
 use aut_base::Numbers;
@@ -6,7 +6,8 @@ use row_files::Fault;
 use safra_trees::SafraTree;
 use std::alloc::Global;
 
-/// What `safra_trees` stores of a tree. Its fields have the same names, so that both have the same text but for this name.
+/// What `safra_trees` stores of a tree. The fields have the same names, so that the debug texts of both are equal but for the
+/// name of the type.
 #[derive(Debug, Drop)]
 struct StoredTree {
     parents: Numbers,
@@ -14,7 +15,7 @@ struct StoredTree {
     places: Numbers,
 }
 
-/// Whether the stored tree is the plain one: each node's parent, and each state with the deepest node that holds it.
+/// Whether the stored tree is the plain one: the parent of each node, and for each state the deepest node that has it.
 pub(crate) fn is_stored(
     alloc: Global,
     tree: &SafraTree,
@@ -47,7 +48,7 @@ fn stored(alloc: Global, plain: &[PlainNode]) -> Result<StoredTree, Fault> {
     })
 }
 
-/// The last of the nodes that hold a state, which is the deepest.
+/// The last of the nodes that have a state, which is the deepest.
 fn deepest(plain: &[PlainNode], state: usize) -> Option<usize> {
     let mut last = None;
     for (name, node) in plain.iter().enumerate() {
@@ -58,7 +59,7 @@ fn deepest(plain: &[PlainNode], state: usize) -> Option<usize> {
     last
 }
 
-/// A number that stands in a tree, all of which are small.
+/// A number in a tree, all of which are small.
 fn number(small: usize) -> u32 {
     u32::try_from(small).unwrap_or(u32::MAX)
 }

@@ -1,4 +1,4 @@
--- What the texts alone decide of the answer of the command.
+-- The texts alone determine the answer of the command.
 use Rattle.std.proofs.Common.{◌≡◌, ◌∙◌, ◌⊎◌, ◌==◌, ℕ, Bool, true, false, cond, List, [], ◌∷◌, ◌++◌, Option, Some, None, ap, append-nil, inl, inr, length, refl, subst, sym}
 use Rattle.autfilt_laws.proofs.alike.LeftBehind.{IsLeftBehind, one_left_behind}
 use Rattle.autfilt_laws.proofs.alike.SamePlans.{same_plan_ended, same_plan_left}
@@ -42,7 +42,7 @@ by_end (end.Fault fault.ReadFault) h = absurd h
 by_end (end.Fault fault.WriteFault) h = absurd h
 by_end (end.Fault fault.Memory) h = absurd h
 
--- ---- a run of a plan, as one that the texts ended
+-- ---- a run of a plan, as an outcome that the texts determine
 
 abbrev outcome : List OperandEvent → List Event → End → List ℕ → Option (List ℕ) → Outcome
 outcome taken events e name left = record { taken = taken; events = events; end = e; name = name; left = left }
@@ -146,7 +146,7 @@ is_written p e taken events name seen seen' out out' by_cases (inl h) =
 is_written p e taken events name seen seen' out out' by_cases (inr h) =
     gains_text p e events out.written out'.written by_cases (prints_over p p.made _ _ _ e events name h.mid seen' out out' h.runs)
 
--- the same text is due under the same plan
+-- the text that is due doesn't depend on where patterns are stored
 same_due : (p q : Plan) (e : End) (events : List Event) → SamePlan p q → text_due p e events ≡ text_due q e events
 same_due p q e events same = ap (λ (z : Plan). text_due z e events) same.others ∙ by_cases e
   where
@@ -172,7 +172,7 @@ all_noted_like plan [] (f ∷ fs) like = absurd like
 all_noted_like plan (e ∷ es) [] like = absurd like
 all_noted_like plan (e ∷ es) (f ∷ fs) like = let first = noted_like plan e f like.0 in let rest = all_noted_like plan es fs like.1 in λ i. first i ++ rest i
 
--- ---- the run of an answer
+-- ---- the outcome of an answer
 
 record Came (plan : Plan) (texts : Texts) (r : Answered) : Type 0 where
   o : Outcome

@@ -1,4 +1,4 @@
--- What asks for more holds nothing whole.
+-- A prefix of a text that needs more bytes holds no whole automaton.
 use Rattle.std.proofs.Common.{◌≡◌, ◌≢◌, ◌∙◌, ◌+◌, ◌-◌, ◌<◌, ◌≤◌, ℕ, Bool, true, false, not, is_some, Option, Some, None, List, [], ◌∷◌, ◌++◌, ap}
 use Rattle.std.proofs.Common.{append-nil, append_assoc, arith, length, length-append, refl, subst, sym}
 use Rattle.std.proofs.lemmas.List.{map-append}
@@ -57,7 +57,7 @@ next_strictly input start t i rest n =
     let some = some_length n.front.word (λ e. spelled_some t (subst (spelling.Spells t) e n.front.spells)) in
     omega (arith, some, simp length-append at (ap length n.split), simp length-append at (ap length n.front.split))
 
--- the last token of an automaton closes itself
+-- the last token of an automaton is complete with its own last byte
 last_is_end : (p : AutomatonPhrase) (done : List Token) (t : Token) → done ++ t ∷ [] ≡ automaton_tokens p → t ≡ token.End
 last_is_end p done t e =
     let inner = flat_map item_tokens p.items in
@@ -67,15 +67,15 @@ last_is_end p done t e =
 
 -- ---- two readings of one text
 
--- One asks for more with these tokens, and the other goes on to the end of others, at `rest`.
+-- One reading stops and asks for more after these tokens; the other reads the tokens `whole`, up to `rest`.
 record IsApart (tokens whole : List Token) (new rest : List ℕ) : Type 0 where
-  -- the last of the others closes itself, if it ends where more is asked for
+  -- the last token of the other is complete with its own last byte, where both stop at the same byte
   closing : (done : List Token) (t : Token) → whole ≡ done ++ t ∷ [] → length rest ≡ length new → closes_itself t ≡ true
-  -- the one goes no further than the other
+  -- the first reading isn't the longer one
   beyond : (us : List Token) → tokens ≡ whole ++ us → ⊥
 
 module _ (tokens whole : List Token) (at_hand new rest : List ℕ) (are : IsApart tokens whole new rest) (asks : AsksForMore at_hand) (short : length new ≤ length rest) where
-  -- a token of the other is closed by what is at hand
+  -- a token of the other is complete within what the first has read
   closed : (q : Token × ℕ) (qs : List (Token × ℕ)) (done : List Token) (start : ℕ) (after : List ℕ) → whole ≡ done ++ q.0 ∷ shown qs → IsNext (at_hand ++ new) start q.0 q.1 after
       → Lexes after (start + (length (at_hand ++ new) - length after)) qs rest → ⊥
   closed q qs done start after is n lexes =
@@ -114,9 +114,9 @@ none_asks : (start : ℕ) (text new rest : List ℕ) (placed : List (Token × �
 none_asks start text new rest placed a are lexes short =
     apart a.tokens (shown placed) a.asks.at_hand new rest are a.asks.asks short a.begun.placed placed [] text start a.rest (sym a.begun.shown) refl a.begun.lexes lexes a.asks.split
 
--- ---- where an automaton stands whole
+-- ---- where a whole automaton is next
 
--- nothing begun is an automaton, or goes on behind one
+-- a prefix of an automaton that needs more isn't a whole automaton with tokens after it
 beyond_whole : (tokens whole us : List Token) (w : Written) → IsViable most_depth tokens → SpellsNothing tokens → SpellsAutomaton most_depth whole w → tokens ≡ whole ++ us → ⊥
 beyond_whole tokens whole [] w viable unfinished spelled e = unfinished most_depth w (subst (λ (ts : List Token). SpellsAutomaton most_depth ts w) (sym (e ∙ append-nil whole)) spelled)
 beyond_whole tokens whole (u ∷ us) w viable unfinished spelled e =
@@ -130,7 +130,7 @@ none_asks_behind start text w rest new whole asks short =
       beyond = λ us. beyond_whole asks.tokens (shown whole.placed) us w asks.begun.viable asks.begun.unfinished whole.spells;
     }) whole.lexes short
 
--- ---- where a token stands next, behind what was begun
+-- ---- where another token follows what was read
 
 module _ (start : ℕ) (text : List ℕ) (tokens : List Token) (used : ℕ) (rest : List ℕ) (t : Token) (offset : ℕ) (after new : List ℕ) (begun : IsBegun start text tokens used rest)
     (next : IsNext rest used t offset after) where
@@ -152,7 +152,7 @@ module _ (start : ℕ) (text : List ℕ) (tokens : List Token) (used : ℕ) (res
         beyond = λ us is. beyond us (is ∙ ap (λ (ts : List Token). ts ++ us) with_it_shown ∙ append_assoc tokens (t ∷ []) us);
       }) with_it_read
 
--- where it opens one more than may be open
+-- where a token nests too deep
 pub deep_fewer : (start : ℕ) (text left : List ℕ) → EndsDeep start text left → length left ≤ length text
 deep_fewer start text left h =
     let d = h.deep in
@@ -190,7 +190,7 @@ none_asks_behind_deep start text left new h a short =
         open_no false e = absurd (let no : false ≡ true = e in cc)
     closed_there (Some b) t left new after is needed short size = absurd (omega (arith, short, size, ap length is))
 
--- where it is abandoned
+-- where an automaton is abandoned
 pub none_asks_behind_abort : (start : ℕ) (text after new : List ℕ) → IsAborted start text after → AsksOn start text new → length new ≤ length after → ⊥
 none_asks_behind_abort start text after new h a =
     none_asks_behind_token start text h.tokens h.used h.rest token.Abort h.offset after new h.begun h.next a (λ size. refl)

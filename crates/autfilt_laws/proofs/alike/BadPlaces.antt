@@ -1,4 +1,4 @@
--- The bytes that show a bad token are the first that do: a reader that takes none past them stops at one place.
+-- The shortest prefix that shows a bad token is unique, so readers that take no more stop at the same byte.
 use Rattle.std.proofs.Common.{◌≡◌, ◌⊎◌, ℕ, ◌+◌, ◌-◌, List, [], ◌∷◌, ◌++◌, length, inl, inr, refl, sym, ap, ◌∙◌, subst, arith}
 use Rattle.std.proofs.lemmas.List.{append_assoc, append-nil, append_cancel_right, length-append}
 use Rattle.autfilt_run.specs.Runs.{IsSyntaxFault}
@@ -16,7 +16,7 @@ use Rattle.hoa_parser.specs.Reads.{AskedForLast, AsksOn, IsHopeless}
 use Rattle.hoa_parser.specs.Standing as standing
 use Rattle.hoa_parser.specs.Standing.{IsBad, IsMisplaced, IsNoTokenAt, most_depth}
 
--- ---- with more bytes behind
+-- ---- adding bytes at the end
 
 token_on : (x more : List ℕ) → AfterBlanks x HasFront → AfterBlanks (x ++ more) HasFront
 token_on x more a = record {
@@ -38,7 +38,7 @@ fault_on k tokens used rest more (inl m) = inl (record {
 })
 fault_on k tokens used rest more (inr n) = inr (no_token_at_on k used rest more n)
 
--- ---- a token that stands next, from wherever bytes are counted
+-- ---- the next token, whatever offset is counted from
 
 next_of : (used : ℕ) (x : List ℕ) (a : AfterBlanks x HasFront) → HasNext used x a.holds.token
 next_of used x a = record {
@@ -54,7 +54,7 @@ next_from used start x t i rest n = record {
   next = record { before = n.before; bytes = n.bytes; split = n.split; blanks = n.blanks; place = refl; front = n.front };
 }
 
--- ---- bytes that ask for more show no bad token
+-- ---- a prefix that needs more bytes contains no bad token
 
 asks_no_token : (x more : List ℕ) → AsksForMore (x ++ more) → AfterBlanks x HasFront → ⊥
 asks_no_token x more a f = a.unclosed (token_on x more f)
@@ -66,24 +66,24 @@ asks_no_fault k tokens used x more a (inr n) =
     let closes = subst (λ (w : List ℕ). AfterBlanks w HasFront) (append_assoc x more a.more) a.closes in
     next_no_fault k used whole closes.holds.token (next_of used whole closes) (no_token_at_on k used x (more ++ a.more) n)
 
--- One reading comes to a bad token at its rest. Another, of these bytes and more, has bytes at hand that ask for more.
+-- One reading finds a bad token at its rest. Another, of the same bytes and more, needs more.
 record TwoReadings (k used : ℕ) (tokens others : List Token) (rest at_hand : List ℕ) : Type 0 where
   halts : Halts (standing.Bad k) tokens used rest
   viable : IsViable most_depth others
   asks : AsksForMore at_hand
 
 module _ (k used : ℕ) (tokens others : List Token) (rest extra new at_hand : List ℕ) (r : TwoReadings k used tokens others rest at_hand) where
-  -- what is read of the bytes from here on is at hand
+  -- the bytes read from here on are among those at hand
   at_hand_here : (x : List ℕ) → x ++ (extra ++ new) ≡ at_hand ++ new → AsksForMore (x ++ extra)
   at_hand_here x e = subst AsksForMore (append_cancel_right at_hand (x ++ extra) new (sym e ∙ sym (append_assoc x extra new))) r.asks
 
-  -- the second goes no further than the first
+  -- the second reading isn't longer than the first
   goes_no_further : (t : Token) (us : List Token) → HasNext used (rest ++ (extra ++ new)) t → others ≡ tokens ++ t ∷ us → ⊥
   goes_no_further t us n is =
       halts_here (standing.Bad k) tokens us t used (rest ++ (extra ++ new)) (r.halts.0, fault_on k tokens used rest (extra ++ new) r.halts.1) n
       (subst (λ (ts : List Token). IsViable most_depth ts) is r.viable)
 
-  -- so there are no such two, where that which asks for more has all bytes of the other
+  -- so two such readings are impossible, where the second has all bytes of the first
   apart : (ps qs : List (Token × ℕ)) (done : List Token) (input : List ℕ) (start : ℕ) (behind : List ℕ)
       → tokens ≡ done ++ shown ps → others ≡ done ++ shown qs
       → Lexes input start ps rest → Lexes (input ++ (extra ++ new)) start qs behind → behind ≡ at_hand ++ new → ⊥
@@ -106,7 +106,7 @@ module _ (k used : ℕ) (tokens others : List Token) (rest extra new at_hand : L
       (b ∙ ap (λ (t : Token). done ++ t ∷ shown qs) (sym same.0) ∙ sym (append_assoc done (p.0 ∷ []) (shown qs)))
       f.2 there e
 
--- what asks for more has not all bytes of what shows a bad token
+-- a reading that needs more hasn't all bytes that show a bad token
 pub no_earlier : (k start : ℕ) (bytes extra new : List ℕ) → IsBad start bytes k → AsksOn start (bytes ++ (extra ++ new)) new → ⊥
 no_earlier k start bytes extra new bad a =
     let r = reading (standing.Bad k) start bytes bad in
@@ -134,7 +134,7 @@ one_end_of_both x y a b = go a.before a.split
     go [] e = e
     go (c ∷ cs) e = absurd (omega (arith, simp length-append at (ap length e), simp length-append at (ap length b.split)))
 
--- what shows it ends no later than what was asked for
+-- the prefix that shows it isn't longer than the one that was asked for
 no_later : (k start : ℕ) (text x y : List ℕ) → IsHopeless k start text x → AskedForLast start text y → Leaves y x
 no_later k start text x y h a =
     let l = asked_leaves start text (a.byte ∷ y) a.asked in

@@ -1,4 +1,4 @@
--- Where what stands in a text ended a run, the name in hand is one, and so is what is left.
+-- Where a run ended by what is next in a text, the name of the file and what is left are unique.
 use Rattle.std.proofs.Common.{◌≡◌, ◌⊎◌, ℕ, true, List, [], Option, Some, refl, sym, ap, ◌∙◌, subst, inl, inr}
 use Rattle.aut_base.specs.Automaton.{Automaton}
 use Rattle.aut_base.specs.declared.limit.Limit.{Limit}
@@ -27,7 +27,7 @@ use Rattle.hoa_parser.specs.Standing as standing
 use Rattle.hoa_parser.specs.Standing.{OneStanding}
 use Rattle.hoa_reader.specs.Elaborating.{PassesLimit}
 
--- the run stands in the file of the name in hand
+-- the open file has the name in hand
 pub at_named : (on : Type 0) (stops : RunFault → ℕ → List ℕ → List ℕ → Type 0) (f : RunFault) (name : List ℕ) (p : Point) (left : Option (List ℕ))
     → IsByText (end.Fault f) → StopsWhere on stops f name p left → AtNamed on p name left (stops f)
 at_named on stops (fault.SyntaxAt k) name p left by h = h
@@ -41,19 +41,19 @@ at_named on stops fault.Memory name p left by h = absurd by
 
 -- ---- what is left
 
--- behind the automaton that stands whole
+-- after a whole automaton
 one_behind : OneStanding → (P : Written → Type 0) (start : ℕ) (rest x y : List ℕ) → StandsWith P start rest x → StandsWith P start rest y → x ≡ y
 one_behind one P start rest x y a b =
     let is = one start rest (standing.Whole a.automaton x) (standing.Whole b.automaton y) a.whole b.whole in
     (whole_is a.automaton b.automaton x y is).1
 
--- where a limit is told
+-- at a limit, by when it is noticed
 one_at_limit : OneStanding → (P : Written → Type 0) (t : Told) (start : ℕ) (rest x y : List ℕ) → (t ≡ AtByte → x ≡ y) → StopsAtLimit t P start rest x → StopsAtLimit t P start rest y → x ≡ y
 one_at_limit one P AtToken start rest x y full a b = one_deep_end start rest x y a.ends b.ends
 one_at_limit one P AtByte start rest x y full a b = full refl
 one_at_limit one P OfWhole start rest x y full a b = one_behind one P start rest x y a b
 
--- how a run may stop at this fault, of one text
+-- what is left when a run ends with this fault in one text is unique
 abbrev IsOneLeft : (RunFault → ℕ → List ℕ → List ℕ → Type 0) → RunFault → Type 0
 IsOneLeft stops f =
     IsByText (end.Fault f) → (start : ℕ) (rest x y : List ℕ) → (f ≡ fault.Limit limit.Bytes → x ≡ y) → stops f start rest x → stops f start rest y → x ≡ y
@@ -83,13 +83,13 @@ one_left_in_operand one fault.ReadFault by start rest x y full a b = absurd by
 one_left_in_operand one fault.WriteFault by start rest x y full a b = absurd by
 one_left_in_operand one fault.Memory by start rest x y full a b = absurd by
 
--- ---- two runs that end alike at one point
+-- ---- two runs with the same end at one point
 
 pub record IsOnePlace (e : End) (n m : List ℕ) (l k : Option (List ℕ)) : Type 0 where
   pub name : TellsName e → n ≡ m
   pub left : l ≡ k
 
--- at the limit of bytes more is asked for
+-- at the limit of bytes a reader needs more
 abbrev AreAsking : (RunFault → ℕ → List ℕ → List ℕ → Type 0) → Type 0
 AreAsking stops = (start : ℕ) (rest now : List ℕ) → stops (fault.Limit limit.Bytes) start rest now → AsksOn start rest now
 

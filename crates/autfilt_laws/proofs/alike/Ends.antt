@@ -1,4 +1,4 @@
--- What stands in the texts decides where a run ends in the streams.
+-- The texts alone determine at which point of the streams a run ends.
 use Rattle.std.proofs.Common.{◌≡◌, ℕ, ◌+◌, true, List, [], ◌∷◌, Option, Some, None, sym, ap, ◌∙◌, subst, inl, inr}
 use Rattle.std.proofs.lemmas.Bool.{false≢true}
 use Rattle.aut_base.specs.Automaton.{Automaton}
@@ -22,7 +22,7 @@ use Rattle.autfilt_run.specs.declared.fault.RunFault.{RunFault}
 use Rattle.filter_plan.specs.declared.plan.Plan.{Plan}
 use Rattle.hoa_parser.specs.Standing.{OneStanding}
 
--- what a plan asks of the automata of its streams
+-- what a plan says about the automata of its streams
 abbrev pub in_streams : Plan → List Automaton → Asking
 in_streams plan ops = record { over = λ which w. IsOverLimit which plan ops w; blank = λ f. ⊥ }
 
@@ -37,7 +37,7 @@ one_in_streams plain plan ops = record {
 abbrev pub IsStopped : Plan → List Automaton → Point → RunFault → Type 0
 IsStopped plan ops p f = Stopped (asks_on plan p.kept ≡ true) (in_streams plan ops) p f
 
--- a run of which all was read, or that something in a stream ended
+-- a run that read all, or that ended by what is next in a stream
 abbrev pub Ends : Plan → List Automaton → ℕ → Point → List Event → End → Type 0
 Ends plan ops passed p events (end.Fault f) = IsStopped plan ops p f
 Ends plan ops passed p events e = IsDone plan p × (e ≡ end_of (tally_after passed events))
@@ -52,7 +52,7 @@ ends_at plan ops passed (end.Fault f) events name p left by fitted t h =
     let named = at_named (asks_on plan p.kept ≡ true) (StopsReading (λ which w. IsOverLimit which plan ops w)) f name p left by h.0 in
     stopped (asks_on plan p.kept ≡ true) (in_streams plan ops) f p left by fitted named.at h.1
 
--- ---- nothing happens where the run has ended
+-- ---- no event happens at a point where the run has ended
 
 none_behind : OneStanding → AreOne → (plan : Plan) (ops : List Automaton) (texts : Texts) (f : RunFault) (e : Event) (p q : Point)
     → Halted (asks_on plan p.kept ≡ true) (in_streams plan ops) p f → IsEventJudged plan ops e → EventLeads texts e p q → ⊥
@@ -91,7 +91,7 @@ nothing_more one plain plan ops passed texts events end.NoneOutput e p q fitted 
 nothing_more one plain plan ops passed texts events end.Aborts e p q fitted h j asks g = done_goes plan texts e p q h.0 asks g
 nothing_more one plain plan ops passed texts events end.Usage e p q fitted h j asks g = done_goes plan texts e p q h.0 asks g
 
--- the events of two runs that ended
+-- two runs that ended have the same events
 pub same_events : OneStanding → AreOne → (plan : Plan) (ops : List Automaton) (passed : ℕ) (texts : Texts) (es fs all all' : List Event) (e d : End) (p q r : Point)
     → IsFitted p → AreJudged plan ops es → AreJudged plan ops fs
     → Happen plan texts es p q → Happen plan texts fs p r → Ends plan ops passed q all e → Ends plan ops passed r all' d → AreLike plan es fs × (q ≡ r)
@@ -106,7 +106,7 @@ same_events one plain plan ops passed texts (e' ∷ es) (f ∷ fs) all all' e d 
     (subst (λ (z : Point). Happen plan texts fs z r) (sym same.1) b.3) x y in
     ((same.0, rest.0), rest.1)
 
--- an end of the one is one of the other
+-- the end of the one is one of the other
 pub ends_like : (plan : Plan) (ops : List Automaton) (passed : ℕ) (p : Point) (es fs : List Event) (d : End) → AreLike plan es fs → Ends plan ops passed p fs d → Ends plan ops passed p es d
 ends_like plan ops passed p es fs (end.Fault f) like h = h
 ends_like plan ops passed p es fs end.Output like h = (h.0, h.1 ∙ ap end_of (tally_like plan _ es fs like))

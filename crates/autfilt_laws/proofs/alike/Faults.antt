@@ -1,5 +1,5 @@
--- Which faults fit what stands at the rest of a file. `over` tells which limits are passed behind the reader, and `blank` which
--- faults come where only blanks are left.
+-- Which faults go with what is next in the rest of a file. `over` says which limits are passed after reading, and `blank`
+-- which faults come where only blanks are left.
 use Rattle.std.proofs.Common.{◌≡◌, ◌⊎◌, ℕ, List, Option, Some, None, refl, sym, ap, ◌∙◌, subst, inl, inr}
 use Rattle.aut_base.specs.declared.limit.Limit.{Limit}
 use Rattle.aut_base.specs.declared.limit.Limit.TheVariants as limit
@@ -24,7 +24,7 @@ use Rattle.hoa_reader.specs.Elaborating.{PassesLimit}
 use Rattle.hoa_reader.specs.Validity.{IsFirstBroken, IsValid}
 use Rattle.hoa_reader.specs.declared.elaborate.Rule.{Rule}
 
--- what else a plan asks of an automaton
+-- what else a plan says about an automaton
 pub record Asking : Type 1 where
   pub over : Limit → Written → Type 0
   pub blank : RunFault → Type 0
@@ -37,14 +37,14 @@ Fits a (standing.Bad k) f = f ≡ fault.SyntaxAt k
 Fits a (standing.Aborted next) f = ⊥
 Fits a standing.Cut f = f ≡ fault.Truncated
 
--- it asks for one thing, of what is valid and within the limits of reading
+-- it says one thing of each automaton that is valid and within the limits of reading
 pub record IsOneAsking (a : Asking) : Type 0 where
   pub limit : (which other : Limit) (w : Written) → a.over which w → a.over other w → which ≡ other
   pub blank : (f g : RunFault) → a.blank f → a.blank g → f ≡ g
   pub valid : (which : Limit) (w : Written) → a.over which w → IsValid w
   pub within : (which : Limit) (w : Written) → a.over which w → PassesNone w
 
--- nothing is wrong with what is good and over no limit
+-- no fault goes with an automaton that is good and passes no limit
 pub unfit_whole : (a : Asking) (w : Written) (next : List ℕ) (f : RunFault) → Fits a (standing.Whole w next) f → IsValid w → PassesNone w → ((which : Limit) → a.over which w → ⊥) → ⊥
 unfit_whole a w next f (inl h) valid within none = none_first h.0 w h.2 valid
 unfit_whole a w next f (inr h) valid within none = go h.2
@@ -53,7 +53,7 @@ unfit_whole a w next f (inr h) valid within none = go h.2
     go (inl p) = no_count p.count w p.passes within
     go (inr o) = none h.0 o
 
--- one fault at most fits
+-- at most one fault goes with it
 one_passed : (a : Asking) → IsOneAsking a → (which other : Limit) (w : Written) → PassesLimit which w ⊎ a.over which w → PassesLimit other w ⊎ a.over other w → which ≡ other
 one_passed a one which other w (inl x) (inl y) = one_limit which other w x y
 one_passed a one which other w (inl x) (inr y) = absurd (no_count x.count w x.passes (one.within other w y))
@@ -75,7 +75,7 @@ one_fit a one (standing.Whole w next) f g (inl x) (inr y) = absurd (none_first x
 one_fit a one (standing.Whole w next) f g (inr x) (inl y) = absurd (none_first y.0 w y.2 (is_valid a one x.0 w x.2))
 one_fit a one (standing.Whole w next) f g (inr x) (inr y) = x.1 ∙ ap fault.Limit (one_passed a one x.0 y.0 w x.2 y.2) ∙ sym y.1
 
--- ---- a run that what stands next ended
+-- ---- a run that ended by what is next
 
 pub record Halted (on : Type 0) (a : Asking) (p : Point) (f : RunFault) : Type 0 where
   pub asks : on
@@ -90,13 +90,13 @@ both_halted one on a plain p f g x y =
     let is = one_standing_in one p.stream x.stream y.stream x.what y.what x.is_open y.is_open x.stands y.stands in
     one_fit a plain x.what f g x.fits (subst (λ (s : Standing). Fits a s g) (sym is) y.fits)
 
--- what leads on from there has to fit, too
+-- an event that happens there goes with it, too
 pub halted_look : OneStanding → (on : Type 0) (a : Asking) (p q : Point) (f : RunFault) (W : List ℕ → Standing) (F : Stream → List ℕ → Point) → Halted on a p f → (b : Look p W F q)
     → Fits a (W b.next) f
 halted_look one on a p q f W F h b =
     subst (λ (s : Standing). Fits a s f) (one_standing_in one p.stream h.stream b.stream h.what (W b.next) h.is_open b.is_open h.stands b.stands) h.fits
 
--- ---- which of them it is, by what stands there
+-- ---- which fault it is, by what is next
 
 record Shown (a : Asking) (start : ℕ) (rest : List ℕ) (f : RunFault) : Type 0 where
   what : Standing
@@ -132,12 +132,12 @@ halted on a f p left by other h =
 
 -- ---- or the limit of bytes ended it
 
--- what stands next ended it, and no bytes were wanting
+-- a run that ended by what is next, within the limit of bytes
 pub record HaltedWithin (on : Type 0) (a : Asking) (p : Point) (f : RunFault) : Type 0 where
   pub halted : Halted on a p f
   pub within : IsFull p → ⊥
 
--- as many bytes were taken as may be
+-- the limit of bytes is reached
 pub record HaltedFull (on : Type 0) (p : Point) (f : RunFault) : Type 0 where
   pub asks : on
   pub is : f ≡ fault.Limit limit.Bytes
@@ -184,7 +184,7 @@ stopped on a f p left by fitted h c = go (is_bytes f)
 
 -- ---- where an operand is read
 
--- there has to be one
+-- only blanks are a fault, too
 abbrev pub in_operands : Asking
 in_operands = record { over = λ which w. ⊥; blank = λ f. f ≡ fault.Truncated }
 

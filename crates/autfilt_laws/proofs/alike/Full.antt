@@ -1,4 +1,4 @@
--- Where as many bytes were taken as may be and one more is asked for, nothing else ends a run, and nothing more happens.
+-- Where the limit of bytes is reached and another byte is needed, no event happens and a run ends with no other fault.
 use Rattle.std.proofs.Common.{◌≡◌, ◌∙◌, ◌⊎◌, ℕ, ◌+◌, ◌<◌, ◌≤◌, List, [], ◌∷◌, ◌++◌, length, Option, Some, None, ap, arith, inl, inr, length-append, refl, subst, sym}
 use Rattle.aut_base.specs.declared.limit.Limit.{Limit}
 use Rattle.aut_base.specs.declared.limit.Limit.TheVariants as limit
@@ -23,7 +23,7 @@ use Rattle.hoa_parser.specs.Reads.{AsksOn, EndsDeep, IsHopeless}
 use Rattle.hoa_parser.specs.Standing.{IsAborted, IsWhole}
 use Rattle.hoa_reader.specs.Elaborating.{PassesLimit}
 
--- as many bytes were taken as may be, and one more is asked for
+-- the limit of bytes is reached, and another byte is needed
 pub record IsFull (p : Point) : Type 0 where
   pub stream : Stream
   pub is_open : p.stream ≡ Some stream
@@ -31,7 +31,7 @@ pub record IsFull (p : Point) : Type 0 where
   pub asks : AsksOn (bytes_before stream.text stream.rest) stream.rest new
   pub full : p.before + bytes_before stream.text new ≡ MOST_BYTES
 
--- ---- no more is left of the open file than it has
+-- ---- what is left of the open file is no longer than the file
 
 abbrev pub IsFitted : Point → Type 0
 IsFitted p = (s : Stream) → p.stream ≡ Some s → length s.rest ≤ length s.text
@@ -76,7 +76,7 @@ pub fitted_read : (texts : Texts) (events : List OperandEvent) (p q : Point) →
 fitted_read texts [] p q f h = subst IsFitted h f
 fitted_read texts (e ∷ events) p q f h = fitted_read texts events h.0 q (fitted_proceeds texts e p h.0 f h.1) h.2
 
--- ---- what stands there
+-- ---- what is next there
 
 asked_fewer : (start : ℕ) (text new : List ℕ) → AsksOn start text new → length new ≤ length text
 asked_fewer start text new a = let l = asked_leaves start text new a in omega (arith, simp length-append at (ap length l.split))
@@ -88,7 +88,7 @@ module _ (p : Point) (fitted : IsFitted p) (h : IsFull p) where
   abbrev from : ℕ
   from = bytes_before h.stream.text h.stream.rest
 
-  -- a reader that took no more bytes than may be is no further
+  -- a reader within the limit of bytes hasn't taken more
   no_further : (now : List ℕ) → length now ≤ length h.stream.rest → p.before + bytes_before h.stream.text now ≤ MOST_BYTES → length h.new ≤ length now
   no_further now less few = omega (arith, few, h.full, less, fitted h.stream h.is_open, asked_fewer from h.stream.rest h.new h.asks)
 
@@ -113,7 +113,7 @@ module _ (p : Point) (fitted : IsFitted p) (h : IsFull p) where
   no_end : p.before + length h.stream.text < MOST_BYTES → ⊥
   no_end few = omega (arith, few, h.full)
 
--- in the open file, however it is named
+-- in the open file, whatever its name
 module _ (p : Point) (fitted : IsFitted p) (h : IsFull p) (s : Stream) (is_open : p.stream ≡ Some s) where
   same : s ≡ h.stream
   same = one_stream p.stream s h.stream is_open h.is_open
@@ -136,7 +136,7 @@ module _ (p : Point) (fitted : IsFitted p) (h : IsFull p) (s : Stream) (is_open 
   pub not_ended : p.before + length s.text < MOST_BYTES → ⊥
   not_ended few = no_end p fitted h (subst (λ (z : Stream). p.before + length z.text < MOST_BYTES) same few)
 
--- ---- nothing happens there
+-- ---- no event happens there
 
 pub full_goes : (texts : Texts) (e : Event) (p q : Point) → IsFitted p → IsFull p → EventLeads texts e p q → ⊥
 full_goes texts (Opened name) p q f h g = let some : None ≡ Some h.stream = sym g.closed ∙ h.is_open in cc
@@ -150,9 +150,9 @@ full_proceeds texts (FileOpened name) p q f h g = full_goes texts (Opened name) 
 full_proceeds texts (Taken w) p q f h g = not_whole p f h g.stream g.is_open w g.next g.good.whole g.few
 full_proceeds texts (PassedOver name) p q f h g = full_goes texts (Skipped name) p q f h g
 
--- ---- nothing else ends a run there
+-- ---- a run ends with no other fault there
 
--- how many bytes were taken where a run stands in the open file
+-- the number of bytes that were taken of the open file
 taken_there : (p : Point) (s : Stream) (left : Option (List ℕ)) (now : List ℕ) → p.stream ≡ Some s → left ≡ Some now → taken_until p left ≡ p.before + bytes_before s.text now
 taken_there p s left now is told = ap (λ (o : Option Stream). p.before + taken_in o left) is ∙ ap (λ (o : Option (List ℕ)). p.before + taken_in (Some s) o) told
 
@@ -204,9 +204,9 @@ full_apart_there on p left fitted fault.ReadFault by_cases a c other h = absurd 
 full_apart_there on p left fitted fault.WriteFault by_cases a c other h = absurd by_cases
 full_apart_there on p left fitted fault.Memory by_cases a c other h = absurd by_cases
 
--- ---- two ends of that kind
+-- ---- two runs that end at the limit of bytes
 
--- where two readers ask for more of one text and took as many bytes, the same is left
+-- two readers that need more of one text and took as many bytes have the same left
 asked_same : (start : ℕ) (text x y : List ℕ) → AsksOn start text x → AsksOn start text y → length x ≡ length y → x ≡ y
 asked_same start text x y a b size =
     let l = asked_leaves start text x a in
@@ -218,7 +218,7 @@ asked_same start text x y a b size =
     go [] e = e
     go (c ∷ mid) e = absurd (omega (arith, size, simp length-append at (ap length e)))
 
--- and so it is where all were taken that may be
+-- the same where all bytes were taken that the limit allows
 pub full_same : (p : Point) (s : Stream) (l k : Option (List ℕ)) (x y : List ℕ) → IsFitted p → p.stream ≡ Some s → l ≡ Some x → k ≡ Some y → AsksOn (bytes_before s.text s.rest) s.rest x
     → AsksOn (bytes_before s.text s.rest) s.rest y → IsCounted (fault.Limit limit.Bytes) p l → IsCounted (fault.Limit limit.Bytes) p k → x ≡ y
 full_same p s l k x y fitted is left left' a b c d =

@@ -1,4 +1,5 @@
--- What a run leaves in the inputs: what it leaves of its streams, or, where these are generated, what its operands left.
+-- What a run leaves in the inputs: what it leaves of its streams or, where the stream is generated, what it leaves after its
+-- operands.
 use Rattle.std.proofs.Common.{◌≡◌, ◌∙◌, ◌⊎◌, ℕ, List, Option, Some, None, ap, inl, inr, subst, sym}
 use Rattle.aut_io.specs.Outside.{Texts}
 use Rattle.autfilt_run.specs.Run.{AreAllRead}
@@ -19,7 +20,7 @@ IsLeftBehind p texts left o now =
 through : (p : Plan) (texts : Texts) (left : Option (List ℕ)) (taken : List OperandEvent) (point : Point) → AreAllRead p texts left taken point → IsThrough point
 through p texts left taken point h = record { closed = h.none_open; none = h.none_coming }
 
--- a run that ended in the files of operands didn't read all of them
+-- a run that ended in the files of operands hasn't read all of them
 not_both : OneStanding → (p : Plan) (texts : Texts) (left : Option (List ℕ)) (a b : Outcome) → IsByText a.end → EndsBefore p texts left a
     → (point : Point) → AreAllRead p texts left b.taken point → ⊥
 not_both one p texts left a b by h point read =
@@ -35,7 +36,7 @@ mixed : OneStanding → (p : Plan) (texts : Texts) (left : Option (List ℕ)) (a
 mixed one p texts left a b by n made (inl none) point read = let no : None ≡ Some n = sym none ∙ made in cc
 mixed one p texts left a b by n made (inr h) point read = not_both one p texts left a b by h point read
 
--- two runs of one plan that the texts ended alike leave the same
+-- two runs of one plan with ends that the texts determine leave the same
 pub one_left_behind : OneStanding → (p : Plan) (texts : Texts) (left : Option (List ℕ)) (a b : Outcome) (x y : Option (List ℕ)) → IsByText a.end → IsByText b.end
     → a.taken ≡ b.taken → a.left ≡ b.left → IsLeftBehind p texts left a x → IsLeftBehind p texts left b y → x ≡ y
 one_left_behind one p texts left a b x y by_a by_b taken same (inl h) (inl k) = h.0 ∙ (same ∙ sym k.0)

@@ -1,4 +1,4 @@
--- Events that are alike up to texts that a plan doesn't decide.
+-- Events that are equal up to texts that the plan doesn't determine.
 use Rattle.std.proofs.Common.{◌≡◌, ◌⊎◌, ◌∙◌, List, [], ◌∷◌, ap, inl, inr, refl, subst, sym}
 use Rattle.autfilt_laws.specs.Runs.{AreFirst, AreLike, DecidesTexts, IsLike}
 use Rattle.autfilt_run.specs.Events.{Dropped, Ended, Event, Kept, Opened, Skipped, Tally, tally_with, tally_from}
@@ -11,7 +11,7 @@ like_back plan (Dropped w) f h = subst (λ (x : Event). IsLike plan x (Dropped w
 like_back plan (Skipped name) f h = subst (λ (x : Event). IsLike plan x (Skipped name)) (sym h) refl
 like_back plan Ended f h = subst (λ (x : Event). IsLike plan x Ended) (sym h) refl
 
--- where texts are decided they are the same
+-- where the plan determines texts they are equal
 like_is_same : (plan : Plan) (e f : Event) → DecidesTexts plan → IsLike plan e f → f ≡ e
 like_is_same plan (Opened name) f decides h = h
 like_is_same plan (Kept w text) f decides h = h.1 ∙ ap (Kept w) (h.2 decides)
@@ -34,7 +34,7 @@ none_like plan [] [] a b = tt
 none_like plan [] (f ∷ fs) a b = cc
 none_like plan (e ∷ es) fs a b = cc
 
--- as many are kept and skipped
+-- the same number is kept and skipped
 counted_like : (plan : Plan) (t : Tally) (e f : Event) → IsLike plan e f → tally_with t f ≡ tally_with t e
 counted_like plan t (Opened name) f h = ap (tally_with t) h
 counted_like plan t (Kept w text) f h = ap (tally_with t) h.1
@@ -48,7 +48,7 @@ tally_like plan t [] (f ∷ fs) h = absurd h
 tally_like plan t (e ∷ es) [] h = absurd h
 tally_like plan t (e ∷ es) (f ∷ fs) h = ap (λ x. tally_from x fs) (counted_like plan t e f h.0) ∙ tally_like plan (tally_with t e) es fs h.1
 
--- ---- the first of a list
+-- ---- prefixes of a list
 
 pub none_first : (plan : Plan) (fs : List Event) → AreFirst plan [] fs
 none_first plan fs = record { front = []; more = fs; parted = refl; like = tt }

@@ -9,7 +9,7 @@ use Rattle.hoa_reader.specs.Counts as counting
 use Rattle.hoa_reader.specs.Elaborating.{PassesLimit}
 use Rattle.hoa_reader.specs.inner.Gathered.{limit_of}
 
--- the count at a place before is within its number
+-- the count at an earlier index is within its limit
 within_at : (cs : List Count) (k n : ℕ) (count : Count) (w : Written) → k < n → slice_get cs k ≡ Some count → AreCountsWithin (take n cs) w → IsCountWithin count w
 within_at [] k n count w l is h = absurd (let none : None ≡ Some count = is in cc)
 within_at (c ∷ cs) k zero count w l is h = absurd (omega (arith, l))

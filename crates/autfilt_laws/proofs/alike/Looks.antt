@@ -1,4 +1,4 @@
--- What stands at the rest of the open file, and where it leads.
+-- What is next in the rest of the open file, and the point that it leads to, are unique.
 use Rattle.std.proofs.Common.{◌≡◌, ℕ, List, [], Option, Some, None, sym, ap, ◌∙◌, subst}
 use Rattle.aut_io.specs.Outside.{Texts}
 use Rattle.autfilt_run.specs.Events.{EndsStream, IsGood, OpensStream, PassesOver, Point, ReadsOn, Stream, at_stream_end, bytes_before, read_on}
@@ -7,7 +7,7 @@ use Rattle.hoa_parser.specs.Raw.{Written}
 use Rattle.hoa_parser.specs.Standing as standing
 use Rattle.hoa_parser.specs.Standing.{OneStanding, Standing, Stands}
 
--- something stands at the rest of the open file, `next` behind it
+-- something is next in the rest of the open file, and `next` follows it
 pub record Look (p : Point) (what : List ℕ → Standing) (to : Stream → List ℕ → Point) (q : Point) : Type 0 where
   pub stream : Stream
   pub is_open : p.stream ≡ Some stream
@@ -27,12 +27,12 @@ look_behind p q h = record { stream = h.stream; is_open = h.is_open; next = []; 
 abbrev pub look_taken : (p q : Point) (w : Written) → TakesOperand w p q → Look p (λ x. standing.Whole w x) (λ s x. taken_at p s x) q
 look_taken p q w h = record { stream = h.stream; is_open = h.is_open; next = h.next; stands = h.good.whole; goes = h.to }
 
--- ---- it is one
+-- ---- uniqueness
 
 pub one_stream : (o : Option Stream) (s t : Stream) → o ≡ Some s → o ≡ Some t → s ≡ t
 one_stream o s t a b = let same : Some s ≡ Some t = sym a ∙ b in cc
 
--- what stands in the one open file
+-- what is next in the open file is unique
 pub one_standing_in : OneStanding → (o : Option Stream) (s t : Stream) (a b : Standing) → o ≡ Some s → o ≡ Some t → Stands a (bytes_before s.text s.rest) s.rest
     → Stands b (bytes_before t.text t.rest) t.rest → a ≡ b
 one_standing_in one o s t a b is is' x y =
@@ -42,7 +42,7 @@ one_standing_in one o s t a b is is' x y =
 pub one_look : OneStanding → (p q r : Point) (W V : List ℕ → Standing) (F G : Stream → List ℕ → Point) (a : Look p W F q) (b : Look p V G r) → W a.next ≡ V b.next
 one_look one p q r W V F G a b = one_standing_in one p.stream a.stream b.stream (W a.next) (V b.next) a.is_open b.is_open a.stands b.stands
 
--- it leads to one point
+-- the point that it leads to is unique
 pub one_point : (p q r : Point) (W V : List ℕ → Standing) (F : Stream → List ℕ → Point) (a : Look p W F q) (b : Look p V F r) → a.next ≡ b.next → q ≡ r
 one_point p q r W V F a b same =
     let stream = one_stream p.stream a.stream b.stream a.is_open b.is_open in

@@ -1,4 +1,4 @@
--- What stands in the files of operands decides where a run ends in them.
+-- The texts alone determine where a run ends in the files of operands.
 use Rattle.std.proofs.Common.{◌≡◌, ◌⊎◌, ℕ, List, [], ◌∷◌, Option, Some, None, refl, sym, ◌∙◌, subst, inl, inr}
 use Rattle.aut_io.specs.Outside.{Texts}
 use Rattle.autfilt_run.specs.declared.ended.End.TheVariants as end
@@ -20,7 +20,7 @@ IsStoppedIn p f = Stopped (Unit {0}) in_operands p f
 pub stopped_there : (f : RunFault) (name : List ℕ) (p : Point) (left : Option (List ℕ)) → IsByText (end.Fault f) → IsFitted p → StopsInOperands f name p left → IsCounted f p left → IsStoppedIn p f
 stopped_there f name p left by fitted h c = stopped_in_operand f p left by fitted (at_named (Unit {0}) StopsAtOperand f name p left by h).at c
 
--- no file is open, and none is to come
+-- no file is open, and no other is to be opened
 pub record IsThrough (p : Point) : Type 0 where
   pub closed : p.stream ≡ None
   pub none : p.coming ≡ []

@@ -1,4 +1,4 @@
--- What stands in the files of operands decides which of them is taken next.
+-- The texts alone determine which event comes next in the files of operands.
 use Rattle.std.proofs.Common.{◌≡◌, ◌⊎◌, ℕ, List, [], ◌∷◌, ◌++◌, refl, sym, ap, ◌∙◌, subst, inl, inr}
 use Rattle.aut_io.specs.Outside.{Texts, text_of}
 use Rattle.autfilt_laws.proofs.alike.Looks.{Look, aborted_is, look_over, look_taken, one_look, one_point, one_stream, unopened, whole_is}
@@ -47,7 +47,7 @@ one_proceeds one texts (PassedOver n) (FileOpened m) p q r a b = absurd (unopene
 one_proceeds one texts (PassedOver n) (Taken v) p q r a b = let e = one_look one p q r _ _ _ _ (look_over p q n a) (look_taken p r v b) in cc
 one_proceeds one texts (PassedOver n) (PassedOver m) p q r a b = both_over p q r n m a b (one_look one p q r _ _ _ _ (look_over p q n a) (look_over p r m b))
 
--- ---- one list begins with the other
+-- ---- one list is a prefix of the other
 
 longer : (e f : OperandEvent) (es fs : List OperandEvent) → e ≡ f → ((more : List OperandEvent) × (fs ≡ es ++ more)) ⊎ ((more : List OperandEvent) × (es ≡ fs ++ more))
     → ((more : List OperandEvent) × (f ∷ fs ≡ (e ∷ es) ++ more)) ⊎ ((more : List OperandEvent) × (e ∷ es ≡ (f ∷ fs) ++ more))

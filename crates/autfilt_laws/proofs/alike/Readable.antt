@@ -1,4 +1,4 @@
--- Texts that can be read everywhere: the run reads all.
+-- A run over readable texts reads all.
 use Rattle.std.proofs.Common.{◌≡◌, ◌≢◌, ◌⊎◌, ◌∙◌, ℕ, List, Option, Some, ap, true, length, subst, inl, inr}
 use Rattle.aut_base.specs.Automaton.{Automaton}
 use Rattle.aut_base.specs.declared.limit.Limit.TheVariants as limit
@@ -23,7 +23,7 @@ use Rattle.hoa_lexer.specs.Blanks.{IsBlanks}
 use Rattle.hoa_parser.specs.Standing as standing
 use Rattle.hoa_parser.specs.Standing.{OneStanding, Standing, Stands}
 
--- no fault fits what can be read
+-- no fault goes with what is readable
 readable_fits : OneStanding → (a : Asking) (start : ℕ) (rest : List ℕ) (what : Standing) (f : RunFault) → Stands what start rest → Fits a what f → IsReadable a.over start rest → ⊥
 readable_fits one a start rest what f stands fits (inl good) =
     unfit_whole a good.0 good.1 f (subst (λ (x : Standing). Fits a x f) (one start rest what (standing.Whole good.0 good.1) stands good.2.whole) fits) good.2.valid good.2.within good.3
@@ -32,7 +32,7 @@ readable_fits one a start rest what f stands fits (inr aborted) = subst (λ (x :
 not_halted : OneStanding → (on : Type 0) (a : Asking) (p : Point) (f : RunFault) → (h : Halted on a p f) → IsReadable a.over (bytes_before h.stream.text h.stream.rest) h.stream.rest → ⊥
 not_halted one on a p f h readable = readable_fits one a (bytes_before h.stream.text h.stream.rest) h.stream.rest h.what f h.stands h.fits readable
 
--- what is left of a stream in which only blanks may be left, too
+-- the rest of a stream is readable, or only blanks are left
 abbrev IsFair : Plan → List Automaton → Stream → Type 0
 IsFair plan ops s = IsBlanks s.rest ⊎ IsReadable (λ which w. IsOverLimit which plan ops w) (bytes_before s.text s.rest) s.rest
 

@@ -1,4 +1,4 @@
--- What stands in the texts decides all of a run.
+-- The texts alone determine a run.
 use Rattle.std.proofs.Common.{◌≡◌, ◌⊎◌, ℕ, List, Option, sym, ap, ◌∙◌, subst, inl, inr, length}
 use Rattle.aut_io.specs.Outside.{Texts}
 use Rattle.autfilt_run.specs.Notes.{line_of}
@@ -32,7 +32,7 @@ is_stopped plan texts left o by h =
 through : (plan : Plan) (texts : Texts) (left : Option (List ℕ)) (taken : List OperandEvent) (p : Point) → AreAllRead plan texts left taken p → IsThrough p
 through plan texts left taken p h = record { closed = h.none_open; none = h.none_coming }
 
--- all that two runs have alike
+-- all that two runs have in common
 all_same : (plan : Plan) (a b : Outcome) → a.taken ≡ b.taken → AreLike plan a.events b.events → a.end ≡ b.end
     → IsOnePlace a.end a.name b.name a.left b.left → AreSame plan a b
 all_same plan a b taken like ends place = record {
@@ -66,7 +66,7 @@ both_before one plan texts left a b x y s t =
     all_same plan a b same.0 (none_like plan a.events b.events s.none t.none) (s.ends ∙ ap end.Fault fault ∙ sym t.ends)
     (subst (λ (e : End). IsOnePlace e a.name b.name a.left b.left) (sym s.ends) place)
 
--- one there, and one in the streams
+-- one in the files of operands, one in the streams
 
 not_mixed : OneStanding → (plan : Plan) (texts : Texts) (left : Option (List ℕ)) (a b : Outcome) → IsByText a.end
     → EndsBefore plan texts left a → EndsInStreams plan texts left b → ⊥
@@ -80,7 +80,7 @@ not_mixed one plan texts left a b x s t =
 
 -- ---- both in the streams
 
--- the same of a run that ended in the streams, where these operands were taken before
+-- the end of a run in the streams, with the operands that were taken before
 record StreamsEnd (plan : Plan) (texts : Texts) (taken : List OperandEvent) (first : Point) (o : Outcome) : Type 0 where
   point : Point
   judged : AreJudged plan (operands_read taken) o.events
@@ -101,7 +101,7 @@ ends_so : (plan : Plan) (texts : Texts) (taken : List OperandEvent) (first : Poi
 ends_so plan texts taken first o by s = ends_at plan (operands_read taken) (length (all_passed taken)) o.end o.events o.name s.point o.left by (fitted_behind plan texts taken first o s)
     s.tallied s.ends
 
--- what two such runs have alike
+-- what two such runs have in common
 record EndsAlike (plan : Plan) (a b : Outcome) : Type 0 where
   like : AreLike plan a.events b.events
   ends : a.end ≡ b.end

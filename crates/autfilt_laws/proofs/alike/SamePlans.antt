@@ -1,4 +1,4 @@
--- What holds of a run of a plan holds of it as one of the same plan, wherever its patterns lie in memory.
+-- What holds of a run of a plan holds for an equal plan, wherever its patterns are stored.
 use Rattle.std.proofs.Common.{◌≡◌, ◌∙◌, ◌⊎◌, ℕ, Bool, true, false, List, [], ◌∷◌, Option, Some, None, ap, inl, inr, refl, subst, sym}
 use Rattle.std.proofs.Common.{drop}
 use Rattle.std.specs.Option.{option_map}
@@ -34,7 +34,7 @@ use Rattle.word_syntax.specs.Grammar.{WordPattern}
 use Rattle.word_syntax.specs.Writing.{word_pattern}
 use Rattle.word_syntax.specs.declared.pattern.Pattern.{Pattern}
 
--- ---- the end of a reading, where other limits are passed behind the reader
+-- ---- the end of a reading, with other limits after it
 
 module _ (over more : Limit → Written → Type 0) (wider : (which : Limit) (w : Written) → over which w → more which w) where
   stands_with : (P Q : Written → Type 0) (start : ℕ) (rest next : List ℕ) → ((w : Written) → P w → Q w) → StandsWith P start rest next → StandsWith Q start rest next
@@ -68,7 +68,7 @@ module _ (over more : Limit → Written → Type 0) (wider : (which : Limit) (w 
     named = h.named;
   }
 
--- ---- a plan with other patterns that are the same
+-- ---- a plan with equal patterns
 
 options_same : (c : WordPattern → Filter) (x y : Option Pattern) → option_map word_pattern x ≡ option_map word_pattern y
     → option_map (λ (p : Pattern). c (word_pattern p)) x ≡ option_map (λ (p : Pattern). c (word_pattern p)) y

@@ -1,4 +1,4 @@
--- What stands in the texts decides which event happens next in the streams.
+-- The texts alone determine which event comes next in the streams.
 use Rattle.std.proofs.Common.{◌≡◌, ℕ, ◌+◌, List, [], ◌∷◌, refl, sym, ap, ◌∙◌, subst, inl, inr}
 use Rattle.aut_base.specs.Automaton.{Automaton}
 use Rattle.aut_io.specs.Outside.{Texts, text_of}
@@ -84,7 +84,7 @@ one_next one plain plan ops texts Ended (Dropped v) p q r j i a b = let e = one_
 one_next one plain plan ops texts Ended (Skipped m) p q r j i a b = let e = one_look one p q r _ _ _ _ (look_behind p q a) (look_over p r m b) in cc
 one_next one plain plan ops texts Ended Ended p q r j i a b = both_ended plan p q r a b
 
--- ---- one list begins with the other
+-- ---- one list is a prefix of the other
 
 pub runs_agree : OneStanding → AreOne → RunsAgree
 runs_agree one plain plan ops texts [] fs p q r j i a b = inl (none_first plan fs)

@@ -1,4 +1,4 @@
--- The plan says one thing of an automaton that was read, and the text that is due of it is one.
+-- The verdict of a plan on an automaton, and the text that is due of it, are unique.
 use Rattle.std.proofs.Common.{◌≡◌, ◌≢◌, ◌⊎◌, ℕ, Bool, true, false, List, [], ◌∷◌, ◌++◌, length, Option, Some, None, inl, inr, refl, true≢false, ap, ◌∙◌, sym, subst}
 use Rattle.std.specs.Fmt.{decimal}
 use Rattle.std.specs.List.{AllByRecursion}
@@ -28,7 +28,7 @@ use Rattle.plan_meaning.specs.Laws as verdict
 use Rattle.plan_meaning.specs.Limits.{PassesOfInclusion}
 use Rattle.plan_meaning.specs.Operands.{refuted_operand}
 
--- what each plan says is one
+-- uniqueness of what a plan says of an automaton
 pub record AreOne : Type 0 where
   pub verdict : VerdictIsOne
   pub inclusion : OneLimitOfInclusion
@@ -66,7 +66,7 @@ one_reached one figure a t u x y =
     let same = one.trimmed a x.trimmed y.trimmed x.is_trimmed y.is_trimmed in
     x.shown ∙ ap (λ (m : Automaton). decimal (figure m)) same ∙ sym y.shown
 
--- what stands for a piece, but for a word
+-- the text of a piece other than a word is unique
 one_shown : AreOne → (piece : Piece) (a : Automaton) (t u : List ℕ) → piece ≢ Word → IsShownAs piece a t → IsShownAs piece a u → t ≡ u
 one_shown one (Byte b) a t u other x y = x ∙ sym y
 one_shown one States a t u other x y = one_reached one (λ (m : Automaton). m.states) a t u x y
@@ -98,7 +98,7 @@ due_where one false p ops w t u decides a b = a ∙ sym b
 due_where one true p ops w t u (inr off) a b = absurd (true≢false off)
 due_where one true p ops w t u (inl decides) a b = one_printed one p.output p ops w t u decides a b
 
--- the text of an automaton is one, where the plan decides it
+-- the text of an automaton is unique, where the plan determines it
 pub one_text : AreOne → (plan : Plan) (ops : List Automaton) (w v : Written) (t u : List ℕ) → DecidesTexts plan → w ≡ v
     → IsDue plan ops w t → IsDue plan ops v u → t ≡ u
 one_text one plan ops w v t u decides same a b =
@@ -135,7 +135,7 @@ dropped_is_within one which p ops w d o = go o.over
     go (inl f) = dropped_or_over one which p ops (described w) d f
     go (inr c) = kept_or_dropped one p ops w w refl c.kept d
 
--- no more than one limit is passed
+-- at most one limit is passed
 one_refuted : AreOne → (operand : Option Automaton) (which other : Limit) (a : Automaton) → MatchOption operand ⊥ (λ b. PassesOfInclusion which a b)
     → MatchOption operand ⊥ (λ b. PassesOfInclusion other a b) → which ≡ other
 one_refuted one None which other a h k = absurd h

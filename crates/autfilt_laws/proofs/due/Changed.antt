@@ -1,4 +1,5 @@
--- What the changes of a plan make of an automaton that was read: it is as promised, and accepts what the plan's set operation says.
+-- What the changes of a plan make of an automaton keeps what its form promises, and has the language of the plan's set
+-- operation.
 use Rattle.std.proofs.Common.{◌≡◌, ◌≤◌, List, [], ◌∷◌, Contains, length, refl, subst, sym}
 use Rattle.std.specs.List.{AllByRecursion}
 use Rattle.aut_base.specs.Automaton.{Automaton, IsWellFormed}

@@ -1,4 +1,4 @@
--- What products, products-or and sums make.
+-- What products, products-or and sums make is well formed and within limits.
 use Rattle.std.proofs.Common.{◌≡◌, ◌+◌, ◌≤◌, ap, arith, length, refl, subst, sym}
 use Rattle.acc_forms.proofs.FormulaSets.{sets_conj, sets_disj}
 use Rattle.acc_forms.specs.Joined.{conj, disj}

@@ -1,4 +1,4 @@
--- What determinisation makes: parity automata, complements and monitors.
+-- What determinisation makes is well formed and within limits: parity automata, complements and monitors.
 use Rattle.std.proofs.Common.{◌≡◌, ◌∙◌, ◌+◌, ◌*◌, ◌≤◌, ℕ, List, [], ◌∷◌, ap, arith, inl, inr, length, refl, subst, sym}
 use Rattle.std.proofs.lemmas.Bool.{cases_Bool}
 use Rattle.aut_base.specs.Automaton.{Automaton, IsWellFormed}
@@ -42,7 +42,7 @@ buchi_names a = elim (cases_Bool (is_generalised_buchi a.formula)) [
   | inr more ↦ ap (λ (b : Automaton). b.names) (buchi_copies a more)
 ]
 
--- what is left of a Büchi form that was pruned
+-- what pruning leaves of a Büchi form
 record IsLeft (a pruned : Automaton) : Type 0 where
   formed : IsWellFormed pruned
   form_formed : IsWellFormed (buchi a)
@@ -63,7 +63,7 @@ left_of a pruned formed is =
 
 -- ---- deterministic forms
 
--- a deterministic automaton that accepts the same
+-- a deterministic automaton of the same language
 record IsForm (a made : Automaton) : Type 0 where
   formed : IsWellFormed made
   names : made.names ≡ a.names
@@ -114,7 +114,7 @@ few_names_in a made same few = subst (λ ns. length ns ≤ MOST_NAMES) (sym same
 
 -- ---- complements
 
--- the deterministic form, and how large it is beside the automaton
+-- the deterministic form, and its size by that of the automaton
 record IsSized (a made : Automaton) : Type 0 where
   form : IsForm a made
   states : made.states ≤ a.states + MOST_TREES
@@ -187,7 +187,7 @@ deterministic_step a made f m = elim m.makes [
       )
 ]
 
--- as many sets as may be
+-- the number of sets is within its limit
 few_sets : (b : Automaton) (ss : List ℕ) (sets : List (List ℕ)) (transitions : List Transition) → IsExploredFrom b ss sets transitions → length sets ≤ MOST_SUBSETS
 few_sets b [] sets transitions are = subst (λ (xs : List (List ℕ)). length xs ≤ MOST_SUBSETS) (sym are.0) (omega arith)
 few_sets b (s ∷ ss) sets transitions ends = let some : 1 ≤ MOST_SUBSETS = omega arith in few_explored (subset_rules b) (start_set b) sets transitions some ends

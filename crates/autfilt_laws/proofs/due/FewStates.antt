@@ -1,4 +1,4 @@
--- An exploration that ends has listed no more states than may be.
+-- An exploration that ends has listed no more states than its limit.
 use Rattle.std.proofs.Common.{◌≡◌, ◌∙◌, ◌+◌, ◌<◌, ◌≤◌, ◌||◌, ℕ, zero, suc, Bool, true, false, cond, List, [], ◌∷◌, None, Option, Some, ap, arith, inl}
 use Rattle.std.proofs.Common.{inr, length, length-append, leb, ltb, refl, slice_get, subst, sym}
 use Rattle.std.proofs.lemmas.Bool.{ltb-true}

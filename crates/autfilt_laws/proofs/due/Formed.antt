@@ -1,4 +1,4 @@
--- What forms make of a well-formed automaton is well formed.
+-- What forms and completion make of a well-formed automaton is well formed.
 use Rattle.std.proofs.Common.{◌≡◌, ◌<◌, ◌≤◌, ℕ, Bool, true, false, zero, suc, All, AllPairs, Contains, List, [], ◌∷◌, arith, get_or, inl, inr, length, map, refl, subst, sym}
 use Rattle.std.proofs.lemmas.List.Elements.{All-map, All-weaker}
 use Rattle.std.proofs.lemmas.List.Kept.{AllPairs-filter}

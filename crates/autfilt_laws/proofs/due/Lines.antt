@@ -14,7 +14,7 @@ use Rattle.filter_plan.specs.declared.format.Piece.TheVariants.{Byte, Edges, Set
 use Rattle.lasso_emptiness.specs.Emptiness.{AcceptsNothing, IsAcceptedWord}
 use Rattle.word_syntax.specs.Printing.{HoldsOnly, word_text}
 
--- the automaton without states
+-- the automaton without any state
 abbrev nothing : Automaton
 nothing = record { names = []; starts = []; states = 0; edges = []; sets = 0; formula = True }
 

@@ -1,4 +1,4 @@
--- The names of two automata put together differ, and have those of both.
+-- The joined names of two automata are distinct, and include those of both.
 use Rattle.std.proofs.Common.{◌≡◌, ◌≢◌, ◌∙◌, not, true, Bool, List, ℕ, AllPairs, All, Contains, ap, filter, refl, subst, sym}
 use Rattle.std.proofs.lemmas.Bool.{false≢true}
 use Rattle.std.proofs.lemmas.List.Kept.{AllPairs-filter}
@@ -34,7 +34,7 @@ module _ (a b : Automaton) (first : IsWellFormed a) (second : IsWellFormed b) wh
   pub other_among : AreAmong b.names joined
   other_among = record { differ = joined_differ a.names b.names first.names_differ second.names_differ; has = (have_both a.names b.names joined refl).second }
 
--- an automaton over more names
+-- an automaton over more names is well formed
 pub over_formed : (x : Automaton) (own names : List (List ℕ)) → x.names ≡ own → AreAmong own names → IsWellFormed x → IsWellFormed (over_names names x)
 over_formed x own names is among formed = over_well_formed x names (subst (λ (ns : List (List ℕ)). AreAmong ns names) (sym is) among) formed
 

@@ -1,4 +1,4 @@
--- What is made of an automaton alone, without determinisation.
+-- What a change makes of an automaton alone is well formed and within limits, apart from determinisation.
 use Rattle.std.proofs.Common.{◌≡◌, ◌∙◌, ◌≤◌, ℕ, Bool, true, false, cond, List, ap, arith, inl, inr, length, map, subst, sym}
 use Rattle.std.proofs.lemmas.Bool.{cases_Bool}
 use Rattle.std.specs.Prelude.{if◌then◌else◌}

@@ -1,4 +1,4 @@
--- What is known of an automaton before and behind each change.
+-- What is known of an automaton before and after each change.
 use Rattle.std.proofs.Common.{◌≤◌, [], ◌∷◌, inl, inr, length, subst}
 use Rattle.std.proofs.lemmas.Bool.{cases_lt}
 use Rattle.aut_base.specs.Automaton.{Automaton, IsWellFormed}
@@ -24,12 +24,12 @@ pub record IsFine (Size : Automaton → Type 0) (a : Automaton) : Type 0 where
   pub names : length a.names ≤ MOST_NAMES
   pub size : Size a
 
--- it may be combined with others
+-- it may be an operand of products and sums
 pub record IsOperand (b : Automaton) : Type 0 where
   pub formed : IsWellFormed b
   pub size : IsOfReadSize b
 
--- The change makes this of it, as is promised, and of the size that stands behind it.
+-- The change makes this of the automaton, with what is promised and of the size that is known after the change.
 pub record Step (c : Change) (a made : Automaton) : Type 0 where
   pub is : IsMadeAsPromised (c ∷ []) a made
   pub fine : IsFine (IsOfSizeBehind c) made

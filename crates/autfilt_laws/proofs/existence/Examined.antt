@@ -1,4 +1,4 @@
--- Of an automaton that was read, all is well, or one rule or one limit is the first at fault.
+-- An automaton that was read keeps all rules and limits, or there is a first one that it breaks or passes.
 use Rattle.std.proofs.Common.{◌≡◌, ◌⊎◌, ℕ, zero, suc, Bool, true, false, List, [], ◌∷◌, take, Some, None, refl, ap, subst, inl, inr}
 use Rattle.std.specs.Prelude.{slice_get, nat_lt}
 use Rattle.hoa_parser.specs.Raw.{Written}

@@ -1,4 +1,4 @@
--- What is found at the rest of a text.
+-- In the rest of every text something is next: an automaton, blanks or a fault.
 use Rattle.std.proofs.Common.{◌≡◌, ◌⊎◌, ℕ, List, [], refl, inl, inr}
 use Rattle.aut_base.specs.declared.limit.Limit.{Limit}
 use Rattle.aut_base.specs.declared.limit.Limit.TheVariants as limit
@@ -23,13 +23,13 @@ use Rattle.hoa_reader.specs.Validity.{IsFirstBroken, IsValid}
 use Rattle.hoa_reader.specs.declared.elaborate.Rule.{Rule}
 use Rattle.hoa_reader.specs.inner.Gathered.{limit_of}
 
--- where something is refused, there is a place at which a reader stops
+-- for each fault of a text there is a byte at which a reader stops
 pub record AreShown : Type 0 where
   pub bad : BadIsShown
   pub deep : DeepIsShown
   pub cut : CutIsShown
 
--- what stands there ends the run by a fault
+-- what is next ends the run with a fault
 pub record IsRefused (over : Limit → Written → Type 0) (start : ℕ) (rest : List ℕ) : Type 0 where
   pub fault : RunFault
   pub by_text : IsByText (end.Fault fault)

@@ -1,4 +1,4 @@
--- The operands that a run reads are one for each name, and each may be read.
+-- A run that reads all operands has one for each name, and each is valid and within the limits.
 use Rattle.std.proofs.Common.{◌≡◌, ◌∙◌, ℕ, ◌+◌, List, [], ◌∷◌, length, Option, Some, None, ap, arith, sym}
 use Rattle.std.specs.List.{AllByRecursion}
 use Rattle.aut_io.specs.Outside.{Texts}
@@ -9,12 +9,12 @@ use Rattle.autfilt_run.specs.OperandEvents.{AreRead, FileOpened, OperandEvent, P
 use Rattle.filter_plan.specs.Words.{operands}
 use Rattle.filter_plan.specs.declared.plan.Plan.{Plan}
 
--- how many files are open
+-- the number of open files
 abbrev open_in : Option Stream → ℕ
 open_in None = 0
 open_in (Some s) = 1
 
--- how many operands are to come from here on
+-- the number of operands that are still to be read
 abbrev to_come : Point → ℕ
 to_come p = length p.coming + open_in p.stream
 

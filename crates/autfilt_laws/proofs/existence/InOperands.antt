@@ -29,7 +29,7 @@ pub record IsStoppedThere (p : Point) : Type 0 where
   pub stops : StopsInOperands fault name p left
   pub counted : IsCounted fault p left
 
--- All are read from here on, and `spare` bytes may still be taken; or a fault ends the run.
+-- All operands are read from here on, with `spare` bytes left up to the limit; or a fault ends the run.
 pub record ReadsThere (texts : Texts) (spare : ℕ) (p : Point) : Type 0 where
   pub taken : List OperandEvent
   pub point : Point
@@ -71,7 +71,7 @@ module _ (some : SomeStanding) (shown : AreShown) (texts : Texts) (spare : ℕ) 
           (record { reads = record { stream = s; is_open = is; next = next; stands = h; few = omega (arith, few); to = refl }; named = refl }) r))
       go (OneRefused h) = none (stopped p s more is few h.fault h.left h.by_text h.other (stops_operand h.fault (bytes_before s.text s.rest) s.rest h.left h.stops))
 
-  -- what follows the file
+  -- what the names after the file lead to
   abbrev Behind : List (List ℕ) → ℕ → Type 0
   Behind names more = (q : Point) → q.coming ≡ names → q.stream ≡ None → q.before + more < MOST_BYTES → NotNone (ReadsThere texts spare q)
 

@@ -40,7 +40,7 @@ pub record IsStopped (plan : Plan) (ops : List Automaton) (p : Point) : Type 0 w
   pub stops : StopsRun plan ops fault name p left
   pub counted : IsCounted fault p left
 
--- from here on all is read that is asked for, or a fault ends the run
+-- from here on all that is asked for is read, or a fault ends the run
 pub record Reads (plan : Plan) (ops : List Automaton) (texts : Texts) (p : Point) : Type 0 where
   pub events : List Event
   pub judged : AreJudged plan ops events
@@ -48,7 +48,7 @@ pub record Reads (plan : Plan) (ops : List Automaton) (texts : Texts) (p : Point
   pub happen : Happen plan texts events p point
   pub ends : IsDone plan point ⊎ IsStopped plan ops point
 
--- what a run over streams stands on
+-- what the existence of a run over streams rests on
 pub record Existing (plan : Plan) (ops : List Automaton) : Type 0 where
   pub some : SomeStanding
   pub shown : AreShown
@@ -78,7 +78,7 @@ module _ (plan : Plan) (ops : List Automaton) (on : Existing plan ops) (texts : 
       } in
       record { events = []; judged = tt; point = p; happen = refl; ends = inr here }
 
-  -- a limit is passed behind the reader
+  -- a limit is passed after reading
   passed : (p : Point) (s : Stream) (more : ℕ) → asks_on plan p.kept ≡ true → p.stream ≡ Some s → p.before + (length s.text + more) < MOST_BYTES
       → (which : Limit) (w : Written) (next : List ℕ) → IsGood (bytes_before s.text s.rest) s.rest w next → IsOverLimit which plan ops w → Reads plan ops texts p
   passed p s more asks is few which w next good h =
@@ -122,12 +122,12 @@ module _ (plan : Plan) (ops : List Automaton) (on : Existing plan ops) (texts : 
           (record { reads = record { stream = s; is_open = is; next = next; stands = h; few = omega (arith, few); to = refl }; named = refl }) r))
       go (OneRefused h) = none (stopped p s more asks is few h.fault h.left h.by_text h.other h.stops)
 
-  -- no more is asked for, or more is
+  -- no more automata are asked for, or more are
   asked_or_done : (p : Point) (b : Bool) → asks_on plan p.kept ≡ b → (asks_on plan p.kept ≡ true → NotNone (Reads plan ops texts p)) → NotNone (Reads plan ops texts p)
   asked_or_done p false e on none = none (done p (inl e))
   asked_or_done p true e on none = on e none
 
-  -- what follows the stream
+  -- what the names after the stream lead to
   abbrev Behind : List (List ℕ) → ℕ → Type 0
   Behind names more = (q : Point) → q.coming ≡ names → q.stream ≡ None → q.before + more < MOST_BYTES → NotNone (Reads plan ops texts q)
 

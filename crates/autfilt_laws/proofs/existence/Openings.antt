@@ -1,4 +1,4 @@
--- The files that a run opened are the first ones that were to come.
+-- The files that a run opened are a prefix of those that were to be opened.
 use Rattle.std.proofs.Common.{◌≡◌, ◌∙◌, ℕ, List, [], ◌∷◌, ◌++◌, ap, length, refl, sym, take}
 use Rattle.std.proofs.lemmas.List.{append-nil, append_assoc}
 use Rattle.aut_io.specs.Outside.{Texts}
@@ -37,7 +37,7 @@ front_taken : (names more : List (List ℕ)) → take (length names) (names ++ m
 front_taken [] more = refl
 front_taken (name ∷ names) more = ap (λ (xs : List (List ℕ)). name ∷ xs) (front_taken names more)
 
--- the first ones
+-- a prefix
 pub front_of : (names all more : List (List ℕ)) → all ≡ names ++ more → (k : ℕ) × (names ≡ take k all)
 front_of names all more is = (length names, sym (ap (take (length names)) is ∙ front_taken names more))
 

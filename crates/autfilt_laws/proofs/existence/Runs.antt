@@ -1,4 +1,4 @@
--- There is a run over all texts of few bytes.
+-- There is a run over all texts that together have fewer bytes than the limit.
 use Rattle.std.proofs.Common.{◌≡◌, ◌⊎◌, ℕ, ◌+◌, ◌<◌, ◌==◌, Bool, true, false, if◌then◌else◌, List, [], length, Option, refl, inl, inr, arith, subst}
 use Rattle.aut_base.specs.declared.limit.TheConstants.{MOST_BYTES}
 use Rattle.aut_io.specs.Outside.{Texts}
@@ -20,7 +20,7 @@ use Rattle.filter_plan.specs.declared.plan.Plan.{Plan}
 use Rattle.hoa_parser.specs.Standing.{SomeStanding}
 use Rattle.plan_meaning.specs.Laws.{AVerdictExists}
 
--- an end of a run that read all
+-- an end at which all was read
 abbrev IsOfAll : End → Type 0
 IsOfAll end.Output = Unit {0}
 IsOfAll end.NoneOutput = Unit {0}
@@ -78,7 +78,7 @@ stopped_before plan texts left taken p read h = record {
   ran = inl (record { fault = h.fault; ends = refl; none = refl; stops = record { point = p; read = read; stops = h.stops; counted = h.counted } });
 }
 
--- how many bytes the streams may have
+-- how many bytes are left for the streams, up to the limit
 abbrev spare : Plan → Texts → ℕ
 spare plan texts = size_of (texts_or plan.made texts) (plan_streams plan)
 

@@ -1,4 +1,4 @@
--- A plan that prints nothing of an automaton needs no text.
+-- Under a plan that prints nothing of an automaton the text that is due is empty.
 use Rattle.std.proofs.Common.{◌≡◌, Bool, false, [], inl, refl, subst, sym}
 use Rattle.autfilt_laws.specs.Runs.{IsAlwaysDue}
 use Rattle.autfilt_run.specs.Due.{IsDueWhere}

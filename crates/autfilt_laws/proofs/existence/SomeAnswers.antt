@@ -1,4 +1,4 @@
--- A run that the texts ended, as the command answers it.
+-- A run whose end the texts determine is one that the command may answer.
 use Rattle.std.proofs.Common.{◌≡◌, ◌≢◌, ◌∙◌, ◌⊎◌, ◌+◌, ℕ, List, [], ◌++◌, Option, Some, None, ap, arith, inl, inr, length, refl, subst, sym, take, true}
 use Rattle.aut_base.specs.Automaton.{Automaton}
 use Rattle.aut_io.specs.Outside.{Gains, Texts, raised_by}
@@ -23,7 +23,7 @@ use Rattle.filter_plan.specs.Words.{operands}
 use Rattle.filter_plan.specs.declared.plan.Plan.{Plan}
 use Rattle.made_stream.specs.Made.{made_texts, seen_of_made}
 
--- ---- sinks and inputs behind the run
+-- ---- sinks and inputs after the run
 
 abbrev with_text : Option (List ℕ) → List ℕ → Option (List ℕ)
 with_text None text = None
@@ -36,14 +36,14 @@ gains (Some old) text = refl
 abbrev gained : SinkSeen → List ℕ → SinkSeen
 gained s text = record { written = with_text s.written text; faults = s.faults }
 
--- with so much left, where `open` was called so many times
+-- the inputs with so much left, after so many calls of `open`
 abbrev behind : Seen → Option (List ℕ) → ℕ → Seen
 behind s left calls = record { texts = s.texts; left = left; openings = raised_by calls s.openings; open_faults = s.open_faults; read_faults = s.read_faults }
 
 told_once : (a b : Texts) (o : Option Texts) → o ≡ Some a → o ≡ Some b → a ≡ b
 told_once a b o x y = let same : Some a ≡ Some b = sym x ∙ y in cc
 
--- ---- what texts decide ends no opening, and no write
+-- ---- an end that the texts determine comes of no opening, and of no write
 
 may_end : (f : RunFault) → IsByText (end.Fault f) → MayEnd f 0
 may_end (fault.SyntaxAt k) by = refl
@@ -101,7 +101,7 @@ prints p (end.Fault (fault.Invalid rule)) events old by = gains old _
 prints p (end.Fault (fault.Limit which)) events old by = gains old _
 prints p (end.Fault fault.Memory) events old by = gains old _
 
--- no more files were tried than were opened
+-- no more files were tried than opened
 as_many : (n m count : ℕ) → m ≡ raised_by count n → m ≡ raised_by (count + 0) n
 as_many n m count is = let same : count ≡ count + 0 = omega arith in is ∙ ap (λ k. raised_by k n) same
 
@@ -116,7 +116,7 @@ opened (end.Fault f) wants count seen seen' by is =
 -- ---- the run
 
 module _ (plan : Plan) (texts : Texts) (inputs : Seen) (told : inputs.texts ≡ Some texts) (out : SinkSeen) (o : Outcome) (by : IsByText o.end) where
-  -- what is behind it
+  -- the inputs and sinks after it
   record Behind : Type 0 where
     inputs' : Seen
     out' : SinkSeen
@@ -154,7 +154,7 @@ module _ (plan : Plan) (texts : Texts) (inputs : Seen) (told : inputs.texts ≡ 
     abbrev passed : ℕ
     passed = length (all_passed o.taken)
 
-    -- the inputs behind the operands
+    -- the inputs after the operands
     abbrev mid : Seen
     mid = behind inputs h.point.left (length (opened_files o.taken))
 
@@ -165,7 +165,7 @@ module _ (plan : Plan) (texts : Texts) (inputs : Seen) (told : inputs.texts ≡ 
     streams_named = front_of (opened_streams o.events) (plan_streams plan) h.runs.point.coming
         (streams_opened plan (texts_or plan.made texts) o.events (streams_from plan h.point) h.runs.point h.runs.happen)
 
-    -- over the streams that these inputs tell
+    -- over the streams of these inputs
     over : (seen seen' : Seen) → ((other : Texts) → seen.texts ≡ Some other → RunsTo plan ops other (start_of (plan_streams plan) seen.left h.point.before) seen'.left o.events o.end o.name)
         → seen'.openings ≡ raised_by (length (opened_streams o.events)) seen.openings → Runs plan ops passed h.point.before o.end o.events o.name seen seen' out written
     over seen seen' happened openings = record {

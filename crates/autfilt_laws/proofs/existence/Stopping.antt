@@ -1,4 +1,4 @@
--- Which faults come by what stands in a text, and that no more bytes are taken then than may be.
+-- Faults that come of what is next in a text, within the limit of bytes.
 use Rattle.std.proofs.Common.{◌≡◌, ◌∙◌, ℕ, ◌+◌, ◌<◌, List, length, Option, Some, refl, sym, ap, subst, inl, arith}
 use Rattle.aut_base.specs.declared.limit.Limit.{Limit}
 use Rattle.aut_base.specs.declared.limit.Limit.TheVariants as limit
@@ -13,14 +13,14 @@ use Rattle.autfilt_run.specs.declared.fault.RunFault.{RunFault}
 use Rattle.autfilt_run.specs.declared.fault.RunFault.TheVariants as fault
 use Rattle.hoa_lexer.specs.Moves.{IsWithinByteLimit}
 
--- a limit that is told of an automaton that was read whole
+-- a limit that is noticed at an automaton that was read whole is another one
 pub passed_other : (which : Limit) → IsOfWhole which → fault.Limit which ≡ fault.Limit limit.Bytes → ⊥
 passed_other which whole e =
     let same : which ≡ limit.Bytes = cc in
     let none : AtByte ≡ OfWhole = sym (ap when_told same) ∙ whole in
     cc
 
--- ---- where the run stands then
+-- ---- the point of the run then
 
 pub stops_where : (on : Type 0) (stops : RunFault → ℕ → List ℕ → List ℕ → Type 0) (f : RunFault) (name : List ℕ) (p : Point) (left : Option (List ℕ)) → IsByText (end.Fault f)
     → AtNamed on p name left (stops f) → StopsWhere on stops f name p left

@@ -1,4 +1,4 @@
--- Lists of edges of which the one has no marks that the other lacks, and how many edges have marks that were seen.
+-- Lists of edges each of whose marks are those of an edge in another list, and the number of edges with marks that were seen.
 use Rattle.std.proofs.Common.{◌≡◌, ◌∙◌, ◌≤◌, ℕ, zero, suc, Bool, true, false, cond, List, [], ◌∷◌, Contains, ap, arith, drop, inl, inr, length, nat_eq, refl, subst, sym, take}
 use Rattle.std.proofs.lemmas.Bool.{true≢false}
 use Rattle.std.proofs.lemmas.Cmp.{nat_list_eq_equiv}
@@ -44,7 +44,7 @@ neither_more true false m n f h e = absurd (true≢false (sym (f refl)))
 neither_more false true m n f h e = let same : m ≡ suc n = e in absurd (omega (arith, h, same))
 neither_more false false m n f h e = ((λ t. t), e)
 
--- where as many pass a test that is met more easily, they are the same ones
+-- where a weaker test passes as many items, it passes the same ones
 pub tally_same : {A : Type 0} (p q : A → Bool) → ((x : A) → p x ≡ true → q x ≡ true) → (xs : List A) → tally p xs ≡ tally q xs
     → (x : A) → Contains xs x → q x ≡ true → p x ≡ true
 tally_same p q f [] e x there passes = absurd (none_there x there)
@@ -55,7 +55,7 @@ tally_same p q f (y ∷ ys) e x there passes =
       | inr later ↦ tally_same p q f ys both.1 x later passes
     ]
 
--- ---- what stands in a front of a list
+-- ---- items of a prefix of a list
 
 pub in_front : {A : Type 0} (n : ℕ) (xs : List A) (x : A) → Contains (take n xs) x → Contains xs x
 in_front n xs x there = subst (λ ys. Contains ys x) (take-append-drop n xs) (Contains-append_left (take n xs) (drop n xs) x there)
@@ -74,7 +74,7 @@ in_longer (suc m) (suc n) (y ∷ ys) x less there = elim (there_cases y (take m 
 
 -- ---- the same marks
 
--- each edge of the first list has the marks of one of the second
+-- each edge of the first list has the marks of one in the second
 abbrev pub Covers : List LabelledEdge → List LabelledEdge → Type 0
 Covers es fs = (e : LabelledEdge) → Contains es e → (f : LabelledEdge) × Contains fs f × (f.marks ≡ e.marks)
 
@@ -120,6 +120,6 @@ marks_there es fs covers m there =
     let f = covers e.0 e.1 in
     subst (Contains (marks_of fs)) (f.2 ∙ e.2) (there_map (λ (d : LabelledEdge). d.marks) fs f.0 f.1)
 
--- such lists of edges meet the same conditions
+-- lists that cover each other meet the same conditions
 pub met_covering : (es fs : List LabelledEdge) → Covers es fs → Covers fs es → (f : FormulaTree) → met (marks_of es) f ≡ met (marks_of fs) f
 met_covering es fs to from = met_alike (marks_of es) (marks_of fs) (same_items (marks_of es) (marks_of fs) (marks_there es fs to) (marks_there fs es from))

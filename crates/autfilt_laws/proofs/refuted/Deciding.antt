@@ -1,5 +1,5 @@
--- Of each lasso word an automaton accepts it or doesn't: a path of few turns to a state and a closed one of few rounds from
--- there are looked for.
+-- Acceptance of a lasso word is decidable: a search for a path over the stem and few rounds to a state, and for an accepting
+-- cycle of few rounds from it.
 use Rattle.std.proofs.Common.{◌≡◌, ◌∙◌, ◌<◌, ◌≤◌, ℕ, true, List, ◌++◌, Contains, arith, inl, inr, length, refl, subst}
 use Rattle.std.proofs.lemmas.Bool.{cases_eq}
 use Rattle.std.proofs.lemmas.List.Elements.{All-contains}
@@ -14,7 +14,7 @@ use Rattle.autfilt_laws.proofs.refuted.Searching.{Found, OrNot, both_or_not, les
 use Rattle.autfilt_laws.proofs.refuted.Shortening.{StaysBelow, bound, end_below, shortened}
 
 module _ (a : Automaton) (u v : List NameSet) where
-  -- the path comes back, and its edges meet the condition
+  -- the path returns to its state, and its edges meet the condition
   abbrev Closes : ℕ → List LabelledEdge → ℕ → Type 0
   Closes q es r = (r ≡ q) × (met (marks_of es) a.formula ≡ true)
 
@@ -25,14 +25,14 @@ module _ (a : Automaton) (u v : List NameSet) where
   abbrev Recurs : ℕ → Type 0
   Recurs q = (k : ℕ) × (k ≤ bound a) × Round q k
 
-  -- a path of few turns to a state from which there is one
+  -- a path of few rounds to a state from which there is one
   abbrev Arrives : ℕ → ℕ → Type 0
   Arrives p j = Found a p (copies j v) (λ es q. Recurs q)
 
   abbrev Reaches : ℕ → Type 0
   Reaches p = (j : ℕ) × (j ≤ bound a) × Arrives p j
 
-  -- a path that reads the stem before
+  -- with a path over the stem before it
   abbrev Starts : ℕ → Type 0
   Starts s = Found a s u (λ es p. Reaches p)
 

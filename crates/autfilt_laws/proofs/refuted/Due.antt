@@ -1,4 +1,4 @@
--- Under a plan that refutes, of each automaton a word is due that the operand doesn't accept, or that there is none.
+-- Under `--refute` a line is due of each automaton: a word that the operand doesn't accept, or that there is none.
 use Rattle.std.proofs.Common.{◌≡◌, ◌∙◌, ◌<◌, ◌⊎◌, ℕ, Bool, true, false, List, [], ◌∷◌, ◌++◌, Contains, Option, Some, ap, arith, codes, inl, inr, length, refl, subst, sym}
 use Rattle.std.proofs.lemmas.List.{length-append}
 use Rattle.std.specs.List.{AllByRecursion}
@@ -102,7 +102,7 @@ module _ (p : Plan) (file : List ℕ) (output : p.output ≡ Refute file) (on : 
       let line = subst (λ (o : Option Automaton). MatchOption o ⊥ (λ b. IsRefutationLine (described w) b text)) (sym r.is) (limits, says) in
       subst (λ (c : Bool). IsDueWhere c p ops w text) (sym on) (subst (λ (o : Output). IsPrinted o p ops w text) (sym output) line)
 
-  -- the operand accepts all that the automaton accepts, where no word refutes
+  -- the operand accepts all that the automaton accepts, where no word refutes that
   something : IsWellFormed r.operand → IsValid w → PassesNone w → IsKept p ops (described w) → Nothing → ⊥
   something formed valid within kept none =
       let a = described w in

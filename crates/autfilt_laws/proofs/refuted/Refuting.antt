@@ -1,5 +1,6 @@
--- Where a lasso word is accepted by one automaton and not by another, so is a reduced one over the names of both: a word that
--- isn't reduced has a shorter one of the same letters. So where none is, all that the first accepts is accepted by the second.
+-- Where one automaton accepts a lasso word and another doesn't, there is such a word that is reduced and over the names of
+-- both: a word that isn't reduced has a shorter lasso with the same letters. So where there is none, the second accepts all
+-- that the first accepts.
 use Rattle.std.proofs.Common.{◌≡◌, ◌∙◌, ◌+◌, ◌*◌, ◌<◌, ◌≤◌, ℕ, zero, suc, List, [], ◌∷◌, ◌++◌, All, Contains, ap, arith, get_or, inl, inr, length, map, refl, subst, sym}
 use Rattle.std.proofs.Math.Nat.{mul-le-mul_right}
 use Rattle.std.proofs.lemmas.List.{length-append, length-map}
@@ -20,14 +21,14 @@ use Rattle.plan_meaning.specs.Limits.{IsIncluded}
 use Rattle.plan_meaning.specs.Refutations.{Refutes}
 use Rattle.word_syntax.specs.Printing.{HoldsOnly}
 
--- a lasso word over the names of both that refutes, whether it is reduced or not
+-- a counterexample over the names of both, whether it is reduced or not
 record Refuting (a b : Automaton) (x y : List NameSet) : Type 0 where
   cycle_has_letters : 0 < length y
   own_names : All (HoldsOnly (joined_names a.names b.names)) (x ++ y)
   accepted : Accepts a x y
   rejected : Accepts b x y → ⊥
 
--- another lasso of the same infinite word, of the same letters
+-- another lasso of the same infinite word, with the same letters
 respelled : (a b : Automaton) (x y u v : List NameSet) → 0 < length v → ((z : NameSet) → Contains (u ++ v) z → Contains (x ++ y) z) → SpellsSame x y u v
     → Refuting a b x y → Refuting a b u v
 respelled a b x y u v some within same r =
@@ -59,7 +60,7 @@ copies_longer w k more some =
     let twice : 2 * length w ≤ k * length w = mul-le-mul_right (length w) more in
     omega (arith, positive, twice, long)
 
--- where no reduced word refutes, none does
+-- where no reduced word is a counterexample, none is
 no_word : (a b : Automaton) → ((w : Lasso) → Refutes a b w → ⊥) → (fuel : ℕ) (x y : List NameSet) → length x + length y < fuel → Refuting a b x y → ⊥
 no_word a b none zero x y small r = absurd (omega (arith, small))
 no_word a b none (suc n) x y small r = none (record { stem = x; cycle = y; cycle_has_letters = r.goes_on }) (record {
@@ -81,7 +82,7 @@ no_word a b none (suc n) x y small r = none (record { stem = x; cycle = y; cycle
   rejected = r.rejected;
 })
 
--- any word that refutes does so with the names of both alone
+-- restricted to the names of both, a counterexample stays one
 with_own_names : (a b : Automaton) (u v : List NameSet) → Accepts a u v → (Accepts b u v → ⊥)
     → Refuting a b (map (restricted (joined_names a.names b.names)) u) (map (restricted (joined_names a.names b.names)) v)
 with_own_names a b u v accepted rejected =

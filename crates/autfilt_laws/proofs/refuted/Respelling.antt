@@ -1,4 +1,4 @@
--- Shorter lassos of the same infinite word, of the same letters.
+-- Shorter lassos of the same infinite word, with the same letters.
 use Rattle.std.proofs.Common.{◌≡◌, ◌∙◌, ◌+◌, ◌*◌, ◌<◌, ◌≤◌, ℕ, zero, suc, List, [], ◌∷◌, ◌++◌, Contains, ap, append_assoc, arith, inl, inr, length, refl, slice_get, subst, sym}
 use Rattle.std.proofs.Math.Nat.{le-mul_of_pos_right}
 use Rattle.std.proofs.lemmas.List.{append-nil, length-append}
@@ -10,7 +10,7 @@ use Rattle.aut_base.proofs.lists.Members.{first_there, there_cases}
 use Rattle.aut_base.proofs.words.Spelled.{word_letter}
 use Rattle.aut_base.specs.Word.{NameSet, SpellsSame, copies}
 
--- a cycle in the place of copies of it
+-- a cycle instead of copies of it
 pub root_spells : (x w : List NameSet) (k : ℕ) → 0 < length w → 0 < length (copies k w) → SpellsSame x (copies k w) x w
 root_spells x w k some more n =
     let same : SpellsSame x w x (copies k w) = subst (λ (z : List NameSet). SpellsSame x w z (copies k w)) (append-nil x) (unrolled 0 k x w some more) in
@@ -23,7 +23,7 @@ root_there x w (suc k) z some there = elim (Contains-append_cases x w z there) [
   | inr cycle ↦ Contains-append_right x (copies (suc k) w) z (Contains-append_left w (copies k w) z cycle)
 ]
 
--- a letter at the end of the stem and of the cycle, which goes into the front of the cycle
+-- the common last letter of stem and cycle, moved to the front of the cycle
 shifted : (c : NameSet) (y : List NameSet) (i : ℕ) → c ∷ copies i (y ++ c ∷ []) ≡ copies i (c ∷ y) ++ c ∷ []
 shifted c y zero = refl
 shifted c y (suc i) =

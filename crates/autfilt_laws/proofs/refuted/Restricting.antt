@@ -1,4 +1,4 @@
--- Letters with some names alone: an automaton that knows no others reads them as it reads the whole letters.
+-- Letters restricted to some names: an automaton over these names reads them as it reads the whole letters.
 use Rattle.std.proofs.Common.{◌≡◌, ◌∙◌, ◌↔◌, ℕ, zero, suc, List, [], ◌∷◌, Contains, ap, filter, map, refl, sym}
 use Rattle.std.proofs.Math.Path.{fun_ext}
 use Rattle.std.specs.FinSet as set
@@ -13,7 +13,7 @@ use Rattle.aut_base.specs.Word.{NameSet}
 use Rattle.word_syntax.specs.Printing.{HoldsOnly}
 use Rattle.word_syntax.specs.ReadBack.{AgreesOn}
 
--- the letter with these of its names alone
+-- the letter without other names
 abbrev pub restricted : List (List ℕ) → NameSet → NameSet
 restricted names x = set.from_list (filter (set.contains x) names)
 
@@ -35,7 +35,7 @@ holds_alike [] x y agree i = refl
 holds_alike (name ∷ names) x y agree zero = agree name (first_there name names)
 holds_alike (name ∷ names) x y agree (suc i) = holds_alike names x y (λ other there. agree other (later_there name names other there)) i
 
--- the names have those of the automaton
+-- the names include those of the automaton
 abbrev pub Knows : List (List ℕ) → Automaton → Type 0
 Knows names a = (name : List ℕ) → Contains a.names name → Contains names name
 

@@ -1,4 +1,4 @@
--- Searches that end with what is looked for, or with that there is none.
+-- Bounded searches, which find an item or show that there is none.
 use Rattle.std.proofs.Common.{◌≡◌, ◌∙◌, ◌⊎◌, ◌<◌, ◌≤◌, ℕ, zero, suc, Bool, true, List, [], ◌∷◌, Contains, arith, inl, inr, refl, subst, sym}
 use Rattle.std.proofs.lemmas.Bool.{cases_Bool, cases_eq, cases_lt, true≢false}
 use Rattle.aut_base.proofs.lists.Members.{first_there, later_there, none_there, there_cases}
@@ -46,14 +46,14 @@ up_to_or_not Q test (suc n) = elim (test (suc n)) [
   ])
 ]
 
--- a path that reads these letters, of whose edges and end this holds
+-- a path over these letters, with `P` of its edges and its last state
 pub record Found (a : Automaton) (p : ℕ) (xs : List NameSet) (P : List LabelledEdge → ℕ → Type 0) : Type 0 where
   pub path : List LabelledEdge
   pub stop : ℕ
   pub leads : IsPath a p xs path stop
   pub holds : P path stop
 
--- the same, begun with this edge
+-- the same, with this edge first
 record Begins (a : Automaton) (p : ℕ) (x : NameSet) (xs : List NameSet) (P : List LabelledEdge → ℕ → Type 0) (e : LabelledEdge) : Type 0 where
   from : p ≡ e.from
   meets : truth (holds_at a.names x) e.label ≡ true

@@ -1,5 +1,5 @@
--- A path that reads a word many times over goes as well by few times: where its state comes again, and no edge between has
--- marks that weren't seen before, what lies between is left out.
+-- A path over many copies of a word can be replaced by one over few copies with the same marks: where a state comes again,
+-- and no edge between has marks that weren't seen before, the part between is left out.
 use Rattle.std.proofs.Common.{◌≡◌, ◌∙◌, ◌+◌, ◌-◌, ◌*◌, ◌<◌, ◌≤◌, ℕ, zero, suc, List, [], ◌∷◌, ◌++◌, Contains, ap, arith, drop, inl, inr, length, refl, subst, sym, take}
 use Rattle.std.proofs.Math.Nat.{mul-le-mul_right}
 use Rattle.std.proofs.lemmas.Bool.{cases_lt}
@@ -18,7 +18,7 @@ use Rattle.autfilt_laws.proofs.refuted.Covering.{Covers, covers_itself, covers_o
 
 -- ---- paths
 
--- a path in two, cut where the first list is read
+-- a path cut in two, after the first list of letters
 record Cut (a : Automaton) (p q : ℕ) (xs ys : List NameSet) (es : List LabelledEdge) : Type 0 where
   first : IsPath a p xs (take (length xs) es) (ends p (take (length xs) es))
   second : IsPath a (ends p (take (length xs) es)) ys (drop (length xs) es) q
@@ -51,7 +51,7 @@ end_below a stays p q (x ∷ xs) (e ∷ es) below path = end_below a stays e.to 
 
 -- ---- rounds
 
--- a bound for the pairs of a state and of a number of edges whose marks were seen
+-- a bound: the number of pairs of a state and of a number of edges whose marks were seen
 abbrev pub bound : Automaton → ℕ
 bound a = (length a.edges + 1) * a.states
 
@@ -61,7 +61,7 @@ front v i es = take (length (copies i v)) es
 abbrev back : List NameSet → ℕ → List LabelledEdge → List LabelledEdge
 back v i es = drop (length (copies i v)) es
 
--- the state behind so many rounds, and how many edges of the automaton have marks that were seen by then
+-- the state after so many rounds, and the number of the automaton's edges whose marks were seen by then
 abbrev state_at : List NameSet → ℕ → List LabelledEdge → ℕ → ℕ
 state_at v p es i = ends p (front v i es)
 
@@ -74,7 +74,7 @@ moment a v p es i = state_at v p es (i + 1) * (length a.edges + 1) + seen_at a v
 seen_few : (a : Automaton) (v : List NameSet) (es : List LabelledEdge) (i : ℕ) → seen_at a v es i < length a.edges + 1
 seen_few a v es i = omega (arith, tally_most (is_seen (front v i es)) a.edges)
 
--- the path in two, behind so many rounds
+-- the path cut in two, after so many rounds
 cut_at : (a : Automaton) (v : List NameSet) (p q k i : ℕ) (es : List LabelledEdge) → i ≤ k → IsPath a p (copies k v) es q → Cut a p q (copies i v) (copies (k - i) v) es
 cut_at a v p q k i es less path =
     let e : k ≡ i + (k - i) = omega (arith, less) in
@@ -92,7 +92,7 @@ front_longer v i j es less e there =
     let wide : i * length v ≤ j * length v = mul-le-mul_right (length v) less in
     in_longer (length (copies i v)) (length (copies j v)) es e (omega (arith, wide, length-copies i v, length-copies j v)) there
 
--- what is left out has no marks of its own
+-- what is left out has no new marks
 left_out_seen : (a : Automaton) (v : List NameSet) (p q i j : ℕ) (es : List LabelledEdge) → i ≤ j → IsPath a p (copies j v) (front v j es) q
     → seen_at a v es i ≡ seen_at a v es j → Covers es (front v i es ++ back v j es)
 left_out_seen a v p q i j es less path same e there =
@@ -112,7 +112,7 @@ what_is_left v i j es e there = elim (Contains-append_cases (front v i es) (back
   | inr late ↦ (e, in_back (length (copies j v)) es e late, refl)
 ]
 
--- a path by fewer rounds, and at least one, with the same marks
+-- a path of fewer rounds, at least one, with the same marks
 record Fewer (a : Automaton) (v : List NameSet) (p q k : ℕ) (es : List LabelledEdge) : Type 0 where
   rounds : ℕ
   fewer : rounds < k
@@ -147,7 +147,7 @@ fewer a stays v p q k es below many path =
     let same = same_from_place (state_at v p es i) (seen_at a v es i) (state_at v p es j) (seen_at a v es j) (length a.edges + 1) (seen_few a v es i) (seen_few a v es j) again.same in
     leave_out a v p q k i j es (omega arith) (omega (arith, again.later)) (omega (arith, again.within)) path same.0 same.1
 
--- a path by few rounds, with the same marks
+-- a path of few rounds with the same marks
 pub record Short (a : Automaton) (v : List NameSet) (p q k : ℕ) (es : List LabelledEdge) : Type 0 where
   pub rounds : ℕ
   pub few : rounds ≤ bound a

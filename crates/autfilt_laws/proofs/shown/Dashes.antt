@@ -1,4 +1,4 @@
--- Dashes are refused after the first byte that makes no word of them.
+-- A word that begins with a dash is refused at the first byte that fits none of the three.
 use Rattle.std.proofs.Common.{◌≡◌, ℕ, List, [], ◌∷◌, ◌++◌, None, inl, inr, refl, sym, subst, ◌∙◌, ap}
 use Rattle.std.proofs.lemmas.Bool.{cases_eq}
 use Rattle.std.specs.Prelude.{codes}
@@ -11,7 +11,7 @@ use Rattle.hoa_lexer.proofs.spelling.Dashes.{dash_bad, dash_end, dashes_bad, das
 use Rattle.hoa_lexer.proofs.next_token.StuckPlaces.{no_open_token}
 use Rattle.autfilt_laws.proofs.shown.Fronts.{IsRefused, not_token, refused_here}
 
--- how far the bytes are those of a word
+-- how far the bytes agree with a word
 data Compares (word x : List ℕ) : Type 0 where
   all : (z : List ℕ) → x ≡ word ++ z → Compares word x
   ends : (b : ℕ) → Expects word x b → Compares word x
@@ -34,7 +34,7 @@ compares (b ∷ bs) (c ∷ cs) = elim (cases_eq c b) [
   | inr n ↦ differs [] b c cs (record { rest = bs; split = refl }) refl n
 ]
 
--- behind the letter
+-- after the letter
 tail_refused : (k : ℕ) (t : Token) (letter : ℕ) (tail x : List ℕ) → IsDashed t letter tail → IsNoToken (45 ∷ 45 ∷ letter ∷ x) → Compares tail x → IsRefused k (45 ∷ 45 ∷ letter ∷ x)
 tail_refused k t letter tail x d n (all z e) =
     absurd (not_token (45 ∷ 45 ∷ letter ∷ x) t z n (tail_answer t letter k None tail x z d refl e))
@@ -46,7 +46,7 @@ tail_refused k t letter tail x d n (differs seen b c z w e other) =
 word_refused : (k : ℕ) (t : Token) (letter : ℕ) (tail x : List ℕ) → IsDashed t letter tail → IsNoToken (45 ∷ 45 ∷ letter ∷ x) → IsRefused k (45 ∷ 45 ∷ letter ∷ x)
 word_refused k t letter tail x d n = tail_refused k t letter tail x d n (compares tail x)
 
--- behind the second dash
+-- after the second dash
 letter_refused : (k : ℕ) (x : List ℕ) → IsNoToken (45 ∷ 45 ∷ x) → IsRefused k (45 ∷ 45 ∷ x)
 letter_refused k [] n = absurd (no_open_token (45 ∷ 45 ∷ []) n (dashes_end [] refl))
 letter_refused k (b ∷ x) n = elim (cases_eq b 66) [
@@ -60,7 +60,7 @@ letter_refused k (b ∷ x) n = elim (cases_eq b 66) [
   ]
 ]
 
--- behind the first
+-- after the first
 pub dash_refused : (k : ℕ) (x : List ℕ) → IsNoToken (45 ∷ x) → IsRefused k (45 ∷ x)
 dash_refused k [] n = absurd (no_open_token (45 ∷ []) n (dash_end [] refl))
 dash_refused k (b ∷ x) n = elim (cases_eq b 45) [

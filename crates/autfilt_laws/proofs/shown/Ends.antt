@@ -1,11 +1,11 @@
--- The byte that closes a token, and what is left behind it.
+-- The byte that ends a token, and what is left after it.
 use Rattle.std.proofs.Common.{List, None, Option, Some, [], is_some, not, refl, suc, zero, ℕ, ◌∷◌, ◌≡◌}
 use Rattle.hoa_lexer.specs.Reading.{unread}
 use Rattle.hoa_lexer.specs.Spelling.{IsDelimited, closes_itself}
 use Rattle.hoa_lexer.specs.declared.token.Token.{Token}
 use Rattle.hoa_lexer.specs.declared.token.Token.TheVariants.{Identifier, Int, Alias}
 
--- what follows a token: the byte that closes it, if it is not closed by its own last one, and what is left
+-- what follows a token: the byte that ends it, unless its own last byte does, and what is left
 pub record IsClosed (t : Token) (after : List ℕ) : Type 0 where
   pub held : Option ℕ
   pub left : List ℕ

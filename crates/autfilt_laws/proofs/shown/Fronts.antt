@@ -1,4 +1,4 @@
--- Bytes that begin no token are refused after the first of them that shows it.
+-- A lexer that refuses bytes with which no token begins, at the first byte that shows it.
 use Rattle.std.proofs.Common.{ℕ, List, Err, refl}
 use Rattle.hoa_lexer.specs.Reading.{AnswersToken}
 use Rattle.hoa_lexer.specs.Text.{IsFront, IsNoToken}
@@ -8,7 +8,7 @@ use Rattle.hoa_lexer.specs.inner.Steps.{ReadsToken}
 use Rattle.hoa_lexer.proofs.next_token.Exclusive.{no_token_stuck}
 use Rattle.hoa_lexer.proofs.next_token.Fronts.{skips_none, token_err}
 
--- a lexer refuses the bytes, at offset k, and these are left
+-- a lexer refuses the bytes at offset k, with these left
 pub record IsRefused (k : ℕ) (bytes : List ℕ) : Type 0 where
   pub left : List ℕ
   pub answers : AnswersToken (Err (BadToken k)) k 0 bytes left

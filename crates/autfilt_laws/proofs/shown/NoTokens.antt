@@ -1,4 +1,4 @@
--- Bytes that begin no token are refused, whatever they are.
+-- All bytes with which no token begins are refused.
 use Rattle.std.proofs.Common.{◌≡◌, ℕ, false, List, [], ◌∷◌, ◌++◌, Err, inl, inr, refl, sym, subst, ap}
 use Rattle.std.proofs.lemmas.Bool.{cases_Bool, cases_eq}
 use Rattle.hoa_lexer.specs.Bytes.{is_digit, is_letter, is_space}
@@ -19,7 +19,7 @@ use Rattle.autfilt_laws.proofs.shown.Fronts.{IsRefused, not_token, refused_here}
 use Rattle.autfilt_laws.proofs.shown.Numbers.{number_refused}
 use Rattle.autfilt_laws.proofs.shown.Words.{alias_refused, letter_begins}
 
--- a string that stands there
+-- a closed string is a token
 closed : (inner said more : List ℕ) → Quotes inner said → IsNoToken (34 ∷ (inner ++ 34 ∷ more)) → ⊥
 closed inner said more q n = not_token (34 ∷ (inner ++ 34 ∷ more)) (Str said) more n (record {
   word = 34 ∷ (inner ++ 34 ∷ []);
@@ -48,7 +48,7 @@ not_space b x n = elim (cases_Bool (is_space b)) [ inl h ↦ absurd (n.no_space 
 not_sign : (b : ℕ) (x : List ℕ) → IsNoToken (b ∷ x) → (t : Token) → IsSign t b → ⊥
 not_sign b x n t h = not_token (b ∷ x) t x n (mark_front t b x h)
 
--- a byte that begins nothing
+-- a byte with which no token begins
 first_refused : (k b : ℕ) (x : List ℕ) → is_letter b ≡ false → is_digit b ≡ false → (b ≡ 34 → ⊥) → (b ≡ 64 → ⊥) → (b ≡ 45 → ⊥) → (b ≡ 47 → ⊥) → IsNoToken (b ∷ x) → IsRefused k (b ∷ x)
 first_refused k b x l d quote alias dash slash n = refused_here k (b ∷ x) x (
   refl,
@@ -79,7 +79,7 @@ refused k (b ∷ x) n = elim (cases_Bool (is_letter b)) [
   | inr l ↦ elim (cases_Bool (is_digit b)) [ inl d ↦ number_refused k b x d n | inr d ↦ other_refused k b x l d n ]
 ]
 
--- Bytes that begin no token stand behind blanks: a lexer refuses them, and these are left.
+-- After blanks come bytes with which no token begins: a lexer refuses them, with these left.
 pub record RefusesAt (k used : ℕ) (rest : List ℕ) : Type 0 where
   pub left : List ℕ
   pub answers : AnswersToken (Err (BadToken k)) used 0 rest left

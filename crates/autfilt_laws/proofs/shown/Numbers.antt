@@ -1,4 +1,4 @@
--- Digits are refused after the first that makes the integer too great.
+-- Digits are refused at the first that makes the integer too great.
 use Rattle.std.proofs.Common.{◌≡◌, ℕ, ◌+◌, ◌-◌, ◌*◌, ◌^◌, ◌<◌, ◌≤◌, true, List, [], ◌∷◌, None, inl, inr, refl, arith}
 use Rattle.std.proofs.lemmas.Bool.{cases_Bool, cases_lt}
 use Rattle.std.proofs.lemmas.Bool.Decides.{nat_tests}
@@ -9,7 +9,7 @@ use Rattle.hoa_lexer.proofs.spelling.Numbers.{IsDigits, digits_push, number_bad,
 use Rattle.hoa_lexer.proofs.next_token.StuckPlaces.{no_open_token}
 use Rattle.autfilt_laws.proofs.shown.Fronts.{IsRefused, not_token, refused_here}
 
--- the value of one digit more
+-- the value with another digit
 abbrev more : ℕ → ℕ → ℕ
 more value digit = 10 * value + (digit - 48)
 

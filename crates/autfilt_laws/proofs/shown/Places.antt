@@ -1,4 +1,4 @@
--- Where something stands next in a text that a reader refuses, there is a place at which a reader stops.
+-- For each fault of a text there is a byte that shows it, at which a reader can stop.
 use Rattle.std.proofs.Common.{List, None, Option, Some, [], ap, inl, inr, is_some, not, subst, sym, true, ℕ, ◌++◌, ◌∙◌, ◌≡◌, ◌≢◌, ◌⊎◌}
 use Rattle.std.proofs.lemmas.List.{append_assoc, append-nil}
 use Rattle.aut_base.proofs.numbers.Truth.{true_from_not}
@@ -15,16 +15,16 @@ use Rattle.autfilt_laws.specs.Places.{BadIsShown, CutIsShown, DeepIsShown}
 use Rattle.autfilt_laws.proofs.shown.Ends.{IsClosed, closing}
 use Rattle.autfilt_laws.proofs.shown.NoTokens.{refuses_at}
 
--- the last byte was asked for, where a token stands next
+-- the last byte was needed, where a token is next
 asked_for_token : (start : ℕ) (text : List ℕ) (tokens : List Token) (used : ℕ) (rest : List ℕ) (t : Token) (k : ℕ) (after : List ℕ) → IsBegun start text tokens used rest
     → IsNext rest used t k after → (c : IsClosed t after) → AskedForLast start text c.left
 asked_for_token start text tokens used rest t k after begun next c =
     asked_last start text c.left tokens used rest begun
     (last_is_asked_for rest used k t c.held c.left (subst (λ (w : List ℕ). IsNext rest used t k w) c.follows next) c.needed)
 
--- what was taken shows that the text cannot go on: a token that cannot stand there
+-- the bytes that were taken show that no token can continue the text
 
--- where none is held, the token is closed by its own last byte
+-- where the lexer holds no byte, the token is complete with its own last byte
 closed_so : (held : Option ℕ) (t : Token) → is_some held ≡ not (closes_itself t) → held_bytes held ≡ [] → closes_itself t ≡ true
 closed_so None t e none = true_from_not (closes_itself t) e
 closed_so (Some b) t e none = cc

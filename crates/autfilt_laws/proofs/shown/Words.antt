@@ -1,4 +1,4 @@
--- No letter is refused, and an alias is where no name begins.
+-- A letter always begins a token, and `@` does where a letter, a digit or `-` follows.
 use Rattle.std.proofs.Common.{◌≡◌, ℕ, true, List, [], ◌∷◌, ◌++◌, ◌⊎◌, Some, None, inl, inr, refl, sym, ◌∙◌, ap}
 use Rattle.std.specs.List.{list_all}
 use Rattle.std.proofs.lemmas.Bool.{cases_Bool, cases_eq, ne_eqb}
@@ -31,7 +31,7 @@ ahead (b ∷ bs) = elim (cases_Bool (is_word b)) [
 all_words : (x : List ℕ) (a : Ahead x) → a.rest ≡ [] → AddsWord [] a.seen x []
 all_words x a e = record { seen = a.seen; named = refl; words = a.words; split = a.split ∙ ap (λ v. a.seen ++ v) e }
 
--- a name stands there, with what follows it
+-- a name is next, with what follows it
 
 named : (first : ℕ) (x seen rest : List ℕ) → is_letter first ≡ true → list_all is_word seen ≡ true → x ≡ seen ++ rest → StopsAt is_word rest → IsNoToken (first ∷ x) → ⊥
 named first x seen [] l w e s n = s

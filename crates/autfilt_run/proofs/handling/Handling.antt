@@ -1,4 +1,4 @@
--- What becomes of an automaton that was read.
+-- Filtering and printing of an automaton that was read.
 use Rattle.std.proofs.Common.{◌≡◌, ℕ, Bool, true, false, if◌then◌else◌, List, [], Option, Some, None, Result, Ok, Err, refl, sym, ap, ◌∙◌, subst, inl, inr}
 use Rattle.std.specs.Prelude.{◌++◌, All, MatchOption, codes}
 use Rattle.std.specs.Result.{IsErrAnd}
@@ -48,7 +48,7 @@ pub is_unwanted : (b : Bool) (p : Plan) (ops : List Automaton) (w : Written) (co
 is_unwanted b p ops w core r is h =
     record { valid = r.valid; within = r.within; dropped = judged (Ok false) p ops w core r (subst (λ (x : Bool). Judged (Ok x) p ops core) is h) }
 
--- ---- what is due of it
+-- ---- the text that is due
 
 silent : (p : Plan) (ops : List Automaton) (w : Written) (b : Bool) → b ≡ prints_each p → b ≡ false → IsDue p ops w []
 silent p ops w true e is = cc
@@ -72,7 +72,7 @@ made_of p ops w core r h =
 name_as : (p : Plan) (w : Written) (name : Option (List ℕ)) → name ≡ name_of w → (if changes p then None else name) ≡ name_due p w
 name_as p w name e = ap (λ (x : Option (List ℕ)). if changes p then None else x) e
 
--- a refutation of an automaton in canonical form is one of it as it was read
+-- a refutation of an automaton in canonical form is one of the automaton as it was read
 names_as : (w : Written) (core : Automaton) → IsReadAs w core → core.names ≡ (reader.described w).names
 names_as w core r = ap (λ (x : Automaton). x.names) (core_is w core r)
 
@@ -127,7 +127,7 @@ is_wanted b c p ops w core name text bytes r is h e on shown printed named = rec
   due = subst (λ (x : List ℕ). IsDue p ops w x) (sym shown) (due_text p ops w c text e on (printed_as p.output p ops w core name text r named printed));
 }
 
--- ---- refusals
+-- ---- faults
 
 pub not_taken : (f : RunFault) (p : Plan) (ops : List Automaton) (w : Written) (o : SinkSeen) → TakesAutomaton (Err f) w → Handles (Err f) p ops w o o
 not_taken (fault.Invalid rule) p ops w o h = (h, refl)

@@ -1,4 +1,4 @@
--- Limits that are passed behind the reader are told of an automaton that was read whole.
+-- A limit that is passed after reading is noticed at an automaton that was read whole.
 use Rattle.std.proofs.Common.{◌≡◌, ◌⊎◌, ◌∙◌, Bool, false, true, List, [], ◌∷◌, Option, Some, None, Contains, ap, inl, inr, refl}
 use Rattle.std.specs.Prelude.{MatchOption}
 use Rattle.std.specs.List.{list_all}
@@ -33,7 +33,7 @@ use Rattle.plan_meaning.specs.Operands.{refuted_operand}
 abbrev pub IsOfWhole : Limit → Type 0
 IsOfWhole which = when_told which ≡ OfWhole
 
--- while a text is read these two are told
+-- while a text is read two limits can be noticed
 pub told_bytes : (which : Limit) → when_told which ≡ AtByte → which ≡ limit.Bytes
 told_bytes limit.Bytes e = refl
 told_bytes limit.Depth e = absurd (let none : AtToken ≡ AtByte = e in cc)
@@ -114,6 +114,6 @@ pub both_ways : (which : Limit) (p : Plan) (ops : List Automaton) (w : Written) 
 both_ways which p ops w (inl h) = counts_pass which w h
 both_ways which p ops w (inr h) = plan_passes which p ops w h
 
--- so they stop nowhere in particular
+-- so they have nothing to do with the limit of bytes
 pub elsewhere : (which : Limit) → IsOfWhole which → stop_of_run_fault (fault.Limit which) ≡ Elsewhere
 elsewhere which whole = ap stop_of_limit whole

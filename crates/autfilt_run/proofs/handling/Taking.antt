@@ -1,4 +1,4 @@
--- An automaton that was read, with labels in canonical form.
+-- The automaton that is built of what was parsed, with labels in canonical form.
 use Rattle.std.proofs.Common.{◌≡◌, List, refl, sym, ap, ◌∙◌, subst}
 use Rattle.std.specs.Prelude.{◌↔◌}
 use Rattle.std.proofs.lemmas.Bool.{ltb-false}

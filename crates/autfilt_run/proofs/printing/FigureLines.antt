@@ -11,11 +11,11 @@ use Rattle.filter_plan.specs.declared.format.Piece.TheVariants.{Word}
 use Rattle.lasso_emptiness.specs.Emptiness.{IsAcceptedWord}
 use Rattle.word_syntax.specs.Printing.{word_text}
 
--- A text begins the line of all pieces: with what stands for the rest of them behind it, it is the line.
+-- A text is the beginning of the line: followed by the texts of the other pieces, it is the line.
 pub record IsBegun (pieces rest : List Piece) (a : Automaton) (begun : List ℕ) : Type 0 where
   pub whole : (text : List ℕ) → IsLine rest a text → IsLine pieces a (begun ++ text)
 
--- one piece more
+-- another piece
 pub piece_more :
     (pieces : List Piece) (i : ℕ) (d piece : Piece) (a : Automaton) (begun shown new : List ℕ) →
     i < length pieces → piece ≡ get_or pieces i d → new ≡ begun ++ shown → IsShownAs piece a shown →

@@ -29,14 +29,14 @@ shorter k p q =
       | inr long ↦ (length p, take_all k p (omega arith) ∙ sym (take_all (length p) p (omega arith)) ∙ sym (take-append-le (length p) p q (omega arith)))
     ]
 
--- a part of the first piece, and nothing of the second
+-- a prefix of the first piece, and nothing of the second
 pub first : (before after : Option (List ℕ)) (p q : List ℕ) → GainsPrefix before after p → GainsPrefix before after (p ++ q)
 first None after p q a = a
 first (Some old) after p q a =
     let s = shorter a.0 p q in
     (s.0, a.1 ∙ ap (λ x. Some (old ++ x)) s.1)
 
--- the first piece, and a part of the second
+-- the first piece, and a prefix of the second
 pub second : (before between after : Option (List ℕ)) (p q : List ℕ) → Gains before between p → GainsPrefix between after q → GainsPrefix before after (p ++ q)
 second None between after p q a b =
     let P : Option (List ℕ) → Type 0 = λ x. GainsPrefix x after q in

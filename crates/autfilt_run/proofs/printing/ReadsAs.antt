@@ -1,4 +1,4 @@
--- What is printed of an automaton reads as one that accepts what is said.
+-- The text that is printed reads back as an automaton of the language that the plan describes.
 use Rattle.std.proofs.Common.{ℕ, List, Option}
 use Rattle.ap_project.specs.Laws.{SayTheSame}
 use Rattle.aut_base.specs.Acceptance.{Accepts}

@@ -1,4 +1,4 @@
--- Pieces that a sink takes one after the other, and whether a write failed.
+-- Writing pieces to a sink one after the other, and whether a write failed.
 use Rattle.std.proofs.Common.{◌≡◌, ℕ, List, ◌++◌, Result, Ok, Err, ◌∙◌, subst, arith}
 use Rattle.std.specs.Result.{IsErrAnd}
 use Rattle.aut_base.specs.declared.fault.Failed.{Failed}

@@ -1,4 +1,4 @@
--- From a plan that was carried out to what the words ask for.
+-- From the run of a plan to the run of the words of a command line.
 use Rattle.std.proofs.Common.{◌≡◌, ℕ, ◌+◌, Bool, true, List, [], length, drop, Option, Some, None, Err, IsErrOf, refl, sym, ap, ◌∙◌, subst, inl, inr, arith}
 use Rattle.std.proofs.lemmas.List.{drop_all, length-map, take_all}
 use Rattle.aut_base.specs.Automaton.{Automaton}
@@ -35,7 +35,7 @@ nothing_noted a = (nothing a.written, refl)
 
 -- ---- the operands before the streams
 
--- what is said of a session that was prepared, of what was read
+-- what was said of the session after preparing holds of what was read
 of_prepared : (R : Plan → List Automaton → ℕ → Type 0) (plan : Plan) (ready : Session) (s m : Seen) (k l : SinkSeen) (noting : Bool) → (h : HasPrepared plan ready s m k l noting)
     → R ready.plan (operands_in ready) ready.skipped
     → R plan (operands_read h.taken) (length (all_passed h.taken))
@@ -49,7 +49,7 @@ none_to_come ready all = drop_all (length ready.operands + open_count ready.is_o
 all_named : (ready : Session) → length ready.operands ≡ length (operands ready.plan) → opened_names ready ≡ operands ready.plan
 all_named ready all = take_all (length ready.operands + open_count ready.is_open) (operands ready.plan) (omega (arith, all))
 
--- where the run stands once all operands were read
+-- the point of the run after all operands were read
 stands_behind : (plan : Plan) (ready : Session) (s m : Seen) (k l : SinkSeen) (noting : Bool) (texts : Texts) → s.texts ≡ Some texts → (h : IsPrepared plan ready s m k l noting)
     → (p : Point) × AreAllRead plan texts s.left h.prepared.taken p × (p.left ≡ m.left) × (p.before ≡ ready.lexer.taken)
 stands_behind plan ready s m k l noting texts told h =

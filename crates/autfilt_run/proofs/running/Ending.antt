@@ -1,4 +1,4 @@
--- Runs that a fault ends, and runs that read all.
+-- Runs that end with a fault, and runs that read all.
 use Rattle.std.proofs.Common.{◌≡◌, ◌≢◌, ℕ, ◌+◌, ◌<◌, ◌≤◌, ◌==◌, Bool, true, false, not, ◌&&◌, ◌||◌, if◌then◌else◌, List, [], ◌∷◌, ◌++◌, length, take, drop}
 use Rattle.std.proofs.Common.{Option, Some, None, Err, refl, sym, ap, ◌∙◌, subst, inl, inr, append_assoc, append-nil, arith}
 use Rattle.std.proofs.lemmas.Bool.{false≢true}
@@ -43,22 +43,22 @@ use Rattle.filter_plan.specs.declared.plan.Plan.{Plan}
 use Rattle.hoa_lexer.specs.Moves.{Elsewhere, IsWithinByteLimit, MovesLexer, Stop}
 use Rattle.hoa_parser.specs.Raw.{Written}
 
--- ---- what is common to the ends
+-- ---- common to all ends
 
--- a line that is noted at the end, after a text that was noted before
+-- a line that is noted at the end, after other notes
 abbrev pub Closes : List ℕ → Bool → SinkSeen → SinkSeen → Type 0
 Closes line noting l j = (sink : SinkSeen) (text : List ℕ) → HasNoted text noting sink l → Notes (text ++ line) sink j
 
 notes_as : (a b : SinkSeen) (x y : List ℕ) → x ≡ y → Notes x a b → Notes y a b
 notes_as a b x y e h = subst (λ (z : List ℕ). Notes z a b) e h
 
--- what is noted of a run, and the line of its end
+-- the notes of a run, and the line about its end
 closed : (fresh old : Session) (s m : Seen) (o p k l j : SinkSeen) (first noting : Bool) (line : List ℕ) → (h : HasRunEvents fresh old s m o p k l first noting) → Closes line noting l j
     → (sink : SinkSeen) (text : List ℕ) → HasNoted text first sink k → Notes (text ++ (all_noted h.events ++ line)) sink j
 closed fresh old s m o p k l j first noting line h closes sink text before =
     notes_as sink j _ _ (append_assoc text (all_noted h.events) line) (closes sink (text ++ all_noted h.events) (h.noted sink text before))
 
--- where the run stands when the fault comes, and how many bytes were taken
+-- the point at which the fault comes, and how many bytes were taken
 abbrev Halts : RunFault → Plan → List Automaton → List ℕ → Option (List ℕ) → Point → Type 0
 Halts f plan ops name left p = StopsRun plan ops f name p left × IsCounted f p left
 
@@ -66,11 +66,11 @@ Halts f plan ops name left p = StopsRun plan ops f name p left × IsCounted f p 
 abbrev Asks : Session → Point → Type 0
 Asks s p = asks_on s.plan p.kept ≡ true
 
--- the limits that are passed behind the reader
+-- the limits that are passed after reading
 abbrev over_of : Session → Limit → Written → Type 0
 over_of s which w = IsOverLimit which s.plan (operands_in s) w
 
--- a run of whose events all was written
+-- a run in which the text of each event was written
 record HaltsAt (f : RunFault) (old : Session) (name : List ℕ) (m t : Seen) (p q : SinkSeen) : Type 0 where
   halts : (texts : Texts) → m.texts ≡ Some texts → (at : Point) → StandsInStreams old m.left at → Halts f old.plan (operands_in old) name t.left at
   output : q ≡ p
@@ -86,7 +86,7 @@ fault_in e = ap fault_or_memory e
     fault_or_memory (end.Fault f) = f
     fault_or_memory _ = fault.Memory
 
--- what is to be opened, told by the events
+-- which file is to be opened, by the events
 wants_stream_file : (fresh old : Session) (s m : Seen) (o p k l : SinkSeen) (first noting : Bool) (h : HasRunEvents fresh old s m o p k l first noting)
     → WantsFile old.is_open old.opened (length (plan_streams old.plan)) → WantsStreamFile fresh.plan h.events
 wants_stream_file fresh old s m o p k l first noting h wants =
@@ -141,7 +141,7 @@ reading_halts f R name old new m t p q steady stops h at stands = (
   counted_at f old new m t at steady h.reading.is_open stands h.moves,
 )
 
--- the same where the line about the fault has a name
+-- the same where the line about the fault names a file
 named_halts : (f : RunFault) (name : List ℕ) (old new : Session) (m t : Seen) (p q : SinkSeen) → StepsAs old new → name ≡ name_in new
     → ((at : Point) → AtNamed (Asks old at) at name t.left (StopsReading (over_of old) f) → StopsRun old.plan (operands_in old) f name at t.left)
     → ReadsInputs (stop_of_run_fault f) (StopsReading (over_of old) f old.lexer.since) old new m t p q
@@ -152,7 +152,7 @@ named_halts f name old new m t p q steady is stops h at stands = (
   counted_at f old new m t at steady h.reading.is_open stands h.moves,
 )
 
--- one after which no count rose
+-- a fault after which no count has risen
 calm_halt : (f : RunFault) (name : List ℕ) (old new : Session) (m t : Seen) (p q : SinkSeen) → StepsAs old new → name ≡ name_in new → t.read_faults ≡ m.read_faults
     → ((at : Point) → AtNamed (Asks old at) at name t.left (StopsReading (over_of old) f) → StopsRun old.plan (operands_in old) f name at t.left)
     → ((plan : Plan) (events : List Event) (a b : Option (List ℕ)) → Gains a b (all_written events) → PrintsRun plan (end.Fault f) events a b)
@@ -167,12 +167,12 @@ calm_halt f name old new m t p q steady is calm stops prints causes may h = reco
   texts = h.moves.texts;
 }
 
--- where a limit is passed, the run stands in the file whose name is in hand
+-- where a limit is passed, the open file has the name in hand
 limit_stops : (which : Limit) (name : List ℕ) (old : Session) (t : Seen) (at : Point) → AtNamed (Asks old at) at name t.left (StopsReading (over_of old) (fault.Limit which))
     → StopsRun old.plan (operands_in old) (fault.Limit which) name at t.left
 limit_stops which name old t at h = h
 
--- ---- a text that is not opened
+-- ---- a file that can't be opened
 
 unopened_counted : (f : RunFault) (old : Session) (left left' : Option (List ℕ)) (at : Point) → StandsInStreams old left at → old.is_open ≡ false → stop_of_run_fault f ≡ Elsewhere
     → IsCounted f at left'
@@ -212,7 +212,7 @@ opening_lacks : (old : Session) (m t : Seen) (name : List ℕ) (texts : Texts) (
 opening_lacks old m t name texts at told stands wants (inl same) = inl (ap (λ (x : Seen). x.left) same ∙ sym stands.at.left_is)
 opening_lacks old m t name texts at told stands wants (inr h) = inr (inl (name, wants, untold_closed m.texts t.left texts told h.closed))
 
--- what a try without memory leaves
+-- what an opening that memory was wanting for leaves
 record LeavesInputs (m t : Seen) : Type 0 where
   opens : t.open_faults ≡ m.open_faults
   reads : t.read_faults ≡ m.read_faults
@@ -272,9 +272,9 @@ halted (fault.Invalid rule) name old new m t p q n steady h is = calm_halt (faul
 halted (fault.Limit which) name old new m t p q n steady h is =
     calm_halt (fault.Limit which) name old new m t p q steady is (calm_limit which _ _ h.moves.reads) (limit_stops which name old t) (λ plan events a b g. g) (λ s o calm. calm) refl h
 
--- ---- a write that failed
+-- ---- a failed write
 
--- the number is printed, or each automaton
+-- not both the number and each automaton are printed
 never_both : (p : Plan) → prints_count p ≡ true → prints_each p ≡ true → ⊥
 never_both p counts each = by_cases p.count p.quiet counts each
   where
@@ -293,7 +293,7 @@ broken_off plan on events w text (Some old) b c h p =
     let q = subst (λ (x : Option (List ℕ)). GainsPrefix x c text) h p in
     record { prints = on; earlier = events; automaton = w; text = text; all = refl; part = q.0; gains = q.1 ∙ ap Some (append_assoc old (all_written events) (take q.0 text)) }
 
--- The automaton whose text could not be written whole was read, and is to be kept.
+-- The automaton whose text could not be written whole is the last that was read, and is to be kept.
 record IsLast (w : Written) (t : Seen) (at : Point) : Type 0 where
   point : Point
   goes : ReadsOn at (λ start rest next. IsGood start rest w next) (at.kept + 1) point
@@ -383,7 +383,7 @@ done_at old m at stands (inr h) = inr (
   stands.coming ∙ ap (λ (n : ℕ). drop n (plan_streams old.plan)) h.1 ∙ drop_all (length (plan_streams old.plan)) (plan_streams old.plan) (omega arith),
 )
 
--- the automata that were kept are counted alike, however many were passed over before
+-- the events keep the same automata, however many were skipped before
 kept_alike : (a b : Tally) (events : List Event) → a.kept ≡ b.kept → (tally_from a events).kept ≡ (tally_from b events).kept
 kept_alike a b [] e = e
 kept_alike a b (Opened name ∷ es) e = kept_alike a b es e
@@ -407,7 +407,7 @@ part_after events text (Some old) b c h p =
     let q = subst (λ (x : Option (List ℕ)). GainsPrefix x c text) h p in
     (q.0, q.1 ∙ ap Some (append_assoc old (all_written events) (take q.0 text)))
 
--- no more than may be was taken where a session stands
+-- the limit of bytes isn't passed at the point of a session
 within_at : (o : Option Stream) (old : Session) (left : Option (List ℕ)) (at : Point) → at.stream ≡ o → IsInStream o old left at.before → old.lexer.taken ≤ MOST_BYTES
     → taken_until at left ≤ MOST_BYTES
 within_at None old left at is h few =

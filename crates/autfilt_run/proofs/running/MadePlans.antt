@@ -1,4 +1,4 @@
--- How many automata are made.
+-- How many automata `--made` generates.
 use Rattle.std.proofs.Common.{◌≡◌, ℕ, ◌≤◌, List, [], ◌∷◌, Option, Some, codes, refl, subst}
 use Rattle.filter_plan.proofs.TableRows.{given}
 use Rattle.filter_plan.specs.Numbers.{IsMadeCount}
@@ -14,7 +14,7 @@ read_of (value ∷ other ∷ values) n h = absurd h
 read_as : (values : List (List ℕ)) (o : Option ℕ) (n : ℕ) → ReadsOption IsMadeCount values o → o ≡ Some n → (1 ≤ n) × (n ≤ 10000)
 read_as values o n h is = read_of values n (subst (λ (x : Option ℕ). ReadsOption IsMadeCount values x) is h)
 
--- what its row gives a plan
+-- the number that its row of options gives a plan
 of_row : (rows : _) (p : Plan) → EachGives table rows p → ReadsOption IsMadeCount (values_of (codes "made") rows) p.made
 unfolding table
 of_row rows p gives = given rows p gives (codes "made") (MadeCount (λ x. x.made)) refl

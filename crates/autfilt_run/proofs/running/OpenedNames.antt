@@ -1,4 +1,4 @@
--- The names that are opened: those of operands, and those of streams where none is generated.
+-- The names that are opened: those of operands, and those of streams unless the stream is generated.
 use Rattle.std.proofs.Common.{◌≡◌, ℕ, List, Option, Some, None, sym, subst}
 use Rattle.std.specs.List.{All}
 use Rattle.aut_base.proofs.lists.Members.{all_of_first, all_of_second}

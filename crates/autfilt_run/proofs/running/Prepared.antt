@@ -1,4 +1,4 @@
--- Preparing a session: the operands so far and more of them, and faults.
+-- Preparing a session: some operands are read, then more of them, or a fault comes.
 use Rattle.std.proofs.Common.{◌≡◌, ℕ, ◌+◌, Bool, true, false, List, [], ◌∷◌, ◌++◌, length, drop, take, refl, sym, ap, ◌∙◌, subst, append-nil, arith}
 use Rattle.std.proofs.lemmas.Grind.{flat_map-append}
 use Rattle.std.proofs.lemmas.List.{length-append}
@@ -43,14 +43,14 @@ passed_then before more = flat_map-append passed_of before more
 noted_then : (before more : List OperandEvent) → passed_noted (all_passed (before ++ more)) ≡ passed_noted (all_passed before) ++ passed_noted (all_passed more)
 noted_then before more = ap passed_noted (passed_then before more) ∙ flat_map-append aborted_line (all_passed before) (all_passed more)
 
--- none was passed over
+-- no automaton was skipped
 noted_none : (before more : List OperandEvent) → all_passed more ≡ [] → passed_noted (all_passed (before ++ more)) ≡ passed_noted (all_passed before)
 noted_none before more none = noted_then before more ∙ ap (λ x. passed_noted (all_passed before) ++ passed_noted x) none ∙ append-nil (passed_noted (all_passed before))
 
 count_none : (before more : List OperandEvent) → all_passed more ≡ [] → length (all_passed (before ++ more)) ≡ length (all_passed before)
 count_none before more none = ap length (passed_then before more ∙ ap (λ x. all_passed before ++ x) none ∙ append-nil (all_passed before))
 
--- one was
+-- one automaton was skipped
 noted_one : (before more : List OperandEvent) (name : List ℕ) → all_passed more ≡ name ∷ [] → passed_noted (all_passed (before ++ more)) ≡ passed_noted (all_passed before) ++ aborted_line name
 noted_one before more name one =
     noted_then before more ∙ ap (λ x. passed_noted (all_passed before) ++ passed_noted x) one ∙ ap (λ x. passed_noted (all_passed before) ++ x) (append-nil (aborted_line name))
@@ -58,9 +58,9 @@ noted_one before more name one =
 count_one : (before more : List OperandEvent) (name : List ℕ) → all_passed more ≡ name ∷ [] → length (all_passed (before ++ more)) ≡ length (all_passed before) + 1
 count_one before more name one = ap length (passed_then before more ∙ ap (λ x. all_passed before ++ x) one) ∙ length-append (all_passed before) (name ∷ [])
 
--- ---- what the loop keeps
+-- ---- the invariant of the loop
 
--- what a call keeps that reads operands
+-- what a call that reads operands doesn't change
 pub record KeepsPlan (old new : Session) : Type 0 where
   pub plan : new.plan ≡ old.plan
   pub opened : new.opened ≡ old.opened
@@ -120,7 +120,7 @@ more events plan old new s m t k l j noting noting' h keeps read skipped noted =
   kept = keeps.kept ∙ h.kept;
 }
 
--- one was passed over, and is noted
+-- one automaton was skipped, and is noted
 pub prepared_skipped : (plan : Plan) (old new : Session) (s m t : Seen) (k l j : SinkSeen) (noting noting' : Bool) → HasPrepared plan old s m k l noting → KeepsPlan old new
     → HasSkipped old new m t → Adds (aborted_line (name_in new)) noting noting' l j
     → HasPrepared plan new s t k j noting'
@@ -146,7 +146,7 @@ prepared_all plan old new s m t k l noting h keeps did stage closed = record {
 
 -- ---- faults
 
--- what is to be opened, told by all events
+-- which file is to be opened, by all events
 wants_operand : (f : RunFault) (plan : Plan) (old new : Session) (s m t : Seen) (k l : SinkSeen) (noting : Bool) (h : HasPrepared plan old s m k l noting) (failed : FailsToPrepare f old new m t)
     → WantsOperand old failed.events → WantsOperandFile plan (h.taken ++ failed.events)
 wants_operand f plan old new s m t k l noting h failed wants =

@@ -1,4 +1,4 @@
--- Runs: the events so far and one more, and the end.
+-- The events of a run so far and another one, and the end.
 use Rattle.std.proofs.Common.{◌≡◌, ℕ, ◌+◌, Bool, true, false, List, [], ◌∷◌, ◌++◌, drop, length, take, Option, refl, sym, ap, ◌∙◌, subst, append_assoc, append-nil}
 use Rattle.std.proofs.lemmas.List.{length-append}
 use Rattle.std.specs.Prelude.{map}
@@ -53,7 +53,7 @@ noted_as a b p q noting e h = subst (λ (x : List ℕ). HasNoted x noting a b) e
 pub calm_then : (s m t : Seen) (o p q : SinkSeen) → AreCalm s m o p → AreCalm m t p q → AreCalm s t o q
 calm_then s m t o p q one two = record { opens = two.opens ∙ one.opens; reads = two.reads ∙ one.reads; writes = two.writes ∙ one.writes }
 
--- what is said of the plan and the operands of a session, of those of another one that has the same
+-- what is said of the plan and operands of a session holds of those of another with the same ones
 pub of_fresh : (P : Plan → List Automaton → Type 0) (fresh s : Session) → s.plan ≡ fresh.plan → s.operands ≡ fresh.operands → P s.plan (operands_in s) → P fresh.plan (operands_in fresh)
 of_fresh P fresh s plan operands h = subst (λ (x : Plan). P x (operands_in fresh)) plan (subst (λ (x : List Automaton). P s.plan x) (ap (λ cores. map automaton_of cores) operands) h)
 
@@ -63,7 +63,7 @@ asks_at s left p stands asks = subst (λ (k : ℕ). asks_on s.plan k ≡ true) (
 pub asks_of : (fresh s : Session) (left : Option (List ℕ)) (p : Point) → s.plan ≡ fresh.plan → StandsInStreams s left p → asks_on s.plan s.kept ≡ true → asks_on fresh.plan p.kept ≡ true
 asks_of fresh s left p plan stands asks = subst (λ (x : Plan). asks_on x p.kept ≡ true) plan (asks_at s left p stands asks)
 
--- what was noted after a text that was noted before
+-- what was noted after other notes
 abbrev pub Adds : List ℕ → Bool → Bool → SinkSeen → SinkSeen → Type 0
 Adds added noting noting' k j = (sink : SinkSeen) (text : List ℕ) → HasNoted text noting sink k → HasNoted (text ++ added) noting' sink j
 
@@ -74,7 +74,7 @@ open_then : (before : Bool) (events others : List Event) → open_after before (
 open_then before [] others = refl
 open_then before (e ∷ es) others = open_then (open_by before e) es others
 
--- one more event
+-- another event
 pub run_more : (event : Event) (fresh old new : Session) (s m t : Seen) (o p q k l j : SinkSeen) (first noting noting' : Bool) → new.plan ≡ old.plan → new.operands ≡ old.operands
     → asks_on old.plan old.kept ≡ true
     → HasRunEvents fresh old s m o p k l first noting → Stepped event old new m t p q → Adds (noted event) noting noting' l j → HasRunEvents fresh new s t o q k j first noting'
@@ -135,7 +135,7 @@ run_none fresh s o k first is = record {
 pub carries_as : (fresh : Session) (first : Bool) (e d : End) (s t : Seen) (o q k j : SinkSeen) → e ≡ d → Carries fresh first d s t o q k j → Carries fresh first e s t o q k j
 carries_as fresh first e d s t o q k j is h = subst (λ (x : End). Carries fresh first x s t o q k j) (sym is) h
 
--- what is written at the end is that of the session that was done
+-- what is written at the end is what the session at its end asks for
 pub finish_as : (e : End) (old new : Session) (r q : SinkSeen) → new.plan ≡ old.plan → progress new ≡ progress old
     → FinishesRun e (count_text new.plan new.kept) (record { kept = new.kept; skipped = new.skipped }) r q
     → FinishesRun e (count_text old.plan old.kept) (record { kept = old.kept; skipped = old.skipped }) r q
@@ -147,7 +147,7 @@ finish_as e old new r q plan done h =
     let C : ℕ → Type 0 = λ n. FinishesRun e (count_text old.plan old.kept) (record { kept = old.kept; skipped = n }) r q in
     subst C skipped (subst B kept (subst A plan h))
 
--- what is kept of complements stays right while the plan and its operands do
+-- the stored complements stay right while the plan and its operands stay
 pub kept_as : (old new : Session) (cs : Complements) → new.plan ≡ old.plan → new.operands ≡ old.operands → AreComplementsKept old.plan (operands_in old) cs
     → AreComplementsKept new.plan (operands_in new) cs
 kept_as old new cs plan operands kept =

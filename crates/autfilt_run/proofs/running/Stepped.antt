@@ -1,4 +1,4 @@
--- What a turn of a session is as an event of the run.
+-- Which event of the run each turn of a session is.
 use Rattle.std.proofs.Common.{◌≡◌, ℕ, ◌+◌, ◌≤◌, true, List, [], ◌++◌, length, take, append-nil, Option, Some, sym, ap, ◌∙◌, subst}
 use Rattle.aut_base.specs.declared.limit.TheConstants.{MOST_BYTES}
 use Rattle.aut_io.specs.Outside.{Gains, Texts}
@@ -32,7 +32,7 @@ pub record Stepped (event : Event) (old new : Session) (m t : Seen) (p q : SinkS
   pub calm : AreCalm m t p q
   pub texts : t.texts ≡ m.texts
 
--- what a step keeps besides
+-- what else a step doesn't change
 pub record StepsAs (old new : Session) : Type 0 where
   pub plan : new.plan ≡ old.plan
   pub most : new.lexer.most ≡ MOST_BYTES
@@ -47,7 +47,7 @@ still_gains p q same = subst (λ (x : SinkSeen). Gains p.written x.written []) (
 pub still_writes : (p q : SinkSeen) → q ≡ p → q.faults ≡ p.faults
 still_writes p q same = ap (λ (x : SinkSeen). x.faults) same
 
--- the parts of what a session has done
+-- the counts of the session after a turn
 pub record IsAfter (new : Session) (a : Progress) : Type 0 where
   pub opened : new.opened ≡ a.opened
   pub is_open : new.is_open ≡ a.is_open
@@ -82,7 +82,7 @@ reads_more R old new m t at steady stands opened_so open_still opened tried read
 kept_at : (old new : Session) (left : Option (List ℕ)) (at : Point) (P : ℕ → Type 0) → StandsInStreams old left at → new.kept ≡ old.kept → P new.kept → P at.kept
 kept_at old new left at P stands same h = subst P (same ∙ sym stands.at.kept) h
 
--- no stream more was opened
+-- no other stream was opened
 none_named : (old new : Session) → new.opened ≡ old.opened → take new.opened (plan_streams old.plan) ≡ take old.opened (plan_streams old.plan) ++ []
 none_named old new same = ap (λ (n : ℕ). take n (plan_streams old.plan)) same ∙ sym (append-nil (take old.opened (plan_streams old.plan)))
 
@@ -165,7 +165,7 @@ kept old new m t p q steady done h =
       texts = h.moves.texts;
     }
 
--- the one that was skipped is of the stream whose name is in hand
+-- an automaton that was skipped is of the stream whose name is in hand
 pub skipped : (old new : Session) (m t : Seen) (p q : SinkSeen) → StepsAs old new → progress new ≡ progress_after turn.Skipped (progress old) → turns.Turns turn.Skipped old new m t p q
     → Stepped (Skipped (name_in new)) old new m t p q
 skipped old new m t p q steady done h =

@@ -11,7 +11,7 @@ use Rattle.autfilt_run.specs.Turns.{BeginsText, IsOpening}
 use Rattle.autfilt_run.specs.declared.session.Session.{Session}
 use Rattle.filter_plan.specs.declared.plan.Plan.{Plan}
 
--- the events so far, and one more
+-- the events so far, and another one
 pub happen_push : (plan : Plan) (texts : Texts) (events : List Event) (event : Event) (p m q : Point) → Happen plan texts events p m → asks_on plan m.kept ≡ true → EventLeads texts event m q
     → Happen plan texts (events ++ event ∷ []) p q
 happen_push plan texts [] event p m q h asks goes =
@@ -19,13 +19,13 @@ happen_push plan texts [] event p m q h asks goes =
     subst P (sym h) (asks, q, goes, refl)
 happen_push plan texts (e ∷ es) event p m q h asks goes = (h.0, h.1, h.2, happen_push plan texts es event h.1 m q h.3 asks goes)
 
--- It goes to a point of the streams.
+-- The session goes to another point in the streams.
 pub record GoesOn (P : Point → Type 0) (new : Session) (left : Option (List ℕ)) : Type 0 where
   pub point : Point
   pub goes : P point
   pub stands : StandsInStreams new left point
 
--- the streams to come
+-- the streams that are still to be opened
 coming_as : (old new : Session) (n : ℕ) → new.plan ≡ old.plan → new.opened ≡ n → drop n (plan_streams old.plan) ≡ drop new.opened (plan_streams new.plan)
 coming_as old new n plan opened = ap (λ (k : ℕ). drop k (plan_streams old.plan)) (sym opened) ∙ ap (λ (p : Plan). drop new.opened (plan_streams p)) (sym plan)
 

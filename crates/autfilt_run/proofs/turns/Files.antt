@@ -1,11 +1,11 @@
--- The files of a plan: those of operands, and then the streams.
+-- The files of a plan: those of operands, and then those of streams.
 use Rattle.std.proofs.Common.{◌≡◌, ℕ, ◌+◌, ◌-◌, ◌≤◌, List, [], ◌++◌, None, length, ap, ◌∙◌, arith}
 use Rattle.std.specs.List.{slice_index_or}
 use Rattle.std.proofs.lemmas.List.{get_or-append-add}
 use Rattle.autfilt_run.specs.Plans.{plan_streams, streams_or}
 use Rattle.filter_plan.specs.declared.plan.Plan.{Plan}
 
--- a place behind the first list is one of the second
+-- an index past the first list is one of the second
 pub stream_behind : (ops streams : List (List ℕ)) (place n : ℕ) → n ≡ length ops → n ≤ place → slice_index_or (ops ++ streams) place [] ≡ slice_index_or streams (place - n) []
 stream_behind ops streams place n is behind =
     let split : place ≡ length ops + (place - n) = omega (arith, is, behind) in

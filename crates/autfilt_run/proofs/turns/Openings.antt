@@ -1,4 +1,4 @@
--- Openings are counted, one after the other.
+-- Counting of openings over consecutive calls.
 use Rattle.std.proofs.Common.{◌≡◌, ℕ, suc, zero, ◌+◌, ◌<◌, Bool, false, List, length, take, refl, sym, ap, ◌∙◌, subst, arith}
 use Rattle.std.proofs.lemmas.List.{length-take-le}
 use Rattle.aut_io.specs.Outside.{incremented, raised_by}
@@ -35,11 +35,11 @@ tried_then f wants a b s m t one two = record {
 pub tried_as : (f : RunFault) (wants : Type 0) (a b : ℕ) (s t : Seen) → a ≡ b → AreTried f wants a s t → AreTried f wants b s t
 tried_as f wants a b s t e h = subst (λ k. AreTried f wants k s t) e h
 
--- the same, where the file that is to be opened is told otherwise
+-- the same, by another condition for that a file is to be opened
 pub tried_for : (f : RunFault) (wants wants' : Type 0) (a : ℕ) (s t : Seen) → (wants → wants') → AreTried f wants a s t → AreTried f wants' a s t
 tried_for f wants wants' a s t to h = record { tried = h.tried; may = h.may; wanted = λ one. to (h.wanted one); opened = h.opened }
 
--- a fault where nothing was opened since
+-- a fault after which nothing was opened
 pub tried_behind : (f : RunFault) (wants : Type 0) (a : ℕ) (s m t : Seen) → AreOpened a s m → AreTried f wants 0 m t → AreTried f wants a s t
 tried_behind f wants a s m t one two = tried_as f wants (a + 0) a s t (omega arith) (tried_then f wants a 0 s m t one two)
 
@@ -47,7 +47,7 @@ tried_behind f wants a s m t one two = tried_as f wants (a + 0) a s t (omega ari
 pub tried_none : (f : RunFault) (wants : Type 0) (s t : Seen) → MayEnd f 0 → t.openings ≡ s.openings → AreTried f wants 0 s t
 tried_none f wants s t may same = record { tried = 0; may = may; wanted = λ one. let none : 0 ≡ 1 = one in cc; opened = same }
 
--- so many names of a list were opened, and one stands behind them
+-- so many names of a list were opened, and another one follows
 pub wants_next : {A : Type 0} (is_open : Bool) (xs : List A) (n : ℕ) (ys : List A) → is_open ≡ false → n < length xs → ys ≡ take n xs → WantsFile is_open (length ys) (length xs)
 wants_next is_open xs n ys closed within front =
     let short : length ys ≡ n = ap length front ∙ length-take-le n xs (omega (arith, within)) in

@@ -1,4 +1,4 @@
--- What one turn over the operands answers where something was read.
+-- One turn of the loop over operands, where something was read.
 use Rattle.std.proofs.Common.{◌≡◌, ◌≢◌, ◌⊎◌, ℕ, ◌+◌, ◌<◌, ◌≤◌, true, List, [], ◌∷◌, ◌++◌, Option, None, Result, Ok, Err, sym, ap, ◌∙◌, subst, inl, inr, arith}
 use Rattle.std.specs.Prelude.{map}
 use Rattle.std.specs.Result.{IsErrAnd}
@@ -32,7 +32,7 @@ use Rattle.hoa_parser.specs.declared.fault.ReadFault.TheVariants as reading
 use Rattle.hoa_parser.specs.declared.read.Front.{Front}
 use Rattle.hoa_parser.specs.declared.read.Front.TheVariants as front
 
--- nothing is passed behind the reader but its limits
+-- while an operand is read no limits but the reader's are passed
 abbrev none_over : Limit → Written → Type 0
 none_over which w = ⊥
 
@@ -54,7 +54,7 @@ not_read reading.Read old new s t held' r hand same n at moves =
 not_read reading.Memory old new s t held' r hand same n at moves =
     inr (record { reads = record { was_open = r; in_hand = hand; read = stops none_over reading.Memory old.lexer.since held' s.left t.left n at; moves = moves }; skipped = same })
 
--- it was read whole, and is not taken
+-- an automaton was read whole, and can't be taken
 pub not_taken : (f : RunFault) (w : Written) (old new : Session) (s t : Seen) → old.is_open ≡ true → new.tried ≡ old.tried → new.skipped ≡ old.skipped
     → Between s.left t.left (λ rest next. Stands (Whole w next) old.lexer.since rest)
     → MovesLexer Elsewhere old.lexer new.lexer s t → TakesAutomaton (Err f) w → FailsOperand f old new s t
@@ -73,11 +73,11 @@ not_taken fault.Memory w old new s t r hand same whole moves h =
     inr (record { reads = record { was_open = r; in_hand = hand; read = is_wanting w old.lexer.since s.left t.left whole; moves = moves }; skipped = same })
 not_taken _ w old new s t r hand same whole moves h = absurd h
 
--- a fault that `?` hands on
+-- a fault that `?` returns
 pub turns_on : (r : Result OperandTurn RunFault) (f : RunFault) (old new : Session) (s t : Seen) → IsErrAnd r (λ y. y ≡ f) → FailsOperand f old new s t → KeepsAll old new → TurnsOperands r old new s t
 turns_on r f old new s t h fails keeps = hands_on r f (λ x. TurnsOperands x old new s t) h (record { turns = fails; keeps = keeps })
 
--- an abandoned automaton uses a byte
+-- an abandoned automaton takes a byte
 pub rises : (field : Front) (old new : Lexer) → field ≡ front.Aborted → old.held ≡ None → HoldsBehind (Ok field) new.held
     → (field ≢ front.Blank → old.taken + held_count new.held < new.taken + held_count old.held) → old.taken < new.taken
 rises field old new is none holds used =
@@ -88,7 +88,7 @@ rises field old new is none holds used =
 pub counted : (kept skipped before after : ℕ) → kept + skipped ≤ before → before < after → kept + (skipped + 1) ≤ after
 counted kept skipped before after a b = omega (arith, a, b)
 
--- one operand more
+-- another operand
 pub automata_of_pushed : (old new : List SymbolicAutomaton) (core : SymbolicAutomaton) (a : Automaton) → new ≡ old ++ core ∷ [] → automaton_of core ≡ a
     → map automaton_of new ≡ map automaton_of old ++ a ∷ []
 automata_of_pushed old new core a is same = ap (map automaton_of) is ∙ map-append automaton_of old (core ∷ []) ∙ ap (λ x. map automaton_of old ++ x ∷ []) same

@@ -1,4 +1,4 @@
--- Turns over the operands, as what happens in a run.
+-- What turns of the loop over operands mean as events of a run.
 use Rattle.std.proofs.Common.{◌≡◌, ◌≢◌, ℕ, suc, ◌+◌, ◌-◌, ◌<◌, ◌≤◌, Bool, true, false, List, [], ◌∷◌, ◌++◌, length, drop, get_or, take, Option, Some, None, Result}
 use Rattle.std.proofs.Common.{Err, refl, sym, ap, ◌∙◌, subst, inl, inr, append_assoc, append-nil, arith}
 use Rattle.std.proofs.Math.Numerals.{suc-eq-add-one}
@@ -76,7 +76,7 @@ pub record Turned (event : OperandEvent) (old new : Session) (s t : Seen) : Type
   pub reads : t.read_faults ≡ s.read_faults
   pub texts : t.texts ≡ s.texts
 
--- the names to come, once the session has so many operands
+-- the names of operands whose files are still to be opened
 coming_at : (s : Session) (n : ℕ) → length s.operands + open_count s.is_open ≡ n → drop (length s.operands + open_count s.is_open) (operands s.plan) ≡ drop n (operands s.plan)
 coming_at s n is = ap (λ (k : ℕ). drop k (operands s.plan)) is
 
@@ -93,7 +93,7 @@ plus_none n = omega arith
 counted_closed : (s : Session) (n : ℕ) → s.is_open ≡ false → length s.operands ≡ n → length s.operands + open_count s.is_open ≡ n
 counted_closed s n is len = ap (λ (b : Bool). length s.operands + open_count b) is ∙ plus_none (length s.operands) ∙ len
 
--- the names of the files that were opened, once there are so many
+-- the names of the files that were opened
 names_of : (s : Session) (p : Plan) (n : ℕ) → s.plan ≡ p → length s.operands + open_count s.is_open ≡ n → opened_names s ≡ take n (operands p)
 names_of s p n plan is = ap (λ (q : Plan). take (length s.operands + open_count s.is_open) (operands q)) plan ∙ ap (λ (k : ℕ). take k (operands p)) is
 
@@ -163,7 +163,7 @@ taken old new s t keeps few h =
       texts = h.reads.moves.texts;
     }
 
--- the one that was passed over is of the file whose name is in hand
+-- an automaton that was skipped is of the file whose name is in hand
 pub passed : (old new : Session) (s t : Seen) → KeepsAll old new → new.lexer.taken ≤ MOST_BYTES → PassesOne old new s t → Turned (PassedOver (name_in new)) old new s t
 passed old new s t keeps few h =
     let k = length old.operands in
@@ -207,7 +207,7 @@ read_none old s = record {
   texts = refl;
 }
 
--- one event more
+-- another event
 pub read_more : (events : List OperandEvent) (event : OperandEvent) (first old new : Session) (s m t : Seen) → HasReadOperands events first old s m → Turned event old new m t
     → HasReadOperands (events ++ event ∷ []) first new s t
 read_more events event first old new s m t h turned = record {
@@ -226,7 +226,7 @@ read_more events event first old new s m t h turned = record {
   texts = turned.texts ∙ h.texts;
 }
 
--- What a loop over turns keeps.
+-- The invariant of the loop over turns.
 pub record IsPreparing (first now : Session) (s t : Seen) : Type 0 where
   pub events : List OperandEvent
   pub read : HasReadOperands events first now s t
@@ -248,7 +248,7 @@ begins first s = record {
 keeps_then : (first old new : Session) → KeepsAll first old → KeepsAll old new → KeepsAll first new
 keeps_then first old new a b = record { plan = b.plan ∙ a.plan; most = b.most ∙ a.most; opened = b.opened ∙ a.opened; kept = b.kept ∙ a.kept; stage = b.stage ∙ a.stage }
 
--- an event that passes over none
+-- an event that skips no automaton
 more : (event : OperandEvent) (first old new : Session) (s m t : Seen) → IsPreparing first old s m → Turned event old new m t → passed_of event ≡ [] → KeepsAll old new
     → new.skipped ≡ old.skipped → old.lexer.taken ≤ new.lexer.taken → IsPreparing first new s t
 more event first old new s m t h turned none keeps skipped later = record {
@@ -286,7 +286,7 @@ has_skipped first old new s m t h keeps few turn = record {
 
 -- ---- faults
 
--- where the fault comes, and how many bytes were taken
+-- the point at which the fault comes, and how many bytes were taken
 record HaltsAt (f : RunFault) (old new : Session) (m t : Seen) : Type 0 where
   halts : (texts : Texts) → m.texts ≡ Some texts → (q : Point) → StandsIn old m.left q → StopsInOperands f (name_in new) q t.left × IsCounted f q t.left
   skipped : new.skipped ≡ old.skipped
@@ -348,7 +348,7 @@ file_counted f old new m t q most few opened_so stands moves =
       within = subst (λ (n : ℕ). IsWithinByteLimit (stop_of_run_fault f) n MOST_BYTES) (sym same) (subst (λ (n : ℕ). IsWithinByteLimit (stop_of_run_fault f) new.lexer.taken n) most moves.within);
     }
 
--- what stands at the rest of the open file
+-- what is next in the open file
 named : (f : RunFault) (old new : Session) (m t : Seen) → KeepsAll old new → new.lexer.most ≡ MOST_BYTES → new.lexer.taken ≤ MOST_BYTES
     → ((q : Point) → AtNamed (Unit {0}) q (name_in new) t.left (StopsAtOperand f) → StopsInOperands f (name_in new) q t.left) → CountsAt f m t → MayEnd f 0 → FailsReading f old new m t
     → HaltsAt f old new m t
@@ -403,7 +403,7 @@ counts_then (fault.Limit which) s m t a b h = (h.0 ∙ a, h.1 ∙ b)
 no_write : (f : RunFault) (old new : Session) (m t : Seen) → FailsOperand f old new m t → f ≢ fault.WriteFault
 no_write f old new m t h is = let x = subst (λ (g : RunFault). FailsOperand g old new m t) is h in absurd x
 
--- what is to be opened, told by the events
+-- which file is to be opened, by the events
 wants_operand : (first old : Session) (s m : Seen) (h : IsPreparing first old s m) → WantsFile old.is_open (length old.operands) (length (operands old.plan)) → WantsOperand first h.events
 wants_operand first old s m h wants =
     let k = length old.operands in
@@ -433,16 +433,16 @@ fails f first old new s m t most few few' h keeps failed =
       openings = tried_for f _ _ _ s t (wants_operand first old s m h) (tried_behind f _ (length (opened_files h.events)) s m t h.read.openings at.tried);
     }
 
--- a fault that `?` hands on
+-- a fault that `?` returns
 pub prepares_on : (r : Result Prep RunFault) (f : RunFault) (old new : Session) (s t : Seen) → IsErrAnd r (λ y. y ≡ f) → FailsToPrepare f old new s t → Prepares r old new s t
 prepares_on r f old new s t h failed = hands_on r f (λ x. Prepares x old new s t) h failed
 
 pub taken_few : (s : Session) → s.lexer.taken ≤ MOST_BYTES
 taken_few s = subst (λ (n : ℕ). s.lexer.taken ≤ n) s.most_is s.lexer.within
 
--- ---- how far the operands have come
+-- ---- why the loop ends
 
--- twice the operands that are still to come, and one where no file is open
+-- twice the number of operands that are still to be read, and one where no file is open
 abbrev ahead : ℕ → ℕ → ℕ → ℕ
 ahead all read opened = (all - read) + (all - read) + (1 - opened)
 

@@ -1,4 +1,4 @@
--- What the reader answers, in the words of a session.
+-- What the reader answers, in terms of a session.
 use Rattle.std.proofs.Common.{◌≡◌, ◌⊎◌, ℕ, ◌-◌, List, Option, None, Result, Ok, Err, sym, subst, inl, inr, arith}
 use Rattle.aut_base.specs.declared.limit.Limit.{Limit}
 use Rattle.autfilt_run.proofs.handling.PassedLimits.{IsOfWhole}
@@ -21,11 +21,11 @@ use Rattle.hoa_reader.specs.Elaborating.{PassesLimit}
 use Rattle.hoa_reader.specs.Validity.{IsFirstBroken, IsValid}
 use Rattle.hoa_reader.specs.declared.elaborate.Rule.{Rule}
 
--- the lexer holds nothing, so the bytes that are not read are those that are left
+-- the lexer holds nothing, so what is unread is what the inputs have left
 nothing_less : (n : ℕ) → n - 0 ≡ n
 nothing_less n = omega arith
 
--- what the reader answers and shows
+-- what the reader answers, and which bytes show it
 abbrev pub AnswersFrom : Result Front ReadFault → ℕ → Option ℕ → Option ℕ → List ℕ → List ℕ → Type 0
 AnswersFrom r start held held' old new = AnswersFront r (start - held_count held) (unread held old) (unread held' new) × Shows r (start - held_count held) (unread held old) new
 
@@ -72,7 +72,7 @@ is_whole field raw start held' left left' e k h =
     (λ k h. between_as left left' _ _ (λ old new a. subst (λ (x : Option ℕ). Stands (Whole (written raw) (unread x new)) start old) k a.0) h)
     k h
 
--- an abandoned one was skipped
+-- an abandoned automaton was skipped
 pub is_skipped : (field : Front) (start : ℕ) (held' : Option ℕ) (left left' : Option (List ℕ))
     → field ≡ front.Aborted → HoldsBehind (Ok field) held' → Between left left' (AnswersAt (Ok field) start held')
     → Between left left' (λ old new. Stands (Aborted new) start old)
@@ -97,7 +97,7 @@ is_good w start left left' valid within h =
     between_as left left' (λ old new. Stands (Whole w new) start old) (λ old new. IsGood start old w new)
     (λ old new whole. record { whole = whole; valid = valid; within = within }) h
 
--- a limit that is told of an automaton that was read whole
+-- a limit that is noticed at an automaton that was read whole
 pub past : (over : Limit → Written → Type 0) (which : Limit) (start : ℕ) (old new : List ℕ) → IsOfWhole which → StandsWith (λ w. PassesLimit which w ⊎ over which w) start old new
     → StopsReading over (run.Limit which) start old new
 past over which start old new whole h = subst (λ (t : Told). StopsAtLimit t (λ w. PassesLimit which w ⊎ over which w) start old new) (sym whole) h

@@ -1,4 +1,4 @@
--- What a session does with the file that is open, and with the next one, as what happens in a run.
+-- What a session does with the open file and with the next one, as events of a run.
 use Rattle.std.proofs.Common.{◌≡◌, ℕ, zero, suc, ◌+◌, ◌≤◌, true, false, List, [], ◌∷◌, length, drop, slice_get, Option, Some, None, Ok, refl, sym, ap, ◌∙◌, subst, arith}
 use Rattle.std.proofs.lemmas.Bool.{false≢true}
 use Rattle.aut_base.specs.declared.limit.TheConstants.{MOST_BYTES}
@@ -16,7 +16,7 @@ use Rattle.hoa_lexer.specs.Moves.{AtEnd, MovesLexer, Stop}
 use Rattle.hoa_lexer.specs.Reading.{Between}
 use Rattle.hoa_parser.specs.Raw.{Written}
 
--- what is left afterwards, where it was told before
+-- `P` of what the inputs have left, which is known where it was known before
 record IsTold (P : List ℕ → Type 0) (left : Option (List ℕ)) : Type 0 where
   now : List ℕ
   told : left ≡ Some now
@@ -59,15 +59,15 @@ is_closed s left p h closed = closed_as s left p p.stream refl h.stream closed
 place_is : (n : ℕ) (text rest : List ℕ) → n + length rest ≡ length text → n ≡ bytes_before text rest
 place_is n text rest h = omega arith
 
--- ---- more of the open file is read
+-- ---- the open file is read further
 
--- what a session keeps that reads on
+-- what a session doesn't change while it reads
 pub record KeepsOn (old new : Session) : Type 0 where
   pub plan : new.plan ≡ old.plan
   pub tried : new.tried ≡ old.tried
   pub few : new.lexer.taken ≤ MOST_BYTES
 
--- It goes to a point where this is to come.
+-- The session goes to a point before these names.
 pub record GoesTo (P : Point → Type 0) (coming : List (List ℕ)) (new : Session) (left : Option (List ℕ)) : Type 0 where
   pub point : Point
   pub goes : P point
@@ -83,7 +83,7 @@ since_after since since' taken taken' rest next text a b c = omega (arith, a, b,
 taken_after : (since since' taken taken' before : ℕ) → taken ≡ before + since → since' + taken ≡ since + taken' → taken' ≡ before + since'
 taken_after since since' taken taken' before a b = omega (arith, a, b)
 
--- what was read of the open file, and how far the lexer has come
+-- what was read of the open file, and how many bytes were taken
 record ReadTo (R : ℕ → List ℕ → List ℕ → Type 0) (new : Session) (left : Option (List ℕ)) (p : Point) (stream : Stream) : Type 0 where
   next : List ℕ
   told : left ≡ Some next
@@ -125,7 +125,7 @@ reads_on R old new s t p stop stands opened_so opened_now read moves keeps =
       comes = refl;
     }
 
--- an automaton of it is taken as an operand, and the rest is left
+-- an automaton is taken as an operand, and the rest of the file is left unread
 pub takes_operand : (w : Written) (old new : Session) (s t : Seen) (p : Point) (stop : Stop) → IsAt old s.left p → old.is_open ≡ true → new.is_open ≡ false → new.kept ≡ old.kept
     → Between s.left t.left (λ rest next. IsGood old.lexer.since rest w next) → MovesLexer stop old.lexer new.lexer s t → KeepsOn old new → GoesTo (λ q. TakesOperand w p q) p.coming new t.left
 takes_operand w old new s t p stop stands opened_so closed kept read moves keeps =
@@ -138,7 +138,7 @@ takes_operand w old new s t p stop stands opened_so closed kept read moves keeps
       comes = refl;
     }
 
--- so many bytes were taken
+-- the number of bytes that were taken
 pub stream_counted : (old new : Session) (s t : Seen) (p : Point) (stop : Stop) → IsAt old s.left p → old.is_open ≡ true → MovesLexer stop old.lexer new.lexer s t
     → taken_until p t.left ≡ new.lexer.taken
 stream_counted old new s t p stop stands opened_so moves =
@@ -150,7 +150,7 @@ stream_counted old new s t p stop stands opened_so moves =
     let here : taken_until p t.left ≡ p.before + bytes_before stream.text n.now = ap (λ o. p.before + taken_in o t.left) at.is ∙ ap (λ l. p.before + taken_in (Some stream) l) n.told in
     omega (arith, here, place_is new.lexer.since stream.text n.now since, taken)
 
--- what stands at the rest of the open file ends the run
+-- what is next in the open file ends the run
 pub stops_at : (on : Type 0) (R : ℕ → List ℕ → List ℕ → Type 0) (old : Session) (s t : Seen) (p : Point) → IsAt old s.left p → old.is_open ≡ true → on
     → Between s.left t.left (R old.lexer.since) → AtStream on p t.left R
 stops_at on R old s t p stands opened_so asks read =
@@ -168,7 +168,7 @@ stops_at on R old s t p stands opened_so asks read =
 pub one_name : (o : Option Stream) (a b : Stream) → o ≡ Some a → o ≡ Some b → a.name ≡ b.name
 one_name o a b e f = let same : Some a ≡ Some b = sym e ∙ f in let one : a ≡ b = cc in ap (λ (x : Stream). x.name) one
 
--- the same of the file whose name is in hand
+-- the same with the name of the file
 pub stops_named : (on : Type 0) (R : ℕ → List ℕ → List ℕ → Type 0) (old : Session) (s t : Seen) (p : Point) (name : List ℕ) → name ≡ name_in old → IsAt old s.left p → old.is_open ≡ true → on
     → Between s.left t.left (R old.lexer.since) → AtNamed on p name t.left R
 stops_named on R old s t p name is stands opened_so asks read =
@@ -219,7 +219,7 @@ opens_stream texts old new s t p name others told_texts stands closed next opens
       comes = refl;
     }
 
--- what was taken of the files before, where none is open
+-- the bytes that were taken of the files before, where none is open
 pub closed_counted : (old : Session) (left left' : Option (List ℕ)) (p : Point) → IsAt old left p → old.is_open ≡ false → taken_until p left' ≡ old.lexer.taken
 closed_counted old left left' p stands closed =
     let c = is_closed old left p stands closed in

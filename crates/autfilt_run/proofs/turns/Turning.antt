@@ -1,4 +1,4 @@
--- What a step answers where something was read.
+-- One step of a session, where something was read.
 use Rattle.std.proofs.Common.{◌≡◌, ◌≢◌, ℕ, ◌+◌, ◌<◌, Option, None, Result, Ok, Err, refl, sym, ap, ◌∙◌, subst, inr, arith}
 use Rattle.std.specs.Result.{IsErrAnd}
 use Rattle.aut_base.proofs.Outcomes.{hands_on}
@@ -28,7 +28,7 @@ use Rattle.hoa_parser.specs.declared.raw.Raw.{Raw}
 use Rattle.hoa_parser.specs.declared.read.Front.{Front}
 use Rattle.hoa_parser.specs.declared.read.Front.TheVariants as front
 
--- the limits that are passed behind the reader
+-- the limits that are passed after reading
 abbrev pub over_in : Session → Limit → Written → Type 0
 over_in s which w = IsOverLimit which s.plan (operands_in s) w
 
@@ -49,7 +49,7 @@ not_read reading.Read old new s t o held' r hand n at moves =
 not_read reading.Memory old new s t o held' r hand n at moves =
     inr (record { reading = r; in_hand = hand; read = stops (over_in old) reading.Memory old.lexer.since held' s.left t.left n at; moves = moves; output = refl })
 
--- it was read whole, and is not kept or dropped
+-- an automaton was read whole, and a fault comes of it
 pub not_handled : (f : RunFault) (w : Written) (old new : Session) (s t : Seen) (o o' : SinkSeen) → IsReading old → new.tried ≡ old.tried
     → Between s.left t.left (λ rest next. Stands (Whole w next) old.lexer.since rest)
     → MovesLexer Elsewhere old.lexer new.lexer s t → Handles (Err f) old.plan (operands_in old) w o o' → FailsAfter f old new s t o o'
@@ -78,14 +78,14 @@ not_handled (fault.Limit which) w old new s t o o' r hand whole moves h = record
 not_handled fault.Memory w old new s t o o' r hand whole moves h = inr (record { reading = r; in_hand = hand; read = is_wanting w old.lexer.since s.left t.left whole; moves = moves; output = h })
 not_handled _ w old new s t o o' r hand whole moves h = absurd h
 
--- what no fault changes
+-- what a fault doesn't change
 pub record IsUnmoved (old new : Session) : Type 0 where
   pub plan : new.plan ≡ old.plan
   pub operands : new.operands ≡ old.operands
   pub most : new.lexer.most ≡ old.lexer.most
   pub counts : progress new ≡ progress old
 
--- a fault that `?` hands on
+-- a fault that `?` returns
 pub steps_on : (r : Result Turn RunFault) (f : RunFault) (old new : Session) (s t : Seen) (o o' : SinkSeen) → IsErrAnd r (λ y. y ≡ f) → FailsAfter f old new s t o o' → IsUnmoved old new
     → IsStep r old new s t o o'
 steps_on r f old new s t o o' h fails same = hands_on r f (λ x. IsStep x old new s t o o') h (record {
@@ -100,7 +100,7 @@ steps_on r f old new s t o o' h fails same = hands_on r f (λ x. IsStep x old ne
   held = tt;
 })
 
--- an automaton that was read whole used a byte
+-- an automaton that was read whole took a byte
 pub rises_whole : (field : Front) (raw : Raw) (old new : Lexer) → field ≡ front.Whole raw → old.held ≡ None → HoldsBehind (Ok field) new.held
     → (field ≢ front.Blank → old.taken + held_count new.held < new.taken + held_count old.held) → old.taken < new.taken
 rises_whole field raw old new is none after used =

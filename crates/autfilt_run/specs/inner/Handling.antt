@@ -1,4 +1,4 @@
--- What becomes of an automaton that was read.
+-- The outcome of filtering and printing an automaton that was read.
 use Rattle.std.specs.Prelude.{◌≡◌, ◌⊎◌, ℕ, Bool, true, false, if◌then◌else◌, List, MatchOption, Option, None, Result, Ok, Err}
 use Rattle.ap_project.specs.Laws.{SayTheSame}
 use Rattle.aut_base.specs.Acceptance.{Accepts}
@@ -32,7 +32,7 @@ use Rattle.plan_meaning.specs.Promises.{HasFewSetsUnder, KeepsPromises}
 use Rattle.plan_meaning.specs.declared.fault.PlanFault.{PlanFault}
 use Rattle.plan_meaning.specs.declared.fault.PlanFault.TheVariants as plan_fault
 
--- It is valid and within the limits, kept, and its text is this one.
+-- It is valid, within the limits, and kept, and this is its text.
 pub record IsWanted (p : Plan) (ops : List Automaton) (w : Written) (text : List ℕ) : Type 0 where
   pub valid : IsValid w
   pub within : PassesNone w
@@ -44,7 +44,7 @@ pub record IsUnwanted (p : Plan) (ops : List Automaton) (w : Written) : Type 0 w
   pub within : PassesNone w
   pub dropped : IsDropped p ops (described w)
 
--- Its text is written, as far as the sink takes it; or it is dropped, or refused, and nothing is written.
+-- Its text is written, up to a failed write; or it is dropped, or a fault comes of it, and nothing is written.
 abbrev pub Handles : Result Bool RunFault → Plan → List Automaton → Written → SinkSeen → SinkSeen → Type 0
 Handles (Ok true) p ops w out out' = (text : List ℕ) × IsWanted p ops w text × Gains out.written out'.written text × (out'.faults ≡ out.faults)
 Handles (Ok false) p ops w out out' = IsUnwanted p ops w × (out' ≡ out)
@@ -54,7 +54,7 @@ Handles (Err (fault.Limit which)) p ops w out out' = (PassesLimit which w ⊎ Is
 Handles (Err fault.Memory) p ops w out out' = out' ≡ out
 Handles _ p ops w out out' = ⊥
 
--- what the changes of a plan make of an automaton is shown
+-- `Shown` holds of what the changes of a plan make of an automaton
 pub record ShowsMade (p : Plan) (ops : List Automaton) (a : Automaton) (Shown : Automaton → Type 0) : Type 0 where
   pub made : Automaton
   pub makes : MakesAll (changes_of p ops) a made
@@ -63,11 +63,11 @@ pub record ShowsMade (p : Plan) (ops : List Automaton) (a : Automaton) (Shown : 
   pub says : SayTheSame (λ u v. Accepts made u v) (set_operation p ops a)
   pub shown : Shown made
 
--- of a canonical text it is known that it reads back
+-- a canonical text reads back
 abbrev pub ShowsCanonical : Option (List ℕ) → List ℕ → Automaton → Type 0
 ShowsCanonical name text made = (text ≡ canonical_text made name) × ReadsBack (canonical_text made name) made name
 
--- of the line of a refutation that no limit is passed
+-- a line of `--refute`, where the search passed no limit
 abbrev pub ShowsInclusion : Automaton → List ℕ → Automaton → Type 0
 ShowsInclusion a text b = IsWithinInclusion a b × SaysOfInclusion a b text
 

@@ -1,4 +1,4 @@
--- What one turn over the operands does.
+-- What one turn of the loop over operands does.
 use Rattle.std.specs.Prelude.{◌≡◌, ◌⊎◌, ℕ, ◌+◌, ◌<◌, true, false, List, [], ◌∷◌, ◌++◌, length, slice_get, Some, Result, Ok, Err}
 use Rattle.aut_base.specs.CanonicalLabel.{canonical}
 use Rattle.aut_base.specs.declared.fault.OpenFail.{OpenFail}
@@ -29,7 +29,7 @@ pub record KeepsAll (old new : Session) : Type 0 where
   pub kept : new.kept ≡ old.kept
   pub stage : new.stage ≡ old.stage
 
--- The file of the next operand is tried.
+-- An opening of the next operand's file is tried.
 pub record TriesFile (r : Result (Unit {0}) OpenFail) (old new : Session) (seen seen' : Seen) : Type 0 where
   pub name : List ℕ
   pub closed : old.is_open ≡ false
@@ -40,7 +40,7 @@ pub record TriesFile (r : Result (Unit {0}) OpenFail) (old new : Session) (seen 
   pub operands_same : new.operands ≡ old.operands
   pub skipped : new.skipped ≡ old.skipped
 
--- What is read of the open file, with what stands in the inputs before and after.
+-- The open file is read: `stands` holds of what the inputs had left before and have left after.
 pub record ReadsFile (stop : Stop) (stands : List ℕ → List ℕ → Type 0) (old new : Session) (seen seen' : Seen) : Type 0 where
   pub was_open : old.is_open ≡ true
   pub in_hand : new.tried ≡ old.tried
@@ -56,7 +56,7 @@ pub record TakesNext (old new : Session) (seen seen' : Seen) : Type 0 where
   pub closed : new.is_open ≡ false
   pub skipped : new.skipped ≡ old.skipped
 
--- an abandoned one was passed over
+-- an abandoned automaton was skipped
 pub record PassesOne (old new : Session) (seen seen' : Seen) : Type 0 where
   pub reads : ReadsFile Elsewhere (λ rest next. Stands (Aborted next) old.lexer.since rest) old new seen seen'
   pub still_open : new.is_open ≡ true
@@ -68,7 +68,7 @@ pub record OpensOperandFile (old new : Session) (seen seen' : Seen) : Type 0 whe
   pub tries : TriesFile (Ok tt) old new seen seen'
   pub now_open : new.is_open ≡ true
 
--- there is nothing left to read
+-- all operands are read
 pub record IsAllTaken (old new : Session) (seen seen' : Seen) : Type 0 where
   pub closed : old.is_open ≡ false
   pub all : length old.operands ≡ length (operands old.plan)

@@ -1,4 +1,4 @@
--- How far a run has come.
+-- Invariants of the loops over operands and over steps.
 use Rattle.std.specs.Prelude.{◌≡◌, ◌≢◌, ◌⊎◌, ℕ, ◌++◌, Bool, false, List, [], length, take, Option, Some, Result, Ok, Err}
 use Rattle.aut_io.specs.Outside.{Gains, GainsPrefix, Rose, Texts}
 use Rattle.aut_io.specs.Seen.{Seen, SinkSeen}
@@ -21,14 +21,14 @@ use Rattle.autfilt_run.specs.declared.session.Stage.TheVariants.{New, Prepared}
 use Rattle.filter_plan.specs.Words.{operands}
 use Rattle.filter_plan.specs.declared.plan.Plan.{Plan}
 
--- the counts of the inputs stand
+-- no count of the inputs' faults rose
 pub record AreCalmInputs (seen seen' : Seen) : Type 0 where
   pub opens : seen'.open_faults ≡ seen.open_faults
   pub reads : seen'.read_faults ≡ seen.read_faults
 
 -- ---- before the streams
 
--- a session that nothing was done with
+-- a session of which no call was made
 pub record IsNew (s : Session) : Type 0 where
   pub stage : s.stage ≡ New
   pub opened : s.opened ≡ 0
@@ -38,7 +38,7 @@ pub record IsNew (s : Session) : Type 0 where
   pub skipped : s.skipped ≡ 0
   pub taken : s.lexer.taken ≡ 0
 
--- Operands of the plan were read, and those that were passed over were noted.
+-- Some operands of the plan were read, and the automata skipped in their files were noted.
 pub record HasPrepared (plan : Plan) (s : Session) (seen seen' : Seen) (notes notes' : SinkSeen) (noting : Bool) : Type 0 where
   pub taken : List OperandEvent
   pub same_plan : s.plan ≡ plan
@@ -54,18 +54,18 @@ pub record HasPrepared (plan : Plan) (s : Session) (seen seen' : Seen) (notes no
   pub opened : s.opened ≡ 0
   pub kept : s.kept ≡ 0
 
--- What a loop over the operands keeps.
+-- The invariant of the loop over operands.
 pub record IsPreparing (plan : Plan) (s : Session) (seen seen' : Seen) (notes notes' : SinkSeen) (noting : Bool) : Type 0 where
   pub prepared : HasPrepared plan s seen seen' notes notes' noting
   pub stage : s.stage ≡ New
 
--- all of them were
+-- all operands are read
 pub record IsPrepared (plan : Plan) (s : Session) (seen seen' : Seen) (notes notes' : SinkSeen) (noting : Bool) : Type 0 where
   pub prepared : HasPrepared plan s seen seen' notes notes' noting
   pub stage : s.stage ≡ Prepared
   pub closed : s.is_open ≡ false
 
--- A fault came while they were read, and was noted.
+-- A fault came while operands were read, and was noted.
 pub record FailsPreparing (plan : Plan) (e : End) (seen seen' : Seen) (notes notes' : SinkSeen) : Type 0 where
   pub taken : List OperandEvent
   pub name : List ℕ
@@ -78,27 +78,27 @@ pub record FailsPreparing (plan : Plan) (e : End) (seen seen' : Seen) (notes not
   pub named : (k : ℕ) × (opened_files taken ≡ take k (operands plan))
   pub openings : AreTried fault (WantsOperandFile plan taken) (length (opened_files taken)) seen seen'
 
--- what preparing answers: whether notes are taken still, or how the run ended
+-- what preparing answers: whether notes are still taken, or how the run ended
 abbrev pub Preparing : Result Bool End → Plan → Session → Seen → Seen → SinkSeen → SinkSeen → Type 0
 Preparing (Ok noting) plan s seen seen' notes notes' = IsPrepared plan s seen seen' notes notes' noting
 Preparing (Err e) plan s seen seen' notes notes' = FailsPreparing plan e seen seen' notes notes'
 
 -- ---- in the streams
 
--- a session that was prepared and took no step
+-- a session that was prepared and has taken no step
 pub record IsFresh (s : Session) : Type 0 where
   pub stage : s.stage ≡ Prepared
   pub opened : s.opened ≡ 0
   pub is_closed : s.is_open ≡ false
   pub kept : s.kept ≡ 0
 
--- where a run stands, after the events
+-- the point that a run is at after the events
 pub record Reached (plan : Plan) (before : ℕ) (texts : Texts) (events : List Event) (first left : Option (List ℕ)) (s : Session) : Type 0 where
   pub point : Point
   pub happen : Happen plan texts events (start_of (plan_streams plan) first before) point
   pub stands : StandsInStreams s left point
 
--- Events happened since the session was fresh, what is due of them was written, and those that were skipped were noted.
+-- Events happened since the session was fresh; what is due of them was written, and skipped automata were noted.
 pub record HasRunEvents (fresh s : Session) (seen seen' : Seen) (out out' notes notes' : SinkSeen) (first noting : Bool) : Type 0 where
   pub events : List Event
   pub same_plan : s.plan ≡ fresh.plan
@@ -114,12 +114,12 @@ pub record HasRunEvents (fresh s : Session) (seen seen' : Seen) (out out' notes 
   pub calm : AreCalm seen seen' out out'
   pub texts : seen'.texts ≡ seen.texts
 
--- What a loop over steps keeps.
+-- The invariant of the loop over steps.
 pub record IsRunning (fresh s : Session) (seen seen' : Seen) (out out' notes notes' : SinkSeen) (first noting : Bool) : Type 0 where
   pub ran : HasRunEvents fresh s seen seen' out out' notes notes' first noting
   pub stage : s.stage ≡ Prepared
 
--- All of the text that is due at the end was written, and the counts tell how the run ended; or a part of it was.
+-- The text that is due at the end was written whole, and the counts decide the end; or a write failed after a prefix of it.
 pub record FinishesWell (e : End) (text : List ℕ) (t : Tally) (out out' : SinkSeen) : Type 0 where
   pub end : e ≡ end_of t
   pub gains : Gains out.written out'.written text
@@ -133,7 +133,7 @@ pub record FinishesInPart (e : End) (text : List ℕ) (out out' : SinkSeen) : Ty
 abbrev pub FinishesRun : End → List ℕ → Tally → SinkSeen → SinkSeen → Type 0
 FinishesRun e text t out out' = FinishesWell e text t out out' ⊎ FinishesInPart e text out out'
 
--- The streams of the session's plan were read, and what was noted of it. `noting` tells whether notes were taken before.
+-- The streams of the session's plan were read, with the lines that were noted. `noting` says whether notes were taken before.
 pub record Carries (fresh : Session) (noting : Bool) (e : End) (seen seen' : Seen) (out out' notes notes' : SinkSeen) : Type 0 where
   pub events : List Event
   pub name : List ℕ

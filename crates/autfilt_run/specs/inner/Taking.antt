@@ -1,4 +1,4 @@
--- The automaton that was read, and its name.
+-- The automaton that is built of what was parsed.
 use Rattle.std.specs.Prelude.{◌≡◌, Result, Ok, Err}
 use Rattle.aut_base.specs.Automaton.{Automaton, IsWellFormed}
 use Rattle.aut_base.specs.CanonicalLabel.{canonical}
@@ -14,7 +14,7 @@ use Rattle.hoa_reader.specs.Validity.{IsFirstBroken, IsValid}
 use Rattle.hoa_reader.specs.declared.elaborate.Named.{Named}
 use Rattle.plan_meaning.specs.Operands.{IsOfReadSize}
 
--- What is known of an automaton that was read, with labels in canonical form.
+-- What is known of an automaton that was built, with labels in canonical form.
 pub record IsReadAs (w : Written) (core : Automaton) : Type 0 where
   pub valid : IsValid w
   pub within : PassesNone w

@@ -1,4 +1,4 @@
-//! The operands are read, one after the other.
+//! Reading of the operands, one after the other.
 
 ghost use Rattle.std.specs.Prelude.{◌≡◌, ◌+◌, ◌<◌, All, IfOk, None, OnErr, OnOk, false, length, true};
 ghost use Rattle.autfilt_run.specs.Points.{open_count};
@@ -17,21 +17,21 @@ use aut_io::Inputs;
 use hoa_reader::{Front, read_raw};
 use std::alloc::Global;
 
-/// What one turn over the operands did.
+/// What one turn of the loop over operands did.
 #[derive(Clone, Copy, Debug, PartialEq, Eq)]
 pub(crate) enum OperandTurn {
     /// The file of the next one was opened.
     Opened,
-    /// An automaton was taken of the open file.
+    /// An automaton of the open file was taken as the operand.
     Taken,
-    /// One that is abandoned was passed over.
+    /// An abandoned automaton was skipped.
     Skipped,
-    /// All were read.
+    /// All operands are read.
     Done,
 }
 
 impl Session {
-    /// Reads operands until all are read, or one that is abandoned was passed over.
+    /// Reads operands until all are read, or an abandoned automaton was skipped.
     pub(super) fn read_operands<I: Inputs>(
         &mut self,
         alloc: Global,
@@ -65,7 +65,7 @@ impl Session {
         }
     }
 
-    /// One turn: the file of the next operand is opened, or what stands next in the open one is read.
+    /// One turn: opens the file of the next operand, or reads the next automaton of the open one.
     fn operand_turn<I: Inputs>(
         &mut self,
         alloc: Global,
@@ -114,7 +114,7 @@ impl Session {
         Ok(OperandTurn::Opened)
     }
 
-    /// Takes the automaton that stands next in the open file. The rest of the file is left.
+    /// Takes the next automaton of the open file as the operand. The rest of the file is left unread.
     fn take_operand<I: Inputs>(
         &mut self,
         alloc: Global,

@@ -1,4 +1,4 @@
-//! One step: the next stream is opened, or what stands next in the open one is read.
+//! One step: the next stream is opened, or the next automaton of the open one is read.
 
 ghost use Rattle.std.specs.Prelude.{◌≡◌, All, None, false, length, true};
 ghost use Rattle.aut_io.specs.Seen.{SinkSeen};
@@ -20,7 +20,7 @@ use plan_meaning::Complements;
 use std::alloc::Global;
 
 impl Session {
-    /// One step. What may be done next is said by `step`.
+    /// One step, without the change of stage, which `step` makes.
     pub(super) fn turn<I: Inputs, W: Sink>(
         &mut self,
         alloc: Global,
@@ -48,7 +48,7 @@ impl Session {
         }
     }
 
-    /// Whether more automata are asked for.
+    /// Whether fewer automata were kept than `-n` asks for.
     fn asks_on(&self) -> bool
         ensures { result ≡ asks self.now }
     {
@@ -81,7 +81,7 @@ impl Session {
         Ok(Turn::Opened)
     }
 
-    /// Reads what stands next in the open stream.
+    /// Reads the next automaton of the open stream, or its end.
     fn read_next<I: Inputs, W: Sink>(
         &mut self,
         alloc: Global,

@@ -1,4 +1,4 @@
-//! What becomes of the arguments of a process, whatever it reads from and writes to.
+//! The command over the arguments of a process, with any inputs and sinks.
 
 ghost use Rattle.std.specs.Prelude.{◌≡◌, ℕ, List, [], length, IfErr, IfOk};
 ghost use Rattle.std.specs.IoError.{error_kind};
@@ -19,9 +19,9 @@ use std::env::Args;
 use std::io;
 use std::process::ExitCode;
 
-/// Does what the arguments of a process ask for, of which the first is the program's name, and answers the status to end with.
-/// Arguments that can't be had are noted as what keeps a run from beginning. Of a list that is handed in std doesn't say that
-/// its length is the number of its items, so the clause asks for it.
+/// Does what the arguments of a process ask for, of which the first is the program's name, and answers the exit status. Where
+/// the arguments can't be had, no run begins, and a line says so. std doesn't say of a list that is passed in that its length
+/// is the number of its items, so the clause `ran` assumes it.
 pub fn answer<I: Inputs, W: Sink, M: Sink>(
     alloc: Global,
     args: io::Result<Args<Global>>,
@@ -31,10 +31,10 @@ pub fn answer<I: Inputs, W: Sink, M: Sink>(
 ) -> ExitCode
     requires { (name : List ℕ) → I.may_open name }
 
-    // The run of the words behind the first argument, byte for byte, or want of memory before it began.
+    // The run of the words after the first argument, byte for byte, or want of memory before it began.
     ensures ran { IfOk args (λ list. into_iter_len list ≡ length (into_iter_items list) → EndsProgram (words_in (into_iter_items list)) result (I.seen inputs.old) (I.seen inputs.new) (W.seen out.old) (W.seen out.new) (M.seen notes.old) (M.seen notes.new)) }
 
-    // No run, where there are no arguments.
+    // No run begins where the arguments can't be had.
     ensures none { IfErr args (λ error. RefusesRun (end_without (error_kind error)) result (I.seen inputs.old) (I.seen inputs.new) (W.seen out.old) (W.seen out.new) (M.seen notes.old) (M.seen notes.new)) }
 {
     match words_of(alloc, args) {
@@ -43,7 +43,7 @@ pub fn answer<I: Inputs, W: Sink, M: Sink>(
     }
 }
 
-/// Notes why no run began, and answers the status to end with.
+/// Notes why no run began, and answers the exit status.
 pub fn refuse<M: Sink>(notes: &mut M, end: End) -> ExitCode
     ensures status { exit_status result ≡ status_of (ended_of end) }
     ensures noted { Notes (line_of end []) (M.seen notes.old) (M.seen notes.new) }
@@ -52,7 +52,7 @@ pub fn refuse<M: Sink>(notes: &mut M, end: End) -> ExitCode
     exit_code(&Ended::from(end))
 }
 
-/// The status of an end, as a process ends with it.
+/// The exit status of an end, as std's `ExitCode`.
 pub fn exit_code(ended: &Ended) -> ExitCode
     ensures { exit_status result ≡ status_of ended.now }
 {

@@ -1,4 +1,4 @@
-//! The words that a run is called with.
+//! The words of the command line, from the arguments of the process.
 
 ghost use Rattle.std.specs.Prelude.{◌≡◌, length, map, Err, IfErr, IfOk};
 ghost use Rattle.std.specs.IoError.{error_kind};
@@ -13,7 +13,7 @@ use std::alloc::Global;
 use std::env::Args;
 use std::io::{self, ErrorKind};
 
-/// The words behind the program's name, byte for byte.
+/// The words after the program's name, byte for byte.
 pub(crate) fn words_of(alloc: Global, args: io::Result<Args<Global>>) -> Result<Words, End>
     ensures words { IfOk args (λ list. into_iter_len list ≡ length (into_iter_items list) → IfOk result (λ words. words ≡ words_in (into_iter_items list))) }
     ensures only { IfOk args (λ list. IfErr result (λ end. end ≡ End.Fault RunFault.Memory)) }
@@ -25,7 +25,7 @@ pub(crate) fn words_of(alloc: Global, args: io::Result<Args<Global>>) -> Result<
     }
 }
 
-/// How a run ends whose arguments can't be had.
+/// How a run ends where the arguments can't be had.
 fn end_without(kind: ErrorKind) -> End
     ensures { result ≡ end_without kind }
 {
@@ -35,8 +35,8 @@ fn end_without(kind: ErrorKind) -> End
     }
 }
 
-/// The words behind the first of these arguments. Of a list that is handed in std doesn't say that its length is the number
-/// of its items, so the clause asks for it.
+/// The words after the first of these arguments. std doesn't say of a list that is passed in that its length is the number of
+/// its items, so the clause assumes it.
 fn words_from(alloc: Global, args: Args<Global>) -> Result<Words, Memory>
     ensures { into_iter_len args ≡ length (into_iter_items args) → IfOk result (λ words. words ≡ words_in (into_iter_items args)) }
 {
@@ -54,7 +54,7 @@ fn words_behind(alloc: Global, args: &[String]) -> Result<Words, Memory>
     }
 }
 
-/// The words, as texts of our own.
+/// The words, copied into texts.
 fn texts_of(alloc: Global, words: &[String]) -> Result<Words, Memory>
     ensures { IfOk result (λ texts. texts ≡ map (λ s. s.bytes.items) words.now) }
 {

@@ -1,4 +1,4 @@
-//! Numbers that are doubled.
+//! A transition system on numbers that are doubled.
 
 use aut_base::{Memory, Numbers};
 use exploration::{StepFault, TransitionSystem};
@@ -10,8 +10,8 @@ pub(crate) struct Number {
     pub(crate) n: u32,
 }
 
-/// Numbers below 7, each of which leads to its double and one more modulo 7, and notes whether 7 was taken off. A step fails
-/// above the bound. A class is a place in a list that grows, as a guard is in a store.
+/// Numbers below 7, with edges to the double and to the double plus one, modulo 7; the output of an edge is whether 7 was
+/// taken off. A step above the bound fails. Classes are indices of a list that grows, as guards are of a store.
 #[derive(Drop)]
 pub(crate) struct Doubling {
     pub(crate) bound: u32,

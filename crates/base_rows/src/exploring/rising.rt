@@ -1,4 +1,4 @@
-//! Lists that lose what is least in them.
+//! A transition system on lists that lose their least items.
 
 ghost use Rattle.std.specs.Prelude.{◌≡◌, IfOk, filter, ltb};
 
@@ -6,7 +6,7 @@ use aut_base::{Memory, Numbers};
 use exploration::{StepFault, TransitionSystem};
 use std::alloc::Global;
 
-/// Lists, each of which leads to what of it is above the class, and nowhere where nothing is.
+/// Lists, with an edge for each class to the items above it, and none where no item is above it.
 #[derive(Drop)]
 pub(crate) struct Rising {
     pub(crate) steps: u32,

@@ -1,4 +1,4 @@
-//! What the calls make of a condition, against the truth of that condition.
+//! Compares what the calls make of a condition with the truth that it should have.
 
 use crate::conditions::{Node, pair, shown};
 use crate::forms::calls::{
@@ -10,7 +10,7 @@ use aut_base::{Formula, Memory};
 use row_files::{Count, Fault};
 use std::alloc::Global;
 
-/// Counts all conditions, and those of which a call makes what it shouldn't.
+/// Counts all small conditions, and those on which a call is wrong.
 pub(crate) fn count_all(rt: &HostRuntime, count: &mut Count) -> Result<(), Fault> {
     for shape in SHAPES.iter() {
         for first in ATOMS.iter() {
@@ -25,7 +25,7 @@ pub(crate) fn count_all(rt: &HostRuntime, count: &mut Count) -> Result<(), Fault
     Ok(())
 }
 
-/// The text of the condition, if a call makes of it what it shouldn't.
+/// The text of the condition, if a call is wrong on it.
 fn different(alloc: Global, formula: &Formula) -> Result<Option<String>, Fault> {
     if is_right(alloc, formula)? {
         return Ok(None);
@@ -35,7 +35,7 @@ fn different(alloc: Global, formula: &Formula) -> Result<Option<String>, Fault> 
     Ok(Some(format!(in alloc; "condition {text}")?))
 }
 
-/// Whether every call makes of the condition what its truth asks for.
+/// Whether every call on the condition is right.
 fn is_right(alloc: Global, formula: &Formula) -> Result<bool, Memory> {
     let own = truths(alloc, formula, 0)?;
     if own.first() != Some(&holds_without_marks(formula)) {
@@ -69,7 +69,7 @@ fn is_spread_rightly(alloc: Global, formula: &Formula, own: &[bool]) -> Result<b
     Ok(truths.as_slice() == own && found.len() as u64 == count(formula))
 }
 
-/// Whether the joins with some other conditions have the truths that they should.
+/// Whether conjunctions and disjunctions with some other conditions have the right truth.
 fn is_joined_rightly(alloc: Global, formula: &Formula, own: &[bool]) -> Result<bool, Memory> {
     let and = pair(alloc, Node::And, atom(ATOMS[0]), atom(ATOMS[6]))?;
     let or = pair(alloc, Node::Or, atom(ATOMS[1]), atom(ATOMS[4]))?;

@@ -1,4 +1,4 @@
-//! Whether a condition holds, found with no call of its own crate's evaluator.
+//! An evaluator of conditions that calls nothing of the crates that are tried.
 
 use aut_base::{Formula, Memory};
 use std::alloc::Global;
@@ -8,7 +8,7 @@ pub(crate) type Marks = [bool; 2];
 
 const MARKS: [Marks; 4] = [[false, false], [false, true], [true, false], [true, true]];
 
-/// What is left to do: a condition to look into, or this many values to join.
+/// A task: a condition to evaluate, or the number of values to join.
 #[derive(Drop)]
 enum Task<'a> {
     Visit(&'a Formula),
@@ -16,7 +16,7 @@ enum Task<'a> {
     Any(usize),
 }
 
-/// The truth of a condition on each cycle of one or two edges, whose two sets have the numbers from this one on.
+/// The truth of a condition on each cycle of one or two edges. Its two sets are the one of this number and the next.
 pub(crate) fn truths(alloc: Global, formula: &Formula, low: u32) -> Result<Vec<bool>, Memory> {
     let mut truths = Vec::new(alloc);
     for first in MARKS {
@@ -41,7 +41,7 @@ fn holds(alloc: Global, formula: &Formula, cycle: &[Marks], low: u32) -> Result<
     Ok(values.pop() == Some(true))
 }
 
-/// Does a task. What it leaves to do goes to the tasks, and what it finds to the values.
+/// Does a task: pushes further tasks and values.
 fn carry_out<'a>(
     task: Task<'a>,
     tasks: &mut Vec<Task<'a>>,
@@ -85,7 +85,7 @@ fn last(values: &[bool], count: usize) -> &[bool] {
     &values[values.len().saturating_sub(count)..]
 }
 
-/// Whether some edge is in the set, or with `neg` some edge is not.
+/// Whether some edge is in the set, or with `neg` some edge isn't.
 fn is_met(set: u32, neg: bool, cycle: &[Marks], low: u32) -> bool {
     for marks in cycle {
         let inside = if set == low {

@@ -1,4 +1,4 @@
-//! The conditions that are gone through.
+//! The small conditions that are tried.
 
 use crate::conditions::{Node, pair, triple};
 use acc_forms::Literal;
@@ -17,15 +17,15 @@ pub(crate) const ATOMS: [Literal; 8] = [
     Literal::Fin { set: 1, neg: true },
 ];
 
-/// How one, two or three atoms stand in a condition.
+/// How one, two or three atoms make a condition.
 #[derive(Clone, Copy)]
 pub(crate) enum Shape {
     One,
     Two(Node),
     Three(Node),
-    /// The first, and the other two under a node of their own.
+    /// The first, and the other two joined by the second node.
     Right(Node, Node),
-    /// The first two under a node of their own, and the third.
+    /// The first two joined by the second node, and the third.
     Left(Node, Node),
 }
 
@@ -49,7 +49,7 @@ pub(crate) const SHAPES: [Shape; 13] = [
 const ONE_ATOM: [Literal; 1] = [Literal::Inf { set: 0, neg: false }];
 
 impl Shape {
-    /// The atoms that may stand second: one of any kind where none stands there.
+    /// The second atoms to try: a single one where the shape has no second atom.
     pub(crate) fn seconds(self) -> &'static [Literal] {
         match self {
             Shape::One => &ONE_ATOM,
@@ -57,7 +57,7 @@ impl Shape {
         }
     }
 
-    /// The atoms that may stand third: one of any kind where none stands there.
+    /// The third atoms to try: a single one where the shape has no third atom.
     pub(crate) fn thirds(self) -> &'static [Literal] {
         match self {
             Shape::One | Shape::Two(_) => &ONE_ATOM,

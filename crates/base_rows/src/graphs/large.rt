@@ -1,4 +1,4 @@
-//! Graphs in which a recursion would go deep.
+//! Large graphs, in which a recursion would go deep.
 
 ghost use Rattle.graph_walk.specs.Walk.{HasNodes};
 
@@ -9,8 +9,8 @@ use graph_walk::{Graph, components, path, reach};
 use row_files::{Fault, number};
 use std::alloc::Global;
 
-/// Each node but the first is entered from the one before it in a line, in a ring the first from the last, and in a comb
-/// each even one from the even one before it, and each odd one from the one before it.
+/// In a line, each node but the first has an arc from the one before it; in a ring, the first has one from the last, too; in
+/// a comb, each even node has one from the even node before it, and each odd one from the node before it.
 #[derive(Clone, Copy)]
 pub(crate) enum Shape {
     Line,
@@ -18,7 +18,8 @@ pub(crate) enum Shape {
     Comb,
 }
 
-/// What the three calls answer from the first node of a graph of so many nodes. The walk is one to the last node.
+/// What the three calls answer on the graph of this shape with so many nodes, from its first node. The path is the one to the
+/// last node.
 pub(crate) fn explored(alloc: Global, shape: Shape, line: &str) -> Result<Text, Fault> {
     let nodes = number(line)?;
     let graph = graph(alloc, nodes, &arcs(alloc, shape, nodes)?)?;
@@ -29,7 +30,7 @@ pub(crate) fn explored(alloc: Global, shape: Shape, line: &str) -> Result<Text, 
     text(alloc, answer.as_bytes())
 }
 
-/// How many nodes are reached from the first.
+/// The number of nodes that are reached from the first.
 fn count_reached(alloc: Global, graph: &Graph) -> Result<usize, Memory>
     requires { HasNodes graph.now.nodes graph.now.arcs }
 {
@@ -50,7 +51,7 @@ fn count_components(alloc: Global, graph: &Graph) -> Result<u32, Memory>
     Ok(most.map_or(0, |most| most.saturating_add(1)))
 }
 
-/// How many arcs a shortest walk from the first node to the last has.
+/// The number of arcs of a shortest path from the first node to the last.
 fn length(alloc: Global, graph: &Graph) -> Result<usize, Memory>
     requires { HasNodes graph.now.nodes graph.now.arcs }
 {

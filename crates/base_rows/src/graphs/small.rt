@@ -1,4 +1,4 @@
-//! Graphs of three nodes, as nine bits: the bit 3 p + q says whether there is an arc from p to q.
+//! All graphs of three nodes, as numbers of nine bits: the bit 3 p + q says whether there is an arc from p to q.
 
 ghost use Rattle.std.specs.Prelude.{◌≡◌, ◌<◌};
 ghost use Rattle.graph_walk.specs.Walk.{HasNodes};
@@ -12,7 +12,7 @@ use std::alloc::Global;
 /// For each pair of nodes, in the order of the bits, whether the second is reached from the first.
 type Matrix = [bool; 9];
 
-/// Counts all graphs, and those where the two differ.
+/// Counts all graphs, and those on which the calls and the matrix differ.
 pub(crate) fn count_all(rt: &HostRuntime, count: &mut Count) -> Result<(), Fault> {
     for bits in 0..512u32 {
         let different = if agrees(rt.alloc(), bits)? {
@@ -25,7 +25,7 @@ pub(crate) fn count_all(rt: &HostRuntime, count: &mut Count) -> Result<(), Fault
     Ok(())
 }
 
-/// Whether the walks in a graph are those that the powers of its matrix tell.
+/// Whether the calls agree with the powers of the graph's matrix.
 fn agrees(alloc: Global, bits: u32) -> Result<bool, Memory> {
     let graph = graph(alloc, 3, &arcs(alloc, bits)?)?;
     let once = matrix(bits);
@@ -63,7 +63,7 @@ fn arcs(alloc: Global, bits: u32) -> Result<Vec<(u32, u32)>, Memory> {
     Ok(arcs)
 }
 
-/// The matrix of the walks of at most one arc.
+/// The matrix of the paths of at most one arc.
 fn matrix(bits: u32) -> Matrix {
     let mut matrix = [false; 9];
     'pairs: for pair in 0..9u32 {
@@ -72,7 +72,7 @@ fn matrix(bits: u32) -> Matrix {
     matrix
 }
 
-/// The matrix of the walks of at most twice as many arcs.
+/// The matrix of the paths of at most twice as many arcs.
 fn squared(matrix: &Matrix) -> Matrix {
     let mut square = [false; 9];
     'pairs: for pair in 0..9usize {

@@ -1,5 +1,5 @@
-//! The calls, each made where it may be, and None elsewhere. They stand apart so that nothing that compares their answers
-//! carries their contracts.
+//! The calls, with None where their preconditions fail. Each is in a function of its own, so that what compares their answers
+//! doesn't have to prove anything from their contracts.
 
 use aut_base::{Label, Letter, Memory, Names, Numbers, Text};
 use label_guards::{Brought, Guard, GuardList, Guards};
@@ -46,7 +46,7 @@ pub(crate) fn fix(
     Ok(Some(store.fix(alloc, g, prop, value)?))
 }
 
-/// The guard of the other store, brought alone, first and once more.
+/// The guard of the other store, brought alone, first and then again.
 pub(crate) fn bring(
     alloc: Global,
     store: &mut Guards,
@@ -67,7 +67,7 @@ pub(crate) fn bring(
     Ok((first == alone && again == alone).then_some(alone))
 }
 
-/// Whether the letter meets the guard.
+/// Whether the guard holds at the letter.
 pub(crate) fn holds(store: &Guards, names: &Names, g: Guard, letter: &Letter) -> Option<bool> {
     if !store.has(g) || names.len() != store.names() as usize {
         return None;
@@ -75,7 +75,7 @@ pub(crate) fn holds(store: &Guards, names: &Names, g: Guard, letter: &Letter) ->
     Some(store.holds(names, g, letter))
 }
 
-/// Whether the guard is true at the valuation of this number.
+/// Whether the guard is true on the valuation of this number.
 pub(crate) fn holds_at(store: &Guards, g: Guard, number: u64) -> Option<bool> {
     if !store.has(g) {
         return None;
@@ -83,7 +83,7 @@ pub(crate) fn holds_at(store: &Guards, g: Guard, number: u64) -> Option<bool> {
     Some(store.holds_at(g, number))
 }
 
-/// The number of some valuation that meets the guard, if one does.
+/// The number of some valuation on which the guard is true, if there is one.
 pub(crate) fn meeting(store: &Guards, g: Guard) -> Option<u64> {
     if !store.has(g) {
         return None;
@@ -91,7 +91,7 @@ pub(crate) fn meeting(store: &Guards, g: Guard) -> Option<u64> {
     store.meeting(g)
 }
 
-/// The least letter that meets the guard, if one does.
+/// The least letter at which the guard holds, if there is one.
 pub(crate) fn pick(
     alloc: Global,
     store: &Guards,
@@ -118,7 +118,7 @@ pub(crate) fn same(store: &Guards, g: Guard, h: Guard) -> Option<bool> {
     Some(store.same(g, h))
 }
 
-/// The classes of the list, if there are no more than so many.
+/// The classes of the list, unless there are more than so many.
 pub(crate) fn classes(
     alloc: Global,
     store: &mut Guards,

@@ -1,4 +1,4 @@
-//! Truth functions of a few propositions as guards, and whether the calls make of them what their tables ask for.
+//! Truth functions of a few propositions as guards, compared with their tables.
 
 use crate::guards::calls::{
     and, bring, classes, fix, holds, holds_at, is_false, meeting, not, of_label, or, pick, same,
@@ -10,10 +10,10 @@ use aut_base::{Memory, Names, Numbers};
 use label_guards::{Guard, GuardList, Guards};
 use std::alloc::Global;
 
-/// Where the propositions of another store are brought, in turn.
+/// To which propositions those of another store are brought, in three trials.
 const PLACES: [[u16; 3]; 3] = [[2, 0, 1], [1, 1, 0], [0, 1, 2]];
 
-/// A store, and the guards of the functions with the first tables.
+/// A store, and the guards of the first functions, by their tables.
 #[derive(Drop)]
 pub(crate) struct Functions {
     props: u8,
@@ -23,7 +23,7 @@ pub(crate) struct Functions {
 }
 
 impl Functions {
-    /// The functions of so many propositions, where the first ones have their guards at once.
+    /// The functions of so many propositions. The first ones get their guards at once.
     pub(crate) fn new(alloc: Global, props: u8, first: u16) -> Result<Functions, Memory> {
         let props = props.min(4);
         let mut functions = Functions {
@@ -39,7 +39,7 @@ impl Functions {
         Ok(functions)
     }
 
-    /// The guard of a function, from a label. It is `f` where there is none, which the comparisons show.
+    /// The guard of a function, from a label. It is `f` where that fails, which the comparisons show.
     fn made(&mut self, alloc: Global, table: Table) -> Result<Guard, Memory> {
         let label = label(alloc, table, self.props)?;
         match of_label(&mut self.store, &label)? {
@@ -134,7 +134,7 @@ impl Functions {
         Ok(guard == Some(wanted))
     }
 
-    /// Whether the guard is brought rightly from a copy of the store, where there are three propositions.
+    /// Whether the guard is right after it is brought from a copy of the store, where there are three propositions.
     pub(crate) fn is_brought_rightly(
         &mut self,
         alloc: Global,
@@ -152,7 +152,7 @@ impl Functions {
         Ok(true)
     }
 
-    /// Whether two functions are joined and compared rightly.
+    /// Whether conjunction, disjunction and comparison of two functions are right.
     pub(crate) fn are_joined_rightly(
         &mut self,
         alloc: Global,
@@ -171,7 +171,7 @@ impl Functions {
         )
     }
 
-    /// Whether the classes of two functions are right, and one too many are refused.
+    /// Whether the classes of two functions are right, and are refused where the limit is one less.
     pub(crate) fn are_classed_rightly(
         &mut self,
         alloc: Global,

@@ -1,4 +1,4 @@
-//! What is tried of the functions: all of three propositions, and a sample of those of four.
+//! The functions that are tried: all of three propositions, and a sample of those of four.
 
 use crate::guards::functions::Functions;
 use crate::guards::tables::Table;
@@ -77,12 +77,12 @@ fn take(
     count.take(rt, Some(text))
 }
 
-/// The next number of a sequence that goes through all of 16 bits.
+/// The next number of a sequence that runs through all of 16 bits.
 fn next(seed: u16) -> u16 {
     seed.wrapping_mul(25173).wrapping_add(13849)
 }
 
-/// Whether two functions are joined and divided into classes rightly.
+/// Whether joins and classes of two functions are right.
 fn is_pair_right(
     alloc: Global,
     functions: &mut Functions,

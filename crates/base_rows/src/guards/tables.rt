@@ -1,12 +1,12 @@
-//! Truth functions of a few propositions, by their tables, and what operations make of these. Nothing here knows of guards.
+//! Truth functions of a few propositions, by their tables, and operations on tables. Nothing here uses guards.
 
 use aut_base::{Label, Labels, Letter, Memory, Names, Text};
 use std::alloc::Global;
 
-/// The truth of a function on each valuation: bit v on that of number v. Bit k of v is the truth of proposition k.
+/// A truth table: bit v is the truth on valuation v. Bit k of v is the truth of proposition k.
 pub(crate) type Table = u16;
 
-/// How many valuations of so many propositions there are; of four at most, since a table has 16 bits.
+/// How many valuations so many propositions have: at most four propositions, since a table has 16 bits.
 pub(crate) fn valuations(props: u8) -> u16 {
     1u16.wrapping_shl(u32::from(props.min(4)))
 }
@@ -16,7 +16,7 @@ pub(crate) fn bit(bits: u16, place: u16) -> bool {
     bits.wrapping_shr(u32::from(place)) & 1 == 1
 }
 
-/// The table with this bit set, where it is wanted.
+/// The table with this bit set, if it is to be.
 fn with(table: Table, valuation: u16, is_wanted: bool) -> Table {
     if is_wanted {
         return table | 1u16.wrapping_shl(u32::from(valuation));
@@ -24,7 +24,7 @@ fn with(table: Table, valuation: u16, is_wanted: bool) -> Table {
     table
 }
 
-/// The function that is true where this one isn't.
+/// The negation.
 pub(crate) fn negated(of: Table, props: u8) -> Table {
     let mut table = 0u16;
     for valuation in 0..valuations(props) {
@@ -33,7 +33,7 @@ pub(crate) fn negated(of: Table, props: u8) -> Table {
     table
 }
 
-/// The same function with one proposition set.
+/// The function with one proposition fixed to a value.
 pub(crate) fn fixed(of: Table, props: u8, prop: u8, value: bool) -> Table {
     let mask = 1u16.wrapping_shl(u32::from(prop));
     let mut table = 0u16;
@@ -48,7 +48,7 @@ pub(crate) fn fixed(of: Table, props: u8, prop: u8, value: bool) -> Table {
     table
 }
 
-/// The same function of three other propositions: proposition k becomes the one at place k of the list.
+/// The function with its three propositions renamed: proposition k becomes the one at index k of the list.
 pub(crate) fn brought(of: Table, to: [u16; 3]) -> Table {
     let mut table = 0u16;
     for valuation in 0..8u16 {
@@ -57,7 +57,7 @@ pub(crate) fn brought(of: Table, to: [u16; 3]) -> Table {
     table
 }
 
-/// The valuation of the other propositions.
+/// The valuation of the propositions before the renaming.
 fn before(valuation: u16, to: [u16; 3]) -> u16 {
     let mut before = 0u16;
     for place in 0..3u16 {
@@ -66,7 +66,7 @@ fn before(valuation: u16, to: [u16; 3]) -> u16 {
     before
 }
 
-/// The classes of two functions, in the order of their least valuations.
+/// The classes of valuations that two functions don't distinguish, by their least valuations.
 pub(crate) fn classes(
     alloc: Global,
     first: Table,
@@ -83,7 +83,7 @@ pub(crate) fn classes(
     Ok(classes)
 }
 
-/// Where both functions are as they are on this valuation.
+/// The valuations on which both functions have the values that they have on this one.
 fn class_of(first: Table, second: Table, props: u8, valuation: u16) -> Table {
     let mut class = 0u16;
     for other in 0..valuations(props) {
@@ -94,7 +94,7 @@ fn class_of(first: Table, second: Table, props: u8, valuation: u16) -> Table {
     class
 }
 
-/// A label with this table: one conjunction for each valuation on which it is true.
+/// A label with this table: a disjunction with one conjunction for each valuation on which it is true.
 pub(crate) fn label(alloc: Global, of: Table, props: u8) -> Result<Label, Memory> {
     let mut label = Label::False;
     for valuation in 0..valuations(props) {

@@ -1,4 +1,4 @@
--- The last byte that is taken for a token is asked for.
+-- The last byte of a token was needed: without it the token was incomplete.
 use Rattle.std.proofs.Common.{◌≡◌, ◌≢◌, ℕ, zero, suc, ◌+◌, Bool, true, false, not, is_some, List, [], ◌∷◌, ◌++◌, Option, Some, None, length, ◌==◌, refl, sym, subst, ◌∙◌, ap, arith}
 use Rattle.std.proofs.lemmas.Bool.{false≢true}
 use Rattle.std.proofs.lemmas.List.{append_assoc, length-append}
@@ -17,7 +17,7 @@ pub stops_on : (p : ℕ → Bool) (rest more : List ℕ) → StopsAt p rest → 
 stops_on p [] more h = absurd h
 stops_on p (b ∷ rest) more h = h
 
--- what follows a token may go on
+-- a complete token stays so where more bytes are added at the end
 pub ends_on : (t : Token) (rest more : List ℕ) → IsDelimited t rest → IsDelimited t (rest ++ more)
 ends_on (Identifier name) rest more h = (stops_on _ rest more h.0, stops_on _ rest more h.1)
 ends_on (Int zero) rest more h = tt
@@ -25,7 +25,7 @@ ends_on (Int (suc n)) rest more h = stops_on _ rest more h
 ends_on (Alias name) rest more h = stops_on _ rest more h
 ends_on _ rest more h = tt
 
--- A token that closes needs something behind it where it doesn't close itself.
+-- A token that its own last byte doesn't complete needs a byte after it.
 needs_more : (t : Token) (rest : List ℕ) → IsDelimited t rest → closes_itself t ≡ false → rest ≡ [] → ⊥
 needs_more (Identifier name) [] h c e = h.0
 needs_more (Int zero) [] h c e = false≢true (sym c)
@@ -51,7 +51,7 @@ zero_length (b ∷ bs) e = absurd (omega (arith, e))
 some_word : (t : Token) (word : List ℕ) → Spells t word → word ≢ []
 some_word t word s e = spelled_some t (subst (Spells t) e s)
 
--- the token that the bytes at hand would close stands next in the whole
+-- the token that the bytes at hand would complete is the next one of the whole text
 next_on : (at_hand more : List ℕ) (start : ℕ) (a : AfterBlanks at_hand HasFront) → IsNext (at_hand ++ more) start a.holds.token (start + length a.before) (a.holds.rest ++ more)
 next_on at_hand more start a = record {
   before = a.before;
@@ -67,7 +67,7 @@ next_on at_hand more start a = record {
   };
 }
 
--- What the bytes at hand would close ends before the last byte, and so before the token does.
+-- A token that the bytes at hand would complete ends before the last byte, and so before the token that was read does.
 too_early : (input : List ℕ) (start offset byte : ℕ) (token : Token) (held : Option ℕ) (left at_hand : List ℕ) → IsNext input start token offset (unread held left)
     → is_some held ≡ not (closes_itself token) → input ≡ at_hand ++ byte ∷ left → AfterBlanks at_hand HasFront → ⊥
 too_early input start offset byte token None left at_hand n h e a =

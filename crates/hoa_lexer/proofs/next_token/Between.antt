@@ -1,4 +1,4 @@
--- Facts of what was left before and after, put together.
+-- Facts of what the inputs had left before and have left after, combined.
 use Rattle.std.proofs.Common.{◌≡◌, List, ℕ, Option, Some, None, refl}
 use Rattle.hoa_lexer.specs.Reading.{Between}
 

@@ -1,4 +1,4 @@
--- What stands next in a text: one thing, and in every text something.
+-- Exactly one of the cases of `Next` is so of a text.
 use Rattle.std.proofs.Common.{◌≡◌, ◌≢◌, ℕ, zero, suc, ◌+◌, ◌≤◌, ◌⊎◌, false, true, List, [], ◌∷◌, ◌++◌, Option, Some, None, length, inl, inr, refl, sym, subst, ◌∙◌, ap, arith}
 use Rattle.std.proofs.lemmas.Bool.{cases_Bool, cases_eq, false≢true}
 use Rattle.std.proofs.lemmas.List.{append_assoc, append-nil, length-append}
@@ -18,7 +18,7 @@ use Rattle.hoa_lexer.proofs.next_token.StuckPlaces.{after_as, no_open_comment, n
 use Rattle.hoa_lexer.proofs.next_token.Unique.{one_next_token}
 use Rattle.hoa_lexer.proofs.spelling.Comments.{closing_after, closing_sound}
 
--- one thing alone
+-- at most one
 
 abbrev Bad : ℕ → ℕ → List ℕ → Type 0
 Bad k start text = AfterBlanks text (λ bytes. (k + length bytes ≡ start + length text) × IsNoToken bytes)
@@ -105,7 +105,7 @@ one_next start text InToken InComment h k = absurd (comment_not_open text k h)
 one_next start text InToken InString h k = absurd (string_not_open text k h)
 one_next start text InToken InToken h k = refl
 
--- something in every text
+-- at least one
 
 -- no blank begins the bytes
 record IsSolid (bytes : List ℕ) : Type 0 where
@@ -115,7 +115,7 @@ record IsSolid (bytes : List ℕ) : Type 0 where
   no_space : is_space first ≡ false
   no_comment : (more : List ℕ) → bytes ≢ 47 ∷ 42 ∷ more
 
--- blanks alone, an open comment behind blanks, or something else
+-- only blanks, an open comment after blanks, or something else
 data Settles (text : List ℕ) : Type 0 where
   blank : IsBlanks text → Settles text
   within : AfterBlanks text IsOpenComment → Settles text

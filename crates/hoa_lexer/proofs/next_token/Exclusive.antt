@@ -1,4 +1,4 @@
--- Where the lexer refuses the bytes, no token stands next, and more than blanks is there.
+-- Where the lexer refuses the bytes, no token is next, and there is more than blanks.
 use Rattle.std.proofs.Common.{◌≡◌, ℕ, true, List, [], ◌∷◌, ◌++◌, inl, inr, refl, sym, subst, ◌∙◌, ap, arith}
 use Rattle.std.proofs.lemmas.List.{append_assoc, append-nil}
 use Rattle.hoa_lexer.specs.Blanks.{ClosesComments, IsBlanks, IsOpenComment}
@@ -11,7 +11,7 @@ use Rattle.hoa_lexer.specs.declared.token.Token.TheVariants.{HeaderName, Identif
 use Rattle.hoa_lexer.proofs.spelling.FirstBytes.{front_head, token_kind}
 use Rattle.hoa_lexer.proofs.next_token.Fronts.{asks_blanks, front_after, front_slashes, front_spaces, same_close, space_no_slash}
 
--- what is neither a token nor begins with a blank
+-- what begins neither with a token nor with a blank
 pub record IsStuck (bytes : List ℕ) : Type 0 where
   pub some : bytes ≡ [] → ⊥
   pub no_space : (b : ℕ) (rest : List ℕ) → bytes ≡ b ∷ rest → is_space b ≡ true → ⊥
@@ -79,14 +79,14 @@ open_token_stuck bytes o = record {
   no_front = o.unclosed;
 }
 
--- no token stands after other blanks than the first
+-- no token comes after other blanks than the first ones
 stuck_front : (bytes before x : List ℕ) → IsStuck bytes → IsBlanks before → bytes ≡ before ++ x → HasFront x → ⊥
 stuck_front bytes before x s nothing e f = s.no_front (subst HasFront (sym e) f)
 stuck_front bytes (b ∷ bs) x s (space h r) e f = s.no_space b (bs ++ x) e h
 stuck_front bytes before x s (comment body bs k r t) e f =
     s.no_comment body (bs ++ x) (e ∙ ap (λ w. w ++ x) t ∙ ap (λ w. 47 ∷ 42 ∷ w) (append_assoc body bs x)) k
 
--- where blanks stand before something, and all is blanks, that is blanks too
+-- what lies between blanks and more blanks is blank
 blanks_after : (before whole x : List ℕ) → IsBlanks before → IsBlanks whole → whole ≡ before ++ x → IsBlanks x
 blanks_after before whole x nothing k e = subst IsBlanks e k
 blanks_after (b ∷ bs) whole x (space h r) nothing e = cc
@@ -102,13 +102,13 @@ blanks_after before whole x (comment body bs h r t) (comment body' bs' k s u) e 
     (let all : 47 ∷ 42 ∷ ((body ++ bs) ++ x) ≡ 47 ∷ 42 ∷ ((body' ++ bs') ++ []) =
     sym (ap (λ w. w ++ x) t) ∙ sym e ∙ u ∙ sym (append-nil (47 ∷ 42 ∷ (body' ++ bs'))) in cc)))
 
--- no blanks alone
+-- they aren't only blanks
 stuck_blank : (bytes : List ℕ) → IsStuck bytes → IsBlanks bytes → ⊥
 stuck_blank bytes s nothing = s.some refl
 stuck_blank (b ∷ bs) s (space h r) = s.no_space b bs refl h
 stuck_blank bytes s (comment body bs k r t) = s.no_comment body bs t k
 
--- Where the bytes behind blanks are stuck, no token stands next.
+-- Where the bytes after blanks are stuck, no token is next.
 pub stuck_no_token : (input : List ℕ) → AfterBlanks input IsStuck → AfterBlanks input HasFront → ⊥
 stuck_no_token input a f =
     let next = front_after a.before f.before a.bytes f.bytes a.blanks f.blanks (sym a.split ∙ f.split) f.holds in
@@ -118,6 +118,6 @@ stuck_no_token input a f =
 pub stuck_no_blanks : (input : List ℕ) → AfterBlanks input IsStuck → IsBlanks input → ⊥
 stuck_no_blanks input a b = stuck_blank a.bytes a.holds (blanks_after a.before input a.bytes a.blanks b a.split)
 
--- No token stands in blanks.
+-- No token is in blanks.
 pub blanks_no_token : (input : List ℕ) → IsBlanks input → AfterBlanks input HasFront → ⊥
 blanks_no_token input b f = (asks_blanks input b).unclosed f

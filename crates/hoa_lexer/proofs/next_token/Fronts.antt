@@ -1,4 +1,4 @@
--- What may stand where a token is sought.
+-- The first bytes after blanks: what they can be where a token, a comment or a fault is next.
 use Rattle.std.proofs.Common.{◌≡◌, ◌≢◌, ℕ, zero, suc, ◌+◌, ◌&&◌, ◌==◌, true, false, List, [], ◌∷◌, ◌++◌, length, Option, Some, None, Result, Ok, Err}
 use Rattle.std.proofs.Common.{inl, inr, refl, sym, subst, ◌∙◌, ap, arith, ⊎_elim}
 use Rattle.std.proofs.lemmas.Bool.{false≢true, and_right, cases_Bool}
@@ -17,7 +17,7 @@ use Rattle.hoa_lexer.specs.declared.token.LexFault.TheVariants.{BadToken, OpenCo
 use Rattle.hoa_lexer.specs.declared.token.Token.{Token}
 use Rattle.hoa_lexer.specs.declared.token.Token.TheVariants.{Bang}
 
--- a front's first byte is no blank's
+-- a token's first byte is no blank
 
 front_space : (b : ℕ) (bs : List ℕ) → is_space b ≡ true → HasFront (b ∷ bs) → ⊥
 front_space b bs h f = no_space f.token b (front_head b bs f.token f.rest f.front).kinds h
@@ -37,14 +37,14 @@ front_slashes bs bytes e f = front_slash bs (along _ _ e f)
 pub space_no_slash : (b : ℕ) → is_space b ≡ true → b ≡ 47 → ⊥
 space_no_slash b h e = false≢true (ap is_space (sym e) ∙ h)
 
--- behind no blanks
+-- after no blanks
 pub at_once : (y : List ℕ) (P : List ℕ → Type 0) → P y → AfterBlanks y P
 at_once y P h = record { before = []; bytes = y; split = refl; blanks = nothing; holds = h }
 
 pub skips_none : (x : List ℕ) → PassesBlanks x x
 skips_none x = record { before = []; split = refl; blanks = nothing }
 
--- two comments that open at one place close at one place
+-- two comments that begin at the same byte end at the same byte
 pub same_close : (body body' bs bs' xs xs' : List ℕ) → ClosesComments 1 body → ClosesComments 1 body' → (body ++ bs) ++ xs ≡ (body' ++ bs') ++ xs' → bs ++ xs ≡ bs' ++ xs'
 same_close body body' bs bs' xs xs' h k e =
     let here = closing_after 1 body (bs ++ xs) h in
@@ -53,7 +53,7 @@ same_close body body' bs bs' xs xs' h k e =
     let same : Some (bs ++ xs) ≡ Some (bs' ++ xs') = sym here ∙ ap (closing 1) whole ∙ there in
     cc
 
--- no blank stands at the front
+-- the bytes begin with no blank
 pub record NoBlank (bytes : List ℕ) : Type 0 where
   pub no_space : (b : ℕ) (rest : List ℕ) → bytes ≡ b ∷ rest → is_space b ≡ true → ⊥
   pub no_comment : (body rest : List ℕ) → bytes ≡ 47 ∷ 42 ∷ (body ++ rest) → ClosesComments 1 body → ⊥
@@ -64,7 +64,7 @@ front_no_blank bytes f = record {
   no_comment = λ body rest e k. front_slashes (42 ∷ (body ++ rest)) bytes e f;
 }
 
--- Where blanks are passed, and behind others stands none, there stands none behind the rest of those.
+-- Blanks that are followed by no blank contain all other blanks that the text begins with.
 skips_rest : (before before' x y : List ℕ) → IsBlanks before → IsBlanks before' → before ++ x ≡ before' ++ y → NoBlank y → PassesBlanks x y
 skips_rest before before' x y nothing k e n = record { before = before'; split = e; blanks = k }
 skips_rest (b ∷ bs) before' x y (space h r) nothing e n = absurd (n.no_space b (bs ++ x) (sym e) h)
@@ -90,13 +90,13 @@ nothing_before x y before n e nothing = e
 nothing_before x y (b ∷ bs) n e (space h r) = absurd (n.no_space b (bs ++ y) e h)
 nothing_before x y before n e (comment body bs h r t) = absurd (n.no_comment body (bs ++ y) (e ∙ ap (λ z. z ++ y) t ∙ ap (λ z. 47 ∷ 42 ∷ z) (append_assoc body bs y)) h)
 
--- a text has one place behind its first blanks
+-- the blanks at the beginning of a text end at one offset
 pub one_place : (before before' x y : List ℕ) → IsBlanks before → IsBlanks before' → before ++ x ≡ before' ++ y → NoBlank x → NoBlank y → x ≡ y
 one_place before before' x y h k e m n =
     let s = skips_rest before before' x y h k e n in
     nothing_before x y s.before m s.split s.blanks
 
--- so one where its next token stands
+-- so the next token begins at one offset
 pub same_place : (before before' x y : List ℕ) → IsBlanks before → IsBlanks before' → before ++ x ≡ before' ++ y → HasFront x → HasFront y → x ≡ y
 same_place before before' x y h k e f g = one_place before before' x y h k e (front_no_blank x f) (front_no_blank y g)
 
@@ -210,7 +210,7 @@ asks_blanks before h = record {
   closes = record { before = before; bytes = 33 ∷ []; split = refl; blanks = h; holds = bang };
 }
 
--- the first two bytes of a comment, or what stands in place of the second
+-- the first two bytes of a comment, or what is there instead of the second
 
 pub skip_closed : (result : Result (Unit {0}) LexFault) (start : ℕ) (x y z : List ℕ) → x ≡ 42 ∷ y → ClosesComment result y z → SkipsComment result start (47 ∷ x) z
 skip_closed (Ok done) start x y z e h =
@@ -371,7 +371,7 @@ solid_slash (Some c) b e s = (let same : b ≡ c = cc in λ k. s.1 (sym same ∙
 pub front_of : (input : List ℕ) (start : ℕ) (token : Token) (offset : ℕ) (rest : List ℕ) → IsNext input start token offset rest → AfterBlanks input HasFront
 front_of input start token offset rest n = record { before = n.before; bytes = n.bytes; split = n.split; blanks = n.blanks; holds = record { token = token; rest = rest; front = n.front } }
 
--- where a token can come of the bytes, no blank stands at their front
+-- where a token can begin with the bytes, no blank does
 solid_after : (at_hand before bytes more : List ℕ) → at_hand ≢ [] → HasFront (at_hand ++ more) → at_hand ≡ before ++ bytes → IsBlanks before → HasFront bytes → HasFront at_hand
 solid_after at_hand before bytes more n f e nothing w = along _ _ (sym e) w
 solid_after at_hand (b ∷ bs) bytes more n f e (space k r) w = absurd (front_spaces b ((bs ++ bytes) ++ more) (at_hand ++ more) k (ap (λ v. v ++ more) e) f)
@@ -391,7 +391,7 @@ asked_for_one y z t = ⊎_elim
     (λ p. record { at_hand = p.at_hand; byte = t.byte; split = p.split; asks = pauses_ask y (t.byte ∷ z) p })
     t.past
 
--- the answer to what the token's own function answered, where nothing stands before it
+-- the answer of the lexer where the token's own function answered a fault, and no blank came before
 token_err_here : (fault : LexFault) (offset : ℕ) (y z : List ℕ) → ReadsToken (Err fault) offset y z → AnswersToken (Err fault) offset offset y z
 token_err_here (BadToken k) offset y z h = (
   at_once y (λ bytes. (k + length bytes ≡ offset + length y) × IsNoToken bytes) (ap (λ n. n + length y) h.0, h.1),
@@ -426,7 +426,7 @@ token_ok token start offset x y z s e f = record {
 pub err_offset : (fault : LexFault) (start offset offset' : ℕ) (x z : List ℕ) → AnswersToken (Err fault) start offset x z → AnswersToken (Err fault) start offset' x z
 err_offset fault start offset offset' x z a = fails_after fault start start offset' offset x x z (skips_none x) refl a
 
--- where the offset stands after a fault
+-- the offset after a fault
 
 used_of : (fault : LexFault) (start offset : ℕ) (x z : List ℕ) → AnswersToken (Err fault) start offset x z → (used : List ℕ) × (x ≡ used ++ z)
 used_of (BadToken k) start offset x z a = (a.2.used, a.2.split)

@@ -1,4 +1,4 @@
--- One stretch of reading and the next.
+-- Reading some bytes and then more, put together.
 use Rattle.std.proofs.Common.{◌≡◌, ℕ, List, Option, Result, Ok, Err, refl, ◌∙◌, subst, sym, arith}
 use Rattle.std.specs.Result.{IsErrAnd}
 use Rattle.aut_io.specs.Seen.{Seen}
@@ -45,7 +45,7 @@ moves_nowhere a s = record {
   texts = refl;
 }
 
--- an error that `?` hands on
+-- an error that `?` returns
 pub handed_on : {A : Type 0} (P : Result A LexFault → List ℕ → List ℕ → Type 0) (a b : Option (List ℕ)) (r : Result A LexFault) (f : LexFault) → IsErrAnd r (λ y. y ≡ f)
     → Between a b (P (Err f)) → Between a b (P r)
 handed_on P a b (Ok x) f h one = absurd h

@@ -1,4 +1,4 @@
--- A text has one place where it is stuck, and at that place either no token can stand or one is open.
+-- A text has one offset where no token can begin, and there either none can be completed or one is open.
 use Rattle.std.proofs.Common.{◌≡◌, ◌≢◌, ℕ, ◌⊎◌, List, [], ◌∷◌, ◌++◌, inl, inr, refl, sym, ◌∙◌, ap}
 use Rattle.std.proofs.lemmas.Bool.{cases_eq}
 use Rattle.std.proofs.lemmas.List.{append-nil}
@@ -18,7 +18,7 @@ pub stuck_place : (input : List ℕ) (a b : AfterBlanks input IsStuck) → a.byt
 stuck_place input a b =
     one_place a.before b.before a.bytes b.bytes a.blanks b.blanks (sym a.split ∙ b.split) (stuck_no_blank a.bytes a.holds) (stuck_no_blank b.bytes b.holds)
 
--- a string closes in the bytes, or behind more of them
+-- a string closes in the bytes, or after more of them
 record IsClosed (bytes : List ℕ) : Type 0 where
   inner : List ℕ
   text : List ℕ

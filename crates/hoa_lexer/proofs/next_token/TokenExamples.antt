@@ -17,7 +17,7 @@ a_is_no_quote e = absurd (omega (arith, e))
 a_is_no_backslash : ◌≢◌ {A = ℕ} 97 92
 a_is_no_backslash e = absurd (omega (arith, e))
 
--- the token stands at once
+-- the token is at the front
 at_front : (word rest : List ℕ) (token : Token) (start : ℕ) → Spells token word → IsDelimited token rest → IsNext (word ++ rest) start token start rest
 at_front word rest token start spells ends = record {
   before = [];

@@ -28,7 +28,7 @@ record IsSame (t u : Token) (rest rest' : List ℕ) : Type 0 where
 turned : (t u : Token) (rest rest' : List ℕ) → IsSame t u rest rest' → IsSame u t rest' rest
 turned t u rest rest' s = record { token = sym s.token; after = sym s.after }
 
--- A run of bytes that go on, up to one that stops, is one and the same.
+-- The longest run of bytes that pass a test is unique.
 record IsSameRun (s s' rest rest' : List ℕ) : Type 0 where
   run : s ≡ s'
   after : rest ≡ rest'
@@ -193,7 +193,7 @@ one_string (Str text') b bs s s' rest rest' text q h k e f =
     record { token = ap Str w.run; after = w.after }
 one_string _ b bs s s' rest rest' text q h k e f = absurd (omega arith)
 
--- marks and words in dashes
+-- tokens of a fixed spelling
 
 fixed : (t : Token) (b : ℕ) (bs s s' rest rest' word : List ℕ) → b ∷ s ≡ word → b ∷ s' ≡ word → bs ≡ s ++ rest → bs ≡ s' ++ rest' → IsSame t t rest rest'
 fixed t b bs s s' rest rest' word h k e f =
@@ -206,7 +206,7 @@ dashed_second letter b bs s rest more h e =
     let same : s ≡ 45 ∷ letter ∷ more = cc in
     e ∙ ap (λ w. w ++ rest) same
 
--- words that differ at their third byte
+-- fixed spellings that differ at their third byte
 apart : (c d : ℕ) (b : ℕ) (bs s s' rest rest' more more' : List ℕ) → (c ≡ d → ⊥) → b ∷ s ≡ 45 ∷ 45 ∷ c ∷ more → b ∷ s' ≡ 45 ∷ 45 ∷ d ∷ more' → bs ≡ s ++ rest → bs ≡ s' ++ rest' → ⊥
 apart c d b bs s s' rest rest' more more' n h k e f =
     let whole = sym (dashed_second c b bs s rest more h e) ∙ dashed_second d b bs s' rest' more' k f in

@@ -1,4 +1,4 @@
--- Tokens that are spelled apart are read back.
+-- Tokens that are spelled with spaces between them are read back.
 use Rattle.std.proofs.Common.{◌≡◌, ℕ, zero, suc, ◌+◌, ◌-◌, ◌==◌, true, List, [], ◌∷◌, ◌++◌, length, refl, sym, subst, ◌∙◌, ap}
 use Rattle.std.specs.List.{list_all}
 use Rattle.std.proofs.lemmas.Bool.{and_parts, eqb-true}
@@ -21,7 +21,7 @@ gap_blanks : (gap : List ℕ) → IsGap gap → IsBlanks gap
 gap_blanks [] h = absurd h
 gap_blanks (b ∷ bs) h = spaces_are_blanks (b ∷ bs) h
 
--- a space closes every token
+-- a space completes every token
 space_ends : (t : Token) (rest : List ℕ) → IsDelimited t (32 ∷ rest)
 space_ends (Identifier name) rest = (refl, refl)
 space_ends (Int zero) rest = tt

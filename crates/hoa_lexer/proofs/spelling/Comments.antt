@@ -49,7 +49,7 @@ by_lengths true q A B C d n f g k h = omega (arith, f h)
 by_lengths false true A B C d n f g k h = omega (arith, g h)
 by_lengths false false A B C d n f g k h = omega (arith, k h)
 
--- what closes comments is followed by what follows
+-- bytes that close comments do so whatever follows them
 pub closing_after : (d : ℕ) (body rest : List ℕ) → ClosesComments d body → closing d (body ++ rest) ≡ Some rest
 closing_after zero [] rest h = refl
 closing_after zero (b ∷ bs) rest h = absurd h
@@ -59,7 +59,7 @@ closing_after (suc d) (b ∷ c ∷ bs) rest h =
     by_tests ((b == 42) && (c == 47)) ((b == 47) && (c == 42)) (ClosesComments d bs) (ClosesComments (suc (suc d)) bs) (ClosesComments (suc d) (c ∷ bs)) _ _ _ _
     (closing_after d bs rest) (closing_after (suc (suc d)) bs rest) (closing_after (suc d) (c ∷ bs) rest) h
 
--- what was read up to the end of comments, and then the rest
+-- the bytes up to the end of the comments, and then the rest
 pub record IsClosed (d : ℕ) (bytes rest : List ℕ) : Type 0 where
   pub body : List ℕ
   pub closes : ClosesComments d body
@@ -96,7 +96,7 @@ closing_of_two d b c bs rest out into on e = elim (cases_Bool ((b == 42) && (c =
   ]
 ]
 
--- what `closing` says to follow does follow
+-- `closing` answers what follows the comments
 pub closing_sound : (d : ℕ) (bytes rest : List ℕ) → closing d bytes ≡ Some rest → IsClosed d bytes rest
 closing_sound zero bytes rest e = let same : bytes ≡ rest = cc in record { body = []; closes = tt; split = same }
 closing_sound (suc d) [] rest e = absurd (cc)
@@ -114,7 +114,7 @@ closes_long (suc d) (b ∷ c ∷ bs) h =
     by_lengths ((b == 42) && (c == 47)) ((b == 47) && (c == 42)) (ClosesComments d bs) (ClosesComments (suc (suc d)) bs) (ClosesComments (suc d) (c ∷ bs)) d (length bs)
     (closes_long d bs) (closes_long (suc (suc d)) bs) (closes_long (suc d) (c ∷ bs)) h
 
--- Where no more than a byte was read since, what was read before closes nothing either.
+-- Where at most one byte was read since, the bytes before it close nothing either.
 at_hand_open : (d : ℕ) (seen last new : List ℕ) (r : Option (List ℕ)) → 0 < d → length last ≤ 1 → closing d (last ++ new) ≡ closing 1 (seen ++ (last ++ new)) → closing 1 (seen ++ last) ≡ r → r ≡ None
 at_hand_open d seen last new None p l e k = refl
 at_hand_open d seen last new (Some rest) p l e k =

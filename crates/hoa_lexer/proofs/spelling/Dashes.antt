@@ -85,7 +85,7 @@ dash_end x e = subst (λ (w : List ℕ). IsOpenToken (45 ∷ w)) (sym e) (record
   begins = inr (record { more = codes "-END--"; front = end_front });
 })
 
--- a read that fails behind bytes that close no token
+-- a read that fails after bytes that leave a token incomplete
 read_err : (front x z : List ℕ) (fault : LexFault) (h : Option ℕ) (offset : ℕ) → ((y : List ℕ) → x ≡ y → Pauses (front ++ x) y) → IsReadFault fault → h ≡ None → x ≡ z
     → ReadsToken (Err fault) offset (front ++ x) (unread h z)
 read_err front x z Read h offset pauses r k e = pauses (unread h z) (e ∙ sym (unheld h z k))
@@ -150,7 +150,7 @@ dashes_err fault h offset x z r k e = read_err (45 ∷ 45 ∷ []) x z fault h of
 
 -- the rest of the word
 
--- with its letter, the word is settled
+-- the letter decides the word
 same_tail : (token : Token) (letter : ℕ) (tail bs rest : List ℕ) → IsDashed token letter tail → IsTail (45 ∷ letter ∷ bs) rest → bs ≡ tail ++ rest
 same_tail Body letter tail bs rest d (inl e) = (let same : bs ≡ codes "ODY--" ++ rest = cc in same ∙ ap (λ w. w ++ rest) (sym d.1))
 same_tail Body letter tail bs rest d (inr (inl e)) = absurd (let same : letter ≡ 69 = cc in omega (arith, d.0))
@@ -251,7 +251,7 @@ tail_err OpenComment token letter offset h tail x z d e r = absurd r
 tail_err OpenString token letter offset h tail x z d e r = absurd r
 tail_err Memory token letter offset h tail x z d e r = absurd r
 
--- where a word goes on
+-- the word is a prefix so far
 
 expects_at : (word : List ℕ) (k : ℕ) → k < length word → Expects word (take k word) (get_or word k 0)
 expects_at word k l = record {

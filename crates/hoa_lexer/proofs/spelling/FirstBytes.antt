@@ -1,4 +1,4 @@
--- The first byte of a spelled word tells the kind of its token.
+-- The first byte of a token tells its kind.
 use Rattle.std.proofs.Common.{◌≡◌, ◌≢◌, ℕ, ◌<◌, true, false, cond, List, [], ◌∷◌, ◌++◌, refl, sym, subst, ◌∙◌, ap, arith, ⊎_elim}
 use Rattle.std.proofs.lemmas.Bool.{false≢true, cases_Bool}
 use Rattle.std.proofs.lemmas.Bool.Decides.{nat_tests}
@@ -70,7 +70,7 @@ spelled_some (Int n) h = h.0
 spelled_some (Alias name) h = let e = h.1 in cc
 spelled_some _ h = cc
 
--- the word of a front has the first byte
+-- the token at the front begins with the first byte
 pub record IsHead (b : ℕ) (bs : List ℕ) (token : Token) (rest : List ℕ) : Type 0 where
   pub tail : List ℕ
   pub spells : Spells token (b ∷ tail)
@@ -92,7 +92,7 @@ no_front_nil : (word : List ℕ) (token : Token) (rest : List ℕ) → [] ≡ wo
 no_front_nil [] token rest e h = spelled_some token h
 no_front_nil (w ∷ ws) token rest e h = cc
 
--- no token stands at the front of nothing
+-- no token is at the front of no bytes
 pub no_front : HasFront [] → ⊥
 no_front f = no_front_nil f.front.word f.token f.rest f.front.split f.front.spells
 
@@ -116,7 +116,7 @@ pub no_slash : (token : Token) → kind 47 ≡ token_kind token → ⊥
 no_slash (Str text) h = omega arith
 no_slash _ h = omega arith
 
--- a byte of no kind begins no token
+-- no token begins with a byte of no kind
 pub no_kind : (token : Token) (b : ℕ) → kind b ≡ token_kind token → is_letter b ≡ false → is_digit b ≡ false → b ≢ 34 → b ≢ 64 → b ≢ 45 → ((t : Token) → IsSign t b → ⊥) → ⊥
 no_kind (HeaderName name) b h l d s a m k = absurd (false≢true (sym l ∙ ap is_letter (sym (kind_other b l d) ∙ h)))
 no_kind (Identifier name) b h l d s a m k = absurd (false≢true (sym l ∙ ap is_letter (sym (kind_other b l d) ∙ h)))
@@ -136,7 +136,7 @@ no_kind RightBrace b h l d s a m k = k RightBrace (sym (kind_other b l d) ∙ h)
 no_kind LeftBracket b h l d s a m k = k LeftBracket (sym (kind_other b l d) ∙ h)
 no_kind RightBracket b h l d s a m k = k RightBracket (sym (kind_other b l d) ∙ h)
 
--- a mark stands alone
+-- a sign is complete by itself
 
 pub mark_front : (token : Token) (b : ℕ) (x : List ℕ) → IsSign token b → IsFront (b ∷ x) token x
 mark_front Bang b x h = record { word = b ∷ []; split = refl; spells = ap (λ c. c ∷ []) h; ends = tt }
@@ -158,7 +158,7 @@ solid b x n c rest e h = let same : b ≡ c = cc in false≢true (sym n ∙ ap i
 pub digit_no_space : (b : ℕ) → is_digit b ≡ true → is_space b ≡ false
 digit_no_space b d = ⊎_elim (λ h. absurd (no_space (Int 0) b (kind_digit b d) h)) (λ h. h) (cases_Bool (is_space b))
 
--- a byte of no kind begins no token, however the text goes on
+-- no token begins with a byte of no kind, whatever follows
 pub no_kind_token : (b : ℕ) (x : List ℕ) → is_space b ≡ false → is_letter b ≡ false → is_digit b ≡ false → (b ≡ 34 → ⊥) → (b ≡ 64 → ⊥) → (b ≡ 45 → ⊥) → (b ≡ 47 → ⊥)
     → ((t : Token) → IsSign t b → ⊥) → IsNoToken (b ∷ x)
 no_kind_token b x n l d s a m o k = record {

@@ -26,7 +26,7 @@ pub record IsDigits (first value : ℕ) (x y : List ℕ) : Type 0 where
   pub value_is : value_of (first ∷ seen) ≡ value
   pub split : x ≡ seen ++ y
 
--- the value that digits make of one
+-- the value after more digits
 abbrev value_from : ℕ → List ℕ → ℕ
 value_from = fold (λ value digit. 10 * value + (digit - 48))
 
@@ -73,7 +73,7 @@ pub holds_int : (n : ℕ) → 0 < n → true ≡ not (closes_itself (Int n))
 holds_int zero l = absurd (omega arith)
 holds_int (suc n) l = refl
 
--- an integer whose digits may go on
+-- an integer to which digits may be added
 
 number_open_at : (token : Token) (first : ℕ) (seen tail rest : List ℕ) → 48 ≡ token_kind token → 0 < first - 48 → Spells token (first ∷ tail) → IsDelimited token rest → seen ≡ tail ++ rest
     → list_all is_digit seen ≡ true → ⊥
@@ -136,7 +136,7 @@ number_err OpenString h offset first value x y z d v l r k w e = absurd r
 number_err OpenToken h offset first value x y z d v l r k w e = absurd r
 number_err Memory h offset first value x y z d v l r k w e = absurd r
 
--- a value that is too great stays so
+-- a value that is too great stays too great
 
 longer : (a : ℕ) (seen tail more rest : List ℕ) → seen ++ more ≡ tail ++ rest → list_all is_digit seen ≡ true → StopsAt is_digit rest → value_from a seen ≤ value_from a tail
 longer a [] tail more rest e d s = grows a tail

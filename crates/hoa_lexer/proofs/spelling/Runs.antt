@@ -1,4 +1,4 @@
--- Runs of bytes that are at hand.
+-- Runs of the bytes at hand that pass a test.
 use Rattle.std.proofs.Common.{◌≡◌, ℕ, suc, ◌+◌, ◌≤◌, Bool, true, false, cond, List, [], ◌∷◌, ◌++◌, length, take, Option, Some, None}
 use Rattle.std.proofs.Common.{refl, sym, ◌∙◌, ap, arith}
 use Rattle.std.specs.List.{list_all, prefix_len}
@@ -10,7 +10,7 @@ use Rattle.hoa_lexer.specs.Bytes.{is_word}
 use Rattle.hoa_lexer.specs.Reading.{Between}
 use Rattle.hoa_lexer.specs.inner.Steps.{AddsWord}
 
--- the bytes that were passed stand between what was left before and after
+-- the bytes that were passed are those between what was left before and what is left after
 pub passed : (a b : Option (List ℕ)) (bytes : List ℕ) → Consumes a bytes b → Between a b (λ x y. x ≡ bytes ++ y)
 passed None b bytes p = p
 passed (Some x) None bytes p = absurd p
@@ -23,12 +23,12 @@ front_step p x xs true e h =
     let on : 1 + prefix_len p xs ≡ suc (prefix_len p xs) = omega arith in
     ap (λ k. list_all p (take k (x ∷ xs))) on ∙ and_from (p x) (list_all p (take (prefix_len p xs) xs)) e h
 
--- those at the front that pass a test do pass it
+-- the prefix of those that pass a test passes it
 pub front_passes : (p : ℕ → Bool) (xs : List ℕ) → list_all p (take (prefix_len p xs) xs) ≡ true
 front_passes p [] = refl
 front_passes p (x ∷ xs) = front_step p x xs (p x) refl (front_passes p xs)
 
--- the run at the front of a part is letters, digits and `-`
+-- the run that a part begins with is letters, digits and `-`
 pub run_words : (bytes : List ℕ) (most run : ℕ) → run ≡ prefix_len is_word (take most bytes) → most ≤ length bytes
     → list_all is_word (take run bytes) ≡ true
 run_words bytes most run e l =

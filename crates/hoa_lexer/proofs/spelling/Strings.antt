@@ -29,7 +29,7 @@ half_open : (half : List ℕ) → IsHalf half → after_quote false half ≡ Non
 half_open half (inl e) = ap (after_quote false) e
 half_open half (inr e) = ap (after_quote false) e
 
--- a string that no front of the bytes closes
+-- a string that no prefix of the bytes closes
 unclosed : (seen text half inner text' more : List ℕ) → Quotes seen text → IsHalf half → Quotes inner text' → seen ++ half ≡ inner ++ 34 ∷ more → ⊥
 unclosed seen text half inner text' more q h k e =
     let open_here : after_quote false (seen ++ half) ≡ None = through seen text half q ∙ half_open half h in
@@ -132,7 +132,7 @@ string_pauses h text x y z k q r = record {
   begins = string_begins q.0 text r.0 q.1 r.1;
 }
 
--- memory was wanting for a byte
+-- memory was wanting for another byte
 pub string_stops : (h : Option ℕ) (text : List ℕ) (b : ℕ) (x y z : List ℕ) → h ≡ None → (inner : List ℕ) × Quotes inner text × (x ≡ inner ++ y)
     → (seen : List ℕ) × Quotes seen (b ∷ []) × (y ≡ seen ++ z) → Pauses (34 ∷ x) (unread h z)
 string_stops h text b x y z k q r = string_pauses h (text ++ b ∷ []) x z z k (string_push b text (text ++ b ∷ []) x y z q r refl) ([], inl refl, refl)

@@ -21,7 +21,7 @@ pub words_end : (o : Option ℕ) (name name' x z : List ℕ) → o ≡ None → 
 words_end None name name' x z e a = a.0
 words_end (Some b) name name' x z e a = cc
 
--- memory was wanting for a byte more
+-- memory was wanting for another byte
 pub takes_word : (b : ℕ) (name name' x y z : List ℕ) → AddsWord name name' x y → y ≡ b ∷ z → is_word b ≡ true → TakesWord x z
 takes_word b name name' x y z a e w = record {
   seen = a.seen ++ b ∷ [];
@@ -29,7 +29,7 @@ takes_word b name name' x y z a e w = record {
   split = a.split ∙ ap (λ v. a.seen ++ v) e ∙ sym (append_assoc a.seen (b ∷ []) z);
 }
 
--- or for a run behind it
+-- or for a run after it
 pub takes_run : (name name' x y z : List ℕ) → TakesWord x y → AddsWord name name' y z → TakesWord x z
 takes_run name name' x y z a b = record {
   seen = a.seen ++ b.seen;
@@ -41,7 +41,7 @@ pub words_left : (o : Option ℕ) (name name' x z : List ℕ) → o ≡ None →
 words_left None name name' x z e a = a.1
 words_left (Some b) name name' x z e a = cc
 
--- what goes on has not stopped
+-- a byte that goes on with the word doesn't end it
 pub stops_not : (p : ℕ → Bool) (xs ys rest : List ℕ) → list_all p xs ≡ true → xs ≡ ys ++ rest → StopsAt p rest → ⊥
 stops_not p xs ys [] h e s = s
 stops_not p xs ys (r ∷ rs) h e s =

@@ -1,4 +1,4 @@
--- The bytes of a name, apart from where they lie.
+-- The bytes of a name, wherever they are stored.
 use Rattle.std.specs.Prelude.{ℕ, List}
 use Rattle.hoa_lexer.specs.declared.name.Held.{Held}
 use Rattle.hoa_lexer.specs.declared.name.Held.TheVariants.{Short, Long}

@@ -14,12 +14,12 @@ use Rattle.hoa_lexer.specs.declared.token.LexFault.TheVariants.{BadToken, OpenCo
 use Rattle.hoa_lexer.specs.declared.token.Token.{Token}
 use Rattle.hoa_lexer.specs.declared.token.Token.TheVariants.{Bang, Amp, Bar, LeftParen, RightParen, LeftBrace, RightBrace, LeftBracket, RightBracket, Body, End, Abort}
 
--- From one state of a lexer to a later one, where the place of the token stands.
+-- From one state of a lexer to a later one, where the offset of the token stays.
 pub record AdvancesLexer (stop : Stop) (old new : Lexer) (seen seen' : Seen) : Type 0 where
   pub moves : MovesLexer stop old new seen seen'
   pub offset : new.offset ≡ old.offset
 
--- a read's answer, of what was unread before and what is left in the inputs
+-- a byte that was looked at is the next of the unread ones
 abbrev pub Peeks : Result (Option ℕ) LexFault → List ℕ → List ℕ → Type 0
 Peeks (Ok (Some b)) old left = old ≡ b ∷ left
 Peeks (Ok None) old left = (old ≡ []) × (left ≡ [])
@@ -30,13 +30,13 @@ abbrev pub HoldsRead : Result (Option ℕ) LexFault → Option ℕ → Type 0
 HoldsRead (Ok byte) held = held ≡ byte
 HoldsRead (Err fault) held = held ≡ None
 
--- the faults that a read has
+-- the faults that reading a byte can have
 abbrev pub IsReadFault : LexFault → Type 0
 IsReadFault Read = Unit {0}
 IsReadFault Bytes = Unit {0}
 IsReadFault _ = ⊥
 
--- What follows the end of this many open comments, if they are closed at all.
+-- What follows the end of this many open comments, where they are closed.
 abbrev pub closing : ℕ → List ℕ → Option (List ℕ)
 closing zero bytes = Some bytes
 closing (suc depth) [] = None
@@ -45,7 +45,7 @@ closing (suc depth) (b ∷ c ∷ bytes) =
     if (b == 42) && (c == 47) then closing depth bytes
     else (if (b == 47) && (c == 42) then closing (suc (suc depth)) bytes else closing (suc depth) (c ∷ bytes))
 
--- one step in open comments, from one depth to the next
+-- one step inside nested comments, from one depth to the next
 abbrev pub StepsIn : Result ℕ LexFault → ℕ → List ℕ → List ℕ → Type 0
 StepsIn (Ok next) depth old new = (closing next new ≡ closing depth old) × (seen : List ℕ) × (old ≡ seen ++ new)
 StepsIn (Err OpenComment) depth old new = (closing depth old ≡ None) × (new ≡ [])
@@ -67,18 +67,18 @@ pub record PassesBlanks (old new : List ℕ) : Type 0 where
   pub split : old ≡ before ++ new
   pub blanks : IsBlanks before
 
--- a comment, or what stands in its place after a `/`
+-- a comment, or why there is none after a `/`
 abbrev pub SkipsComment : Result (Unit {0}) LexFault → ℕ → List ℕ → List ℕ → Type 0
 SkipsComment (Ok done) start old new = PassesBlanks old new
 SkipsComment (Err fault) start old new = AnswersToken (Err fault) start 0 old new
 
--- blanks, up to a byte that begins none or the end of the text
+-- blanks, up to a byte that is none or the end of the text
 abbrev pub SkipsBlanks : Result (Option ℕ) LexFault → ℕ → List ℕ → List ℕ → Type 0
 SkipsBlanks (Ok (Some b)) start old new = PassesBlanks old new
 SkipsBlanks (Ok None) start old new = IsBlanks old × (new ≡ [])
 SkipsBlanks (Err fault) start old new = AnswersToken (Err fault) start 0 old new
 
--- where a fault comes among blanks, none of the bytes that were used begins a token
+-- at a fault among blanks, none of the bytes that were used begins a token
 pub record UsesBlanks (old new : List ℕ) : Type 0 where
   pub before : List ℕ
   pub bytes : List ℕ
@@ -95,7 +95,7 @@ abbrev pub IsSolid : Result (Option ℕ) LexFault → Type 0
 IsSolid (Ok (Some b)) = (is_space b ≡ false) × (b ≢ 47)
 IsSolid _ = Unit {0}
 
--- letters, digits and `-` were used and stand at the end of the name
+-- letters, digits and `-` were used and added to the end of the name
 pub record AddsWord (name name' old new : List ℕ) : Type 0 where
   pub seen : List ℕ
   pub named : name' ≡ name ++ seen
@@ -108,7 +108,7 @@ pub record TakesWord (old new : List ℕ) : Type 0 where
   pub words : list_all is_word seen ≡ true
   pub split : old ≡ seen ++ new
 
--- all letters, digits and `-` that stand next, up to another byte or the end of the text
+-- all letters, digits and `-` that come next, up to another byte or the end of the text
 abbrev pub AddsWords : Result (Option ℕ) LexFault → List ℕ → List ℕ → List ℕ → List ℕ → Type 0
 AddsWords (Ok (Some b)) name name' old left = AddsWord name name' old (b ∷ left) × (is_word b ≡ false)
 AddsWords (Ok None) name name' old left = AddsWord name name' old [] × (left ≡ [])
@@ -117,11 +117,11 @@ AddsWords (Err Read) name name' old left = TakesWord old left
 AddsWords (Err Memory) name name' old left = TakesWord old left
 AddsWords (Err _) name name' old left = ⊥
 
--- what stands in a string and means no whole byte yet: nothing, or `\`
+-- the part of an escape that denotes no byte yet: nothing, or `\`
 abbrev pub IsHalf : List ℕ → Type 0
 IsHalf bytes = (bytes ≡ []) ⊎ (bytes ≡ 92 ∷ [])
 
--- the next byte that a string means, or its closing quote
+-- the next byte that a string denotes, or its closing quote
 abbrev pub ReadsQuoted : Result (Option ℕ) LexFault → List ℕ → List ℕ → Type 0
 ReadsQuoted (Ok (Some b)) old left = (seen : List ℕ) × Quotes seen (b ∷ []) × (old ≡ seen ++ left)
 ReadsQuoted (Ok None) old left = old ≡ 34 ∷ left
@@ -130,7 +130,7 @@ ReadsQuoted (Err Bytes) old left = (seen : List ℕ) × IsHalf seen × (old ≡ 
 ReadsQuoted (Err Read) old left = (seen : List ℕ) × IsHalf seen × (old ≡ seen ++ left)
 ReadsQuoted (Err _) old left = ⊥
 
--- the bytes at hand close no token, and can go on so that they close one
+-- the bytes that were used contain no complete token, and can be continued so that they do
 pub record Pauses (old new : List ℕ) : Type 0 where
   pub at_hand : List ℕ
   pub split : old ≡ at_hand ++ new
@@ -138,7 +138,7 @@ pub record Pauses (old new : List ℕ) : Type 0 where
   pub unclosed : HasFront at_hand → ⊥
   pub begins : BeginsToken at_hand
 
--- a byte was used, past bytes that close no token and can go on so that they do, or past none
+-- a byte was used, after bytes that leave a token incomplete, or after none
 pub record TriesByte (old new : List ℕ) : Type 0 where
   pub byte : ℕ
   pub past : (old ≡ byte ∷ new) ⊎ Pauses old (byte ∷ new)
@@ -149,12 +149,12 @@ pub record ShowsNone (old new : List ℕ) : Type 0 where
   pub split : old ≡ used ++ new
   pub none : IsNoToken used
 
--- the answer of a call that puts a token in its place, in the words of a call that gives it
+-- the answer of a call that replaces a token, as the answer of a call that returns one
 abbrev pub put : Result (Unit {0}) LexFault → Token → Result Token LexFault
 put (Ok done) token = Ok token
 put (Err fault) token = Err fault
 
--- the token that stands next, where no blank does
+-- the token that comes next, where no blank does
 abbrev pub ReadsToken : Result Token LexFault → ℕ → List ℕ → List ℕ → Type 0
 ReadsToken (Ok token) offset old new = IsFront old token new
 ReadsToken (Err (BadToken k)) offset old new = (k ≡ offset) × IsNoToken old × TriesByte old new × ShowsNone old new
@@ -177,13 +177,12 @@ IsDashed End letter tail = (letter ≡ 69) × (tail ≡ codes "ND--")
 IsDashed Abort letter tail = (letter ≡ 65) × (tail ≡ codes "BORT--")
 IsDashed _ letter tail = ⊥
 
--- How far the bytes that stand next are those of a word. Where they are not all, `seen` is a front of the word, and
--- a byte `b` of the word comes after it.
+-- How far the next bytes agree with a word: `seen` is the prefix that agrees, and `b` the byte of the word after it.
 pub record Expects (word seen : List ℕ) (b : ℕ) : Type 0 where
   pub rest : List ℕ
   pub split : word ≡ seen ++ b ∷ rest
 
--- the bytes of a word stand next, or what stands in their place
+-- the next bytes are those of the word, or why they aren't
 abbrev pub ReadsWord : Result (Unit {0}) LexFault → List ℕ → ℕ → List ℕ → List ℕ → Type 0
 ReadsWord (Ok done) word offset old new = old ≡ word ++ new
 ReadsWord (Err (BadToken k)) word offset old new =

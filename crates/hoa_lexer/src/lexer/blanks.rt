@@ -12,7 +12,7 @@ impl Lexer {
     ghost use Rattle.hoa_lexer.specs.Moves.{stop_of, stop_of_next};
     ghost use Rattle.hoa_lexer.specs.inner.Steps.{AdvancesLexer, BeginsNone, ClosesComment, HoldsRead, IsSolid, SkipsBlanks, SkipsComment, StepsIn};
 
-    /// Uses blanks. Holds the byte after them, or tells by None that the text ended.
+    /// Skips blanks. Holds the byte after them, or answers None at the end of the text.
     pub(super) fn skip_blanks<I: Inputs>(&mut self, inputs: &mut I) -> Result<Option<u8>, LexFault>
         ensures answers { Tells (I.seen inputs.old) (I.seen inputs.new) (λ old new.
             SkipsBlanks result (self.old.since - held_count self.old.held) (unread self.old.held old) (unread self.new.held new)) }
@@ -37,7 +37,7 @@ impl Lexer {
         }
     }
 
-    /// Uses a comment, the first byte of which is held.
+    /// Skips a comment, the first byte of which is held.
     fn skip_comment<I: Inputs>(&mut self, inputs: &mut I) -> Result<(), LexFault>
         requires { self.old.held ≡ Some 47 }
         ensures answers { Tells (I.seen inputs.old) (I.seen inputs.new) (λ old new.
@@ -60,7 +60,7 @@ impl Lexer {
         }
     }
 
-    /// Uses the rest of a comment, the first two bytes of which were used.
+    /// Skips the rest of a comment, the first two bytes of which were used.
     fn close_comment<I: Inputs>(&mut self, inputs: &mut I) -> Result<(), LexFault>
         requires room { 1 < self.old.taken }
         requires held { self.old.held ≡ None }
@@ -76,8 +76,8 @@ impl Lexer {
         Ok(())
     }
 
-    /// One step inside comments that are open to a depth: past a byte, or past two that open or close one. Tells how
-    /// deep it is from there on.
+    /// One step inside nested comments of this depth: past a byte, or past the two bytes that open or close one. Answers the
+    /// new depth.
     fn step_in<I: Inputs>(&mut self, inputs: &mut I, depth: u64) -> Result<u64, LexFault>
         requires room { depth + held_count self.old.held < self.old.taken }
         requires inside { 0 < depth }

@@ -36,7 +36,7 @@ pub(super) fn is_word(byte: u8) -> bool
     is_letter(byte) || is_digit(byte) || byte == b'-'
 }
 
-/// How many letters, digits and `-` stand at the front.
+/// How many letters, digits and `-` the bytes begin with.
 pub(super) fn word_run(bytes: &[u8]) -> usize
     ensures run { result ≡ prefix_len kinds.is_word bytes.now }
     ensures within { result ≤ length bytes.now }

@@ -11,7 +11,7 @@ impl Lexer {
     ghost use Rattle.hoa_lexer.specs.Moves.{stop_of};
     ghost use Rattle.hoa_lexer.specs.inner.Steps.{put, AdvancesLexer, HoldsAfter, IsDashed, ReadsToken, ReadsWord};
 
-    /// Puts a word in dashes in the place of the token. Its first byte is held.
+    /// Replaces the token by `--BODY--`, `--END--` or `--ABORT--`. Its first byte is held.
     pub(super) fn dashes<I: Inputs>(
         &mut self,
         inputs: &mut I,
@@ -33,7 +33,7 @@ impl Lexer {
         }
     }
 
-    /// A word in dashes, the first two bytes of which were used.
+    /// The same, where the first two bytes, `--`, were used.
     fn dashed<I: Inputs>(&mut self, inputs: &mut I, token: &mut Token) -> Result<(), LexFault>
         requires { self.old.held ≡ None }
         ensures answers { Tells (I.seen inputs.old) (I.seen inputs.new) (λ old new.
@@ -52,7 +52,7 @@ impl Lexer {
         }
     }
 
-    /// A word in dashes of which the first letter was used.
+    /// The same, where the first letter was used, too.
     fn dashed_tail<I: Inputs>(
         &mut self,
         inputs: &mut I,
@@ -74,7 +74,7 @@ impl Lexer {
         Ok(())
     }
 
-    /// Uses the bytes of a word.
+    /// Uses the bytes of this word, and fails at the first other byte.
     fn expect<I: Inputs>(&mut self, inputs: &mut I, word: &[u8]) -> Result<(), LexFault>
         requires { self.old.held ≡ None }
         ensures answers { Tells (I.seen inputs.old) (I.seen inputs.new) (λ old new.

@@ -13,8 +13,8 @@ impl Lexer {
     ghost use Rattle.hoa_lexer.specs.Moves.{stop_of};
     ghost use Rattle.hoa_lexer.specs.inner.Steps.{put, AdvancesLexer, HoldsAfter, ReadsToken};
 
-    /// Puts an integer in the place of the token. Its first digit is held. It is refused as soon as it has no value that a `u32`
-    /// holds.
+    /// Replaces the token by an integer. Its first digit is held. It is refused at the first digit that makes it 2^32 or
+    /// more.
     pub(super) fn number<I: Inputs>(
         &mut self,
         inputs: &mut I,

@@ -1,4 +1,5 @@
-//! Bytes at hand that are read elsewhere.
+//! For a caller that finds tokens itself in the bytes at hand (already read into the inputs' buffer): these bytes, and how to
+//! skip them.
 
 ghost use Rattle.std.specs.Prelude.{◌≡◌, ◌≢◌, ◌+◌, ◌<◌, ◌≤◌, ◌++◌, [], None, length, take};
 ghost use Rattle.hoa_lexer.specs.Moves.{Elsewhere, MovesLexer};
@@ -8,7 +9,7 @@ use super::Lexer;
 use aut_io::Inputs;
 
 impl Lexer {
-    /// The bytes at hand that may still be taken. None are shown where a byte is held.
+    /// The bytes at hand, as far as the limit lets them be taken; none while a byte is held.
     #[inline]
     pub fn ahead<'a, I: Inputs>(&self, inputs: &'a I) -> &'a [u8]
         ensures front { result.now ≡ take (length result.now) (I.at_hand inputs.now) }
@@ -24,7 +25,7 @@ impl Lexer {
         &ahead[..most]
     }
 
-    /// Takes so many of the bytes at hand, the last of which is a token by itself.
+    /// Takes so many of the bytes at hand, the last of which is a token of one byte.
     #[inline]
     pub fn pass<I: Inputs>(&mut self, inputs: &mut I, count: usize)
         requires some { 0 < count }
@@ -42,7 +43,7 @@ impl Lexer {
         self.pass_token(inputs, count, 1);
     }
 
-    /// The same, where the last `size` of them are a token.
+    /// The same, where the last `size` bytes are one token.
     #[inline]
     pub fn pass_token<I: Inputs>(&mut self, inputs: &mut I, count: usize, size: usize)
         requires some { 0 < count }

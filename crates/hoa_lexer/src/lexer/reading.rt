@@ -1,4 +1,4 @@
-//! One byte after the other.
+//! Reading one byte after the other.
 
 ghost use Rattle.std.specs.Prelude.{◌≡◌, ◌+◌, ◌<◌, None, IfErr, IfOk, IsSome};
 ghost use Rattle.hoa_lexer.specs.Reading.{held_count, unread, Tells};
@@ -27,7 +27,7 @@ impl Lexer {
         Ok(self.held)
     }
 
-    /// The next byte, which is used, or None at the end of the text.
+    /// The next byte, which is consumed, or None at the end of the text.
     #[inline(always)]
     pub(super) fn take<I: Inputs>(&mut self, inputs: &mut I) -> Result<Option<u8>, LexFault>
         ensures answers { Tells (I.seen inputs.old) (I.seen inputs.new) (λ old new.
@@ -42,8 +42,8 @@ impl Lexer {
         byte
     }
 
-    /// The next byte of the inputs, which is used, or None at the end of the text. Loops over bytes ask here and hold only
-    /// the byte that ends them, so that none is stored, looked for and cleared.
+    /// The next byte of the inputs, which is consumed, or None at the end of the text. Loops over bytes call this and hold
+    /// only the byte that ends them, so that no other byte goes through `held`.
     #[inline(always)]
     pub(super) fn fetch<I: Inputs>(&mut self, inputs: &mut I) -> Result<Option<u8>, LexFault>
         requires { self.old.held ≡ None }

@@ -13,7 +13,7 @@ impl Lexer {
     ghost use Rattle.hoa_lexer.specs.Moves.{stop_of};
     ghost use Rattle.hoa_lexer.specs.inner.Steps.{put, AdvancesLexer, HoldsAfter, ReadsQuoted, ReadsToken};
 
-    /// Puts a string in the place of the token. Its first quote is held.
+    /// Replaces the token by a string. Its opening quote is held.
     pub(super) fn string<I: Inputs>(
         &mut self,
         alloc: Global,
@@ -41,7 +41,7 @@ impl Lexer {
         }
     }
 
-    /// The next byte that a string means, or None at its closing quote.
+    /// The next byte of the string, with escapes resolved, or None at its closing quote.
     fn quoted_byte<I: Inputs>(&mut self, inputs: &mut I) -> Result<Option<u8>, LexFault>
         requires { self.old.held ≡ None }
         ensures answers { Tells (I.seen inputs.old) (I.seen inputs.new) (λ old new.

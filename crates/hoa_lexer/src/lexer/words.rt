@@ -15,7 +15,7 @@ impl Lexer {
     ghost use Rattle.hoa_lexer.specs.Moves.{Elsewhere, stop_of, stop_of_next};
     ghost use Rattle.hoa_lexer.specs.inner.Steps.{put, AddsWord, AddsWords, AdvancesLexer, HoldsAfter, ReadsToken};
 
-    /// Puts an identifier or the name of a header in the place of the token. Its first byte is held.
+    /// Replaces the token by an identifier or the name of a header. Its first byte is held.
     pub(super) fn word<I: Inputs>(
         &mut self,
         alloc: Global,
@@ -48,7 +48,7 @@ impl Lexer {
         }
     }
 
-    /// Puts an alias in the place of the token. Its first byte is held.
+    /// Replaces the token by an alias. Its first byte is held.
     pub(super) fn alias<I: Inputs>(
         &mut self,
         alloc: Global,
@@ -78,8 +78,8 @@ impl Lexer {
         }
     }
 
-    /// Adds to a name all letters, digits and `-` that stand next. Holds the byte after them, or tells by None that
-    /// the text ended.
+    /// Adds all letters, digits and `-` that come next to a name. Holds the byte after them, or answers None at the end of
+    /// the text.
     fn word_bytes<I: Inputs>(
         &mut self,
         inputs: &mut I,
@@ -108,8 +108,8 @@ impl Lexer {
     }
 
     // Why so: 'Words are taken by runs' in docs/DECISIONS.md.
-    /// Adds to a name the letters, digits and `-` that stand next and are at hand, as many as may still be taken. Refused for want of
-    /// memory, it takes none of them.
+    /// Adds those of the bytes at hand that go on with the name, as many as the limit allows. Where memory is wanting, it
+    /// takes none of them.
     fn take_run<I: Inputs>(&mut self, inputs: &mut I, name: &mut Name) -> Result<(), Memory>
         requires { self.old.held ≡ None }
         ensures answers { Tells (I.seen inputs.old) (I.seen inputs.new) (λ old new.

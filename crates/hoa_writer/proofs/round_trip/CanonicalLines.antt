@@ -1,4 +1,4 @@
--- What stands in the header and in the body of a canonical text.
+-- The items of the header and of the body of a canonical text.
 use Rattle.std.proofs.Common.{slice_get, ◌≡◌, ◌==◌, ◌<◌, ◌≤◌, ◌+◌, ℕ, Bool, true, false, cond, ◌&&◌, List, [], ◌∷◌, ◌++◌, length, map, filter, get_or, refl, ap, ◌∙◌, arith, Option, Some, None}
 use Rattle.std.specs.Prelude.{codes, filter_map}
 use Rattle.std.specs.List.{AllByRecursion, cons_option, fold, list_all, range_with_len}
@@ -15,17 +15,17 @@ use Rattle.aut_base.proofs.lists.AllByRecursion.{AllByRecursion-map, AllByRecurs
 abbrev pub starting : List ℕ → List WrittenItem
 starting = map (λ s. raw.Start (s ∷ []))
 
--- the items behind the starts
+-- the items after the starts
 abbrev pub closing : Automaton → List WrittenItem
 closing a = raw.Ap (length a.names) a.names ∷ raw.Acceptance a.sets a.formula ∷ raw.Properties (codes "trans-labels" ∷ codes "explicit-labels" ∷ codes "trans-acc" ∷ []) ∷ []
 
--- what no start gives
+-- what no start item contributes to
 no_start : {Y : Type 0} (f : WrittenItem → Option Y) (starts : List ℕ) (rest : List WrittenItem) → ((s : ℕ) → f (raw.Start (s ∷ [])) ≡ None)
     → filter_map f (starting starts ++ rest) ≡ filter_map f rest
 no_start f [] rest h = refl
 no_start f (s ∷ ss) rest h = ap (λ o. cons_option o (filter_map f (starting ss ++ rest))) (h s) ∙ no_start f ss rest h
 
--- what neither the name nor a start gives
+-- what neither the name nor a start item contributes to
 pub found : {Y : Type 0} (f : WrittenItem → Option Y) (a : Automaton) (name : Option (List ℕ)) → ((text : List ℕ) → f (raw.Name text) ≡ None) → ((s : ℕ) → f (raw.Start (s ∷ [])) ≡ None)
     → filter_map f (canonical_items a name) ≡ filter_map f (raw.States a.states ∷ closing a)
 found f a None h k = ap (cons_option (f (raw.States a.states))) (no_start f a.starts (closing a) k)
@@ -62,7 +62,7 @@ pub all_starts : (p : WrittenItem → Bool) (starts : List ℕ) (rest : List Wri
 all_starts p [] rest h all = all
 all_starts p (s ∷ ss) rest h all = ap (λ b. b && list_all p (starting ss ++ rest)) (h s) ∙ all_starts p ss rest h all
 
--- how many items pass, on top of n
+-- how many items pass, plus n
 abbrev pub counted_from : (WrittenItem → Bool) → ℕ → List WrittenItem → ℕ
 counted_from p = fold (λ k x. k + cond (p x) 1 0)
 

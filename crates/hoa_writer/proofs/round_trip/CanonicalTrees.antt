@@ -12,7 +12,7 @@ use Rattle.aut_base.specs.CanonicalLabel.{canonical_label}
 use Rattle.aut_base.specs.CanonicalLabel.{canonical_label}
 use Rattle.hoa_writer.specs.CanonicalWritten.{written_label, written_labels}
 
--- a label without aliases is what it is expanded to
+-- a label without aliases is its own expansion
 mutual
   pub expanded_written : (ms : List Meaning) (t : LabelTree) → expanded ms (written_label t) ≡ t
   expanded_written ms label.True = refl

@@ -1,4 +1,5 @@
--- What the canonical text of a well-formed automaton writes describes the automaton, with each label in its canonical form.
+-- The automaton that the canonical text of a well-formed automaton spells describes that automaton, with each label in its
+-- canonical form.
 use Rattle.std.proofs.Common.{◌≡◌, ◌≢◌, ◌==◌, ◌<◌, ◌≤◌, ◌+◌, ℕ, Bool, true, false, cond, List, [], ◌∷◌, length, filter, map, get_or, refl, sym, ap, ◌∙◌, arith, AllPairs, Option, All}
 use Rattle.std.proofs.lemmas.Bool.{eqb-true}
 use Rattle.std.proofs.lemmas.List.{append-nil}
@@ -21,7 +22,7 @@ use Rattle.aut_base.specs.CanonicalLabel.{canonical, canonical_label}
 use Rattle.hoa_writer.specs.CanonicalWritten.{canonical_edge, canonical_state, canonical_written}
 use Rattle.aut_base.proofs.lists.AllByRecursion.{AllByRecursion-weaker}
 
--- what is to hold of an edge of the state q: the order of its marks is that of the sets
+-- what has to hold of an edge of the state q: its marks are in the order of the sets
 abbrev Stands : ℕ → ℕ → LabelledEdge → Type 0
 Stands q sets e = (e.from ≡ q) × (marks_in_order sets e.marks ≡ e.marks)
 

@@ -1,4 +1,4 @@
--- What the canonical text of a well-formed automaton writes keeps all rules.
+-- The automaton that the canonical text of a well-formed automaton spells keeps all rules.
 use Rattle.std.proofs.Common.{◌≡◌, ◌≢◌, ◌==◌, ◌<◌, ◌^◌, ℕ, Bool, true, false, ◌&&◌, ◌||◌, List, [], ◌∷◌, ◌++◌, length, filter, map, nat_lt, refl, sym}
 use Rattle.std.proofs.Common.{ap, ◌∙◌, subst, arith, AllPairs, Option, Some, None}
 use Rattle.std.proofs.lemmas.Bool.{eq-eqb, lt-ltb, ne_eqb}
@@ -24,7 +24,7 @@ use Rattle.aut_base.specs.CanonicalLabel.{canonical_label}
 use Rattle.hoa_writer.specs.CanonicalWritten.{canonical_edge, canonical_state, canonical_written, written_label}
 use Rattle.aut_base.proofs.lists.AllByRecursion.{AllByRecursion-map, AllByRecursion-weaker, AllByRecursion-append, AllByRecursion-flat_map, AllByRecursion-of_each}
 
--- lines that stand once
+-- items that occur once
 once : (p : WrittenItem → Bool) (k : ℕ) (a : Automaton) → ((s : ℕ) → p (WrittenItem.Start (s ∷ [])) ≡ false) → nat_le (counted_from p k (closing a)) 1 ≡ true
     → nat_le (counted_from p k (starting a.starts ++ closing a)) 1 ≡ true
 once p k a h e = ap (λ n. nat_le n 1) (no_starts_counted p k a.starts (closing a) h) ∙ e
@@ -60,7 +60,7 @@ names_counted : (a : Automaton) (name : Option (List ℕ)) → AllPairs (λ x y.
 names_counted a None h = all_starts names_agree a.starts (closing a) (λ s. refl) (two _ _ (names_differ a.names h) refl)
 names_counted a (Some text) h = all_starts names_agree a.starts (closing a) (λ s. refl) (two _ _ (names_differ a.names h) refl)
 
--- states that are named
+-- each start is one state, and each edge leads to one
 single_states : (a : Automaton) (name : Option (List ℕ)) → IsRuleKept V5 (canonical_written a name)
 single_states a name =
     let one : ℕ → List ℕ = λ s. s ∷ [] in
@@ -150,7 +150,7 @@ one_way a name =
     (λ q l. or_true (no_edge_labelled (canonical_state a q)) (all_edges_labelled (canonical_state a q))
     (every_passes (λ (e : WrittenEdge). is_some e.label) (canonical_state a q).edges (edges_at a q (λ e. is_some e.label ≡ true) (AllByRecursion-of_each _ a.edges (λ e. refl))))))
 
--- no edge goes without a label
+-- each edge has a label
 edge_has_label : (n k q : ℕ) (es : List LabelledEdge) → has_edge_per_letter n (record { label = None; number = q; marks = []; edges = map (canonical_edge k) es }) ≡ true
 edge_has_label n k q [] = refl
 edge_has_label n k q (e ∷ es) = or_true (length (map (canonical_edge k) (e ∷ es)) == 0) _ (or_true (length (map (canonical_edge k) (e ∷ es)) == 2 ^ n) true refl)

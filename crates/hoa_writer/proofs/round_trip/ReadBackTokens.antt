@@ -1,4 +1,4 @@
--- The canonical text of an automaton has tokens that spell what it writes.
+-- The tokens of a canonical text, and the automaton that they spell.
 use Rattle.std.proofs.Common.{◌≡◌, ℕ, zero, suc, ◌^◌, ◌<◌, ◌==◌, List, [], ◌∷◌, ◌++◌, map, filter, flat_map, length, get_or, Option, Some, None, All, refl, sym, subst, ◌∙◌, ap, arith}
 use Rattle.std.specs.Fmt.{decimal}
 use Rattle.std.specs.Prelude.{codes}
@@ -237,7 +237,7 @@ automaton_spelled a name few sets names w =
     let end = free_free (free_one End (codes "--END--") refl (λ rest. tt)) (free_blank 10 refl) in
     free_free (header_spelled a name few sets names w) (free_free body (free_free (states_spelled a few sets names w.edges) end))
 
--- the tokens of a text, which spell what it writes and nothing else
+-- the tokens of a text, which spell this automaton and no other
 pub record ReadsAs (text : List ℕ) (w : Written) : Type 0 where
   pub tokens : List Token
   pub lexes : HasTokens text 0 tokens

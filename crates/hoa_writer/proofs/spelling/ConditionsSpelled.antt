@@ -1,4 +1,4 @@
--- The text of an acceptance condition is spelled by a phrase of the grammar that means the condition.
+-- The text of an acceptance condition is spelled by a phrase of the grammar whose meaning is the condition.
 use Rattle.std.proofs.Common.{◌≡◌, ℕ, ◌^◌, ◌<◌, ◌≤◌, Bool, true, false, List, [], ◌∷◌, ◌++◌, refl, sym, subst, arith}
 use Rattle.std.specs.Prelude.{codes}
 use Rattle.std.proofs.lemmas.List.{append-nil}

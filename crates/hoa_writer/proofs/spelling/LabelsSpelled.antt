@@ -1,4 +1,4 @@
--- The text of cubes is spelled by a phrase of the grammar that means their tree.
+-- The text of cubes is spelled by a phrase of the grammar whose meaning is their tree.
 use Rattle.std.proofs.Common.{◌≡◌, ℕ, zero, suc, ◌+◌, ◌^◌, ◌<◌, ◌≤◌, ◌⊎◌, inl, inr, Bool, true, false, cond, List, [], ◌∷◌, ◌++◌, map, refl, sym, subst, arith}
 use Rattle.std.specs.Prelude.{codes}
 use Rattle.std.proofs.lemmas.List.{append_assoc, append-nil}
@@ -86,7 +86,7 @@ cubes_mean [] = refl
 cubes_mean ([] ∷ cs) = some_mean _ (cube_tree []) cs refl
 cubes_mean ((l ∷ ls) ∷ cs) = some_mean _ (cube_tree (l ∷ ls)) cs (cube_means l ls)
 
--- what the cubes of a truth function look like: each has literals, and their propositions are below m
+-- the cubes of a truth function: each has literals, and their propositions are below m
 
 abbrev AreBelow : ℕ → List Literal → Type 0
 AreBelow m [] = Unit {0}
@@ -97,7 +97,7 @@ AreCubes m [] = Unit {0}
 AreCubes m ([] ∷ cs) = ⊥
 AreCubes m ((l ∷ ls) ∷ cs) = (l.prop < m) × AreBelow m ls × AreCubes m cs
 
--- or an empty cube stands alone
+-- or a single empty cube
 abbrev AreTidy : ℕ → List (List Literal) → Type 0
 AreTidy m cs = (cs ≡ [] ∷ []) ⊎ AreCubes m cs
 

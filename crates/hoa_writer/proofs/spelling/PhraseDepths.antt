@@ -1,4 +1,4 @@
--- However much a phrase opens, there is a number that it opens no more than.
+-- The depth of every phrase has a bound: the number of its opening signs.
 use Rattle.std.proofs.Common.{ℕ, suc, ◌+◌, ◌≤◌, List, [], ◌∷◌, Option, Some, None, arith}
 use Rattle.std.specs.List.{AllByRecursion}
 use Rattle.hoa_parser.specs.Grammar.{Label, Lands, Lnot, Lnots, label, no_land, or_land, no_lnot, and_lnot, true_label, false_label, proposition}

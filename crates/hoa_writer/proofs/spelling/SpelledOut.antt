@@ -1,4 +1,4 @@
--- Texts that are made of spelled tokens with blanks between, and how they go together.
+-- Texts that consist of spelled tokens with blanks between them, and their concatenation.
 use Rattle.std.proofs.Common.{◌≡◌, ℕ, zero, suc, ◌+◌, ◌-◌, ◌==◌, ◌||◌, true, false, List, [], ◌∷◌, ◌++◌, map, flat_map, length, All, refl, sym, subst, ◌∙◌, ap, arith}
 use Rattle.std.proofs.lemmas.Bool.{or_parts}
 use Rattle.std.proofs.lemmas.List.{append_assoc, append-nil}
@@ -12,13 +12,13 @@ use Rattle.hoa_lexer.specs.Spelling.{Spells, IsDelimited, StopsAt, IsIdentifier}
 use Rattle.hoa_lexer.specs.declared.token.Token.{Token}
 use Rattle.hoa_lexer.specs.declared.token.Token.TheVariants.{HeaderName, Identifier, Int}
 
--- The input is these tokens, each spelled and closed, with blanks around them, and then the rest.
+-- The input is these tokens, each spelled and complete, with blanks around them, and then the rest.
 abbrev pub Spelled : List Token → List ℕ → List ℕ → Type 0
 Spelled [] input rest = (gap : List ℕ) × IsBlanks gap × (input ≡ gap ++ rest)
 Spelled (t ∷ ts) input rest =
     (before : List ℕ) × (word : List ℕ) × (next : List ℕ) × IsBlanks before × Spells t word × IsDelimited t next × (input ≡ before ++ (word ++ next)) × Spelled ts next rest
 
--- the next byte goes on with no token
+-- the next byte extends no token
 abbrev pub Stops : List ℕ → Type 0
 Stops rest = StopsAt is_word rest × StopsAt (λ b. b == 58) rest
 
@@ -26,7 +26,7 @@ Stops rest = StopsAt is_word rest × StopsAt (λ b. b == 58) rest
 pub record Free (ts : List Token) (text : List ℕ) : Type 0 where
   pub before : (rest : List ℕ) → Spelled ts (text ++ rest) rest
 
--- The text spells the tokens, where what follows goes on with none.
+-- The text spells the tokens, provided that what follows extends none.
 pub record Held (ts : List Token) (text : List ℕ) : Type 0 where
   pub before : (rest : List ℕ) → Stops rest → Spelled ts (text ++ rest) rest
 

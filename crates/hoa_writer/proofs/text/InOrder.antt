@@ -1,4 +1,4 @@
--- Numbers that stand in order, taken apart number by number.
+-- Lists in order of their numbers, split number by number.
 use Rattle.aut_base.proofs.lists.AllByRecursion.{AllByRecursion-weaker}
 use Rattle.aut_base.proofs.order.Ordered.{At, Pairs, Under, all_kept, filter_by_one, flat_map_same, none_kept, none_pass, pairs_weaker, under_more, under_zero}
 use Rattle.aut_base.specs.Marks.{is_in}
@@ -34,7 +34,7 @@ by_numbers key (suc n) xs h =
     flat_map-append (λ q. At key q xs) (below n) (n ∷ [])
     ∙ (ap (λ ys. ys ++ (At key n xs ++ [])) (by_numbers key n xs h) ∙ (ap (λ ys. Under key n xs ++ ys) (append-nil (At key n xs)) ∙ under_more key n xs h))
 
--- a list in order of numbers below n, put together number by number
+-- a list in order of numbers below n is the concatenation, number by number, of its items of that number
 pub number_by_number : {X : Type 0} (key : X → ℕ) (n : ℕ) (xs : List X) → Pairs (λ x y. key x ≤ key y) xs → AllByRecursion (λ x. key x < n) xs
     → flat_map (λ q. filter (λ x. key x == q) xs) (below n) ≡ xs
 number_by_number key n xs h all =

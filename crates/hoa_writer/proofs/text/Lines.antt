@@ -1,4 +1,4 @@
--- The lines of a state are those of the links that leave it.
+-- The lines of a state are those of the edges that leave it.
 use Rattle.std.proofs.Common.{◌≡◌, ◌==◌, ◌+◌, ◌∙◌, ℕ, sym, ap, refl, List, [], ◌∷◌, ◌++◌, map, filter, take, length, get_or, All, subst, ◌<◌, ◌≤◌}
 use Rattle.std.proofs.lemmas.List.{append_assoc, take_all}
 use Rattle.std.proofs.lemmas.List.Elements.{All-filter}
@@ -18,14 +18,14 @@ links_written : (s : Store) (ls : List Link) → flat_map (edge_line s.names) (m
 links_written s [] = refl
 links_written s (l ∷ ls) = ap (λ text. link_line s l ++ text) (links_written s ls)
 
--- a link that leaves a state has a guard of the store
+-- an edge that leaves a state has a guard of the store
 pub link_has_guard : (c : SymbolicAutomaton) (q i : ℕ) (ls : List Link) (l : Link) → All (IsLinkOf c) c.links → ls ≡ filter (λ k. k.from == q) c.links → i < length ls → l ≡ get_or ls i l
     → Has c.store l.guard
 link_has_guard c q i ls l all same within is =
     let mine : All (IsLinkOf c) ls = subst (All (IsLinkOf c)) (sym same) (All-filter (λ k. k.from == q) (IsLinkOf c) c.links all) in
     (subst (IsLinkOf c) (sym is) (mine i l within)).guard
 
--- the lines of the links that leave a state are those of its edges
+-- the lines that are written of a state's edges are those that its edges have in the definition
 pub edges_written : (c : SymbolicAutomaton) (q i : ℕ) (ls : List Link) (old new : List ℕ) → length c.names ≡ c.store.names → ls ≡ filter (λ k. k.from == q) c.links → length ls ≤ i
     → new ≡ old ++ flat_map (link_line c.store) (take i ls) → new ≡ old ++ flat_map (edge_line (length c.names)) (filter (λ e. e.from == q) (automaton_of c).edges)
 edges_written c q i ls old new names same end so =
@@ -34,7 +34,7 @@ edges_written c q i ls old new names same end so =
     so ∙ ap (λ ks. old ++ flat_map (link_line c.store) ks) (take_all i ls end ∙ same) ∙ ap (λ text. old ++ text) (sym edges)
     ∙ ap (λ n. old ++ flat_map (edge_line n) (filter (λ (e : LabelledEdge). e.from == q) (automaton_of c).edges)) (sym names)
 
--- one more state
+-- another state
 pub state_written : (a : Automaton) (q : ℕ) (old now step new : List ℕ) → now ≡ old ++ flat_map (state_lines a) (range_with_len 0 q) → step ≡ now ++ line (codes "State: " ++ decimal q)
     → new ≡ step ++ flat_map (edge_line (length a.names)) (filter (λ e. e.from == q) a.edges) → new ≡ old ++ flat_map (state_lines a) (range_with_len 0 (q + 1))
 state_written a q old now step new so head edges =

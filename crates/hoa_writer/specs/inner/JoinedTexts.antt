@@ -1,9 +1,9 @@
--- Texts that are made of pieces.
+-- The parts of a condition, joined by a separator.
 use Rattle.std.specs.Prelude.{ℕ, List, [], ◌∷◌, ◌++◌, flat_map}
 use Rattle.aut_base.specs.Formula.{FormulaTree}
 use Rattle.hoa_writer.specs.CanonicalText.{formula_text, part}
 
--- a part of a condition, as it stands there
+-- a part of a condition, in parentheses where it needs them
 abbrev pub part_text : FormulaTree → List ℕ
 part_text f = part f (formula_text f)
 

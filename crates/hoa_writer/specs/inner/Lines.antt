@@ -1,4 +1,4 @@
--- Lines of the text, as the writer goes along.
+-- Lines of the text, as the writer adds them.
 use Rattle.std.specs.Prelude.{ℕ, List, ◌++◌, flat_map, length, codes}
 use Rattle.std.specs.Fmt.{decimal}
 use Rattle.aut_base.specs.LabelText.{label_text}

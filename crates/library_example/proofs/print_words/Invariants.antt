@@ -1,4 +1,4 @@
--- The lexer met no fault.
+-- The lexer has had no fault.
 use Rattle.std.proofs.Common.{◌≡◌, false}
 use Rattle.library_example.proofs.print_words.Given as goal
 

@@ -5,7 +5,7 @@ use Rattle.autfilt_run.specs.Points.{open_count, operands_in}
 use Rattle.plan_meaning.specs.Complements.{AreComplementsKept}
 use Rattle.autfilt_run.proofs.command.take_steps.Given as goal
 
--- The events happened so far, and what is kept of complements is that of the operands.
+-- The events happened so far, and the stored complements are those of the operands.
 abbrev pub invariant-steps : goal.invariant-steps
 invariant-steps g l =
     IsRunning l.fn.session l.session (g.I.Inputs.seen l.fn.inputs) (g.I.Inputs.seen l.inputs) (g.W.Sink.seen l.fn.out) (g.W.Sink.seen l.out) (g.M.Sink.seen l.fn.notes)

@@ -1,4 +1,4 @@
--- What is written so far begins the line, and what was counted is so.
+-- The pieces so far are written, and stored counts are right.
 use Rattle.std.proofs.Common.{drop}
 use Rattle.std.specs.Prelude.{IfSome}
 use Rattle.aut_core.specs.SymbolicAutomata.{automaton_of}

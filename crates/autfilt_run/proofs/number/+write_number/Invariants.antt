@@ -1,4 +1,4 @@
--- Each call has a digit less to write.
+-- Each call has one digit less to write.
 use Rattle.autfilt_run.proofs.number.+write_number.Given as goal
 
 abbrev pub decreases-write_number : goal.decreases-write_number

@@ -1,4 +1,4 @@
--- Each part is smaller than the whole, and the parts so far are written.
+-- Each part is smaller than the whole, and the parts before this one are written.
 use Rattle.std.proofs.Common.{◌≡◌, ◌+◌, ◌*◌, ◌++◌, take}
 use Rattle.aut_base.specs.Formula.{formula_list, formula_size, formula_tree, formulas_size, trees}
 use Rattle.hoa_writer.specs.inner.JoinedTexts.{list_text}

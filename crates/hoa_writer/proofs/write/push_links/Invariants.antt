@@ -1,4 +1,4 @@
--- The links so far are written.
+-- The edges before this one are written.
 use Rattle.std.proofs.Common.{◌≡◌, ◌++◌, take}
 use Rattle.std.specs.List.{flat_map}
 use Rattle.hoa_writer.specs.inner.Lines.{link_line}

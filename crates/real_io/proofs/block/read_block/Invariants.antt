@@ -1,4 +1,4 @@
--- No read that was tried gave anything.
+-- None of the reads so far gave a byte.
 use Rattle.std.proofs.Common.{◌≡◌, ◌-◌, ◌^◌, length}
 use Rattle.std.specs.Io.KnownBytes.{Keeps}
 use Rattle.real_io.proofs.block.read_block.Given as goal

@@ -9,7 +9,7 @@ invariant-operands g l = IsPreparing l.fn.self l.self (g.I.Inputs.seen l.fn.inpu
     × (l.self.lexer.spent ≡ false) × (l.self.lexer.held ≡ None) × (l.self.is_open ≡ true → length l.self.operands < length (operands l.self.plan))
     × (l.self.tried ≡ length l.self.operands + open_count l.self.is_open)
 
--- A turn opens a file, or takes an operand of it.
+-- A turn opens a file, or takes an operand from it.
 abbrev pub decreases-operands : goal.decreases-operands
 decreases-operands g l =
     let left = length (operands l.self.plan) - length l.self.operands in

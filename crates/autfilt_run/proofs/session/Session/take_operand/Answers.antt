@@ -64,7 +64,7 @@ returns-in-Aborted-clause-turns g c =
       keeps = record { plan = refl; most = said.moves.most; opened = refl; kept = refl; stage = refl };
     }
 
--- the automaton could not be kept
+-- memory was wanting for the list of operands
 pub returns-in_err-push-in-Whole-clause-turns : goal.returns-in_err-push-in-Whole-clause-turns
 returns-in_err-push-in-Whole-clause-turns g c =
     let s = g.I.Inputs.seen c.args.inputs.now in

@@ -7,7 +7,7 @@ use Rattle.hoa_lexer.specs.Reading.{held_count, unread, Between}
 use Rattle.hoa_lexer.specs.inner.Steps.{BeginsNone, Peeks, PassesBlanks, SkipsBlanks}
 use Rattle.hoa_lexer.proofs.lexer.Lexer.skip_blanks.Goals as goal
 
--- a `/` behind blanks
+-- a `/` after blanks
 slash_behind : {o : Option ℕ} (old at read : Option (List ℕ)) (held held' : Option ℕ) → o ≡ Some 47 → Between old at (λ x y. PassesBlanks (unread held x) (unread held' y))
     → Between at read (λ y z. Peeks (Ok o) (unread held' y) z) → Between old read (λ x z. PassesBlanks (unread held x) (47 ∷ z))
 slash_behind old at read held held' is blanks peeks = between_then old at read _ _ _ (λ x y z p q. blanks_to 47 _ _ z p (byte_read _ 47 _ z is q)) blanks peeks

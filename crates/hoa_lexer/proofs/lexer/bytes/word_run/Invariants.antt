@@ -1,4 +1,4 @@
--- All so far go on with a word, and the rest is to be counted.
+-- All bytes so far are letters, digits or `-`, and the rest is to be counted.
 use Rattle.std.proofs.Common.{◌≡◌, ◌+◌, drop}
 use Rattle.std.specs.List.{prefix_len}
 use Rattle.hoa_lexer.specs.Bytes.{is_word}

@@ -1,4 +1,4 @@
--- The name of standard input is text.
+-- The name of standard input is UTF-8.
 use Rattle.std.proofs.Common.{IsUtf8, [], ◌∷◌, refl, subst, sym}
 use Rattle.real_io.specs.Opening.{standard_name}
 use Rattle.real_io.proofs.inputs.RealInputsInputs.open.Goals as goal
