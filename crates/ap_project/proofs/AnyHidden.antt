@@ -76,10 +76,10 @@ module _ (name : List ℕ) (a h : Automaton) (is : IsHidden Any name a h) where
   -- a path of a over letters that agree off the name
   record Chosen (p : ℕ) (xs : List NameSet) (es : List LabelledEdge) (q : ℕ) : Type 0 where
     letters : List NameSet
-    way : List LabelledEdge
+    path_edges : List LabelledEdge
     same : Related (SameBut name) xs letters
-    leads : IsPath a p letters way q
-    marks : map (λ (e : LabelledEdge). e.marks) way ≡ map (λ (e : LabelledEdge). e.marks) es
+    leads : IsPath a p letters path_edges q
+    marks : map (λ (e : LabelledEdge). e.marks) path_edges ≡ map (λ (e : LabelledEdge). e.marks) es
 
   record Letter (x : NameSet) (l : LabelTree) : Type 0 where
     letter : NameSet
@@ -93,7 +93,7 @@ module _ (name : List ℕ) (a h : Automaton) (is : IsHidden Any name a h) where
   ]
 
   chosen : (p q : ℕ) (xs : List NameSet) (es : List LabelledEdge) → IsPath h p xs es q → Chosen p xs es q
-  chosen p q [] [] path = record { letters = []; way = []; same = tt; leads = path; marks = refl }
+  chosen p q [] [] path = record { letters = []; path_edges = []; same = tt; leads = path; marks = refl }
   chosen p q [] (e ∷ es) path = absurd path
   chosen p q (x ∷ xs) [] path = absurd path
   chosen p q (x ∷ xs) (e ∷ es) path =
@@ -102,38 +102,38 @@ module _ (name : List ℕ) (a h : Automaton) (is : IsHidden Any name a h) where
       let rest = chosen e.to q xs es path.3 in
       record {
         letters = one.letter ∷ rest.letters;
-        way = old.edge ∷ rest.way;
+        path_edges = old.edge ∷ rest.path_edges;
         same = (one.same, rest.same);
-        leads = (path.0 ∙ sym old.twin.from, old.there, one.holds, subst (λ r. IsPath a r rest.letters rest.way q) (sym old.twin.to) rest.leads);
+        leads = (path.0 ∙ sym old.twin.from, old.there, one.holds, subst (λ r. IsPath a r rest.letters rest.path_edges q) (sym old.twin.to) rest.leads);
         marks = cc (old.twin.marks, rest.marks);
       }
 
   choose : (u v : List NameSet) → Accepts h u v → SomeSays name (λ x y. Accepts a x y) u v
   choose u v r =
-      let stem = u ++ copies r.turns v in
-      let round = copies r.rounds v in
-      let way = chosen r.start r.state stem r.way r.leads in
+      let stem = u ++ copies r.stem_rounds v in
+      let round = copies r.cycle_rounds v in
+      let path_edges = chosen r.start r.state stem r.path_edges r.leads in
       let cycle = chosen r.state r.state round r.cycle r.returns in
-      let wide : r.rounds ≤ r.rounds * length v = le-mul_of_pos_right r.rounds r.endless in
-      let some : 0 < length round = omega (arith, r.positive, wide, length-copies r.rounds v) in
+      let wide : r.cycle_rounds ≤ r.cycle_rounds * length v = le-mul_of_pos_right r.cycle_rounds r.endless in
+      let some : 0 < length round = omega (arith, r.positive, wide, length-copies r.cycle_rounds v) in
       record {
-        stem = way.letters;
+        stem = path_edges.letters;
         cycle = cycle.letters;
         some = omega (arith, some, as_many (SameBut name) round cycle.letters cycle.same);
-        same = λ n s t first second. related_letters (SameBut name) stem round way.letters cycle.letters way.same cycle.same some n s t
-            (sym (unrolled r.turns r.rounds u v r.endless some n) ∙ first) second;
+        same = λ n s t first second. related_letters (SameBut name) stem round path_edges.letters cycle.letters path_edges.same cycle.same some n s t
+            (sym (unrolled r.stem_rounds r.cycle_rounds u v r.endless some n) ∙ first) second;
         said = record {
           endless = omega (arith, some, as_many (SameBut name) round cycle.letters cycle.same);
           start = r.start;
           state = r.state;
-          turns = 0;
-          rounds = 1;
-          way = way.way;
-          cycle = cycle.way;
+          stem_rounds = 0;
+          cycle_rounds = 1;
+          path_edges = path_edges.path_edges;
+          cycle = cycle.path_edges;
           is_start = subst (λ ss. Contains ss r.start) is.starts r.is_start;
-          leads = subst (λ w. IsPath a r.start w way.way r.state) (sym (append-nil way.letters)) way.leads;
+          leads = subst (λ w. IsPath a r.start w path_edges.path_edges r.state) (sym (append-nil path_edges.letters)) path_edges.leads;
           positive = omega arith;
-          returns = subst (λ w. IsPath a r.state w cycle.way r.state) (sym (append-nil cycle.letters)) cycle.leads;
+          returns = subst (λ w. IsPath a r.state w cycle.path_edges r.state) (sym (append-nil cycle.letters)) cycle.leads;
           meets = ap (λ marks. met marks a.formula) cycle.marks ∙ (ap (met (map (λ (e : LabelledEdge). e.marks) r.cycle)) (sym is.formula) ∙ r.meets);
         };
       }

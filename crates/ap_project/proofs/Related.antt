@@ -51,12 +51,12 @@ map_related R f is (x ∷ xs) = (is x, map_related R f is xs)
 -- the letters of lasso words
 pub related_letters : (R : NameSet → NameSet → Type 0) (u v x y : List NameSet) → Related R u x → Related R v y → 0 < length v → (n : ℕ) (a b : NameSet) → letter_at u v n ≡ Some a
     → letter_at x y n ≡ Some b → R a b
-related_letters R u v x y stems rounds some n a b first second =
-    let long = as_many R v y rounds in
+related_letters R u v x y stems cycle_rounds some n a b first second =
+    let long = as_many R v y cycle_rounds in
     let some_y : 0 < length y = omega (arith, long, some) in
     let one = covers (suc n) u v some in
     let two = covers (suc n) x y some_y in
-    related_at R (u ++ copies (suc n) v) (x ++ copies (suc n) y) (related_append R u x (copies (suc n) v) (copies (suc n) y) stems (related_copies R (suc n) v y rounds)) n a b
+    related_at R (u ++ copies (suc n) v) (x ++ copies (suc n) y) (related_append R u x (copies (suc n) v) (copies (suc n) y) stems (related_copies R (suc n) v y cycle_rounds)) n a b
     (sym (letter_in u v (suc n) n some (omega (arith, one))) ∙ first) (sym (letter_in x y (suc n) n some_y (omega (arith, two))) ∙ second)
 
 pub some_letter : (u v : List NameSet) (n : ℕ) → 0 < length v → (a : NameSet) × (letter_at u v n ≡ Some a)
@@ -80,12 +80,12 @@ abbrev pub Carries : (NameSet → NameSet → Type 0) → Automaton → Automato
 Carries R a b = (e : LabelledEdge) (x y : NameSet) → R x y → Contains a.edges e → truth (holds_at a.names x) e.label ≡ true → Forth b e y
 
 record Carried (b : Automaton) (p : ℕ) (ys : List NameSet) (es : List LabelledEdge) (q : ℕ) : Type 0 where
-  way : List LabelledEdge
-  leads : IsPath b p ys way q
-  marks : map (λ (e : LabelledEdge). e.marks) way ≡ map (λ (e : LabelledEdge). e.marks) es
+  path_edges : List LabelledEdge
+  leads : IsPath b p ys path_edges q
+  marks : map (λ (e : LabelledEdge). e.marks) path_edges ≡ map (λ (e : LabelledEdge). e.marks) es
 
 carried : (R : NameSet → NameSet → Type 0) (a b : Automaton) → Carries R a b → (p q : ℕ) (xs ys : List NameSet) (es : List LabelledEdge) → Related R xs ys → IsPath a p xs es q → Carried b p ys es q
-carried R a b carries p q [] [] [] are path = record { way = []; leads = path; marks = refl }
+carried R a b carries p q [] [] [] are path = record { path_edges = []; leads = path; marks = refl }
 carried R a b carries p q [] [] (e ∷ es) are path = absurd path
 carried R a b carries p q [] (y ∷ ys) es are path = absurd are
 carried R a b carries p q (x ∷ xs) [] es are path = absurd are
@@ -94,27 +94,27 @@ carried R a b carries p q (x ∷ xs) (y ∷ ys) (e ∷ es) are path =
     let step = carries e x y are.0 path.1 path.2 in
     let rest = carried R a b carries e.to q xs ys es are.1 path.3 in
     record {
-      way = step.edge ∷ rest.way;
-      leads = (path.0 ∙ sym step.twin.from, step.there, step.holds, subst (λ r. IsPath b r ys rest.way q) (sym step.twin.to) rest.leads);
+      path_edges = step.edge ∷ rest.path_edges;
+      leads = (path.0 ∙ sym step.twin.from, step.there, step.holds, subst (λ r. IsPath b r ys rest.path_edges q) (sym step.twin.to) rest.leads);
       marks = cc (step.twin.marks, rest.marks);
     }
 
 pub accepts_carried : (R : NameSet → NameSet → Type 0) (a b : Automaton) → Carries R a b → ((s : ℕ) → Contains a.starts s → Contains b.starts s) → a.formula ≡ b.formula
     → (u v x y : List NameSet) → Related R u x → Related R v y → Accepts a u v → Accepts b x y
-accepts_carried R a b carries starts formula u v x y stems rounds r =
-    let way = carried R a b carries r.start r.state (u ++ copies r.turns v) (x ++ copies r.turns y) r.way
-    (related_append R u x (copies r.turns v) (copies r.turns y) stems (related_copies R r.turns v y rounds)) r.leads in
-    let cycle = carried R a b carries r.state r.state (copies r.rounds v) (copies r.rounds y) r.cycle (related_copies R r.rounds v y rounds) r.returns in
+accepts_carried R a b carries starts formula u v x y stems cycle_rounds r =
+    let path_edges = carried R a b carries r.start r.state (u ++ copies r.stem_rounds v) (x ++ copies r.stem_rounds y) r.path_edges
+    (related_append R u x (copies r.stem_rounds v) (copies r.stem_rounds y) stems (related_copies R r.stem_rounds v y cycle_rounds)) r.leads in
+    let cycle = carried R a b carries r.state r.state (copies r.cycle_rounds v) (copies r.cycle_rounds y) r.cycle (related_copies R r.cycle_rounds v y cycle_rounds) r.returns in
     record {
-      endless = omega (arith, r.endless, as_many R v y rounds);
+      endless = omega (arith, r.endless, as_many R v y cycle_rounds);
       start = r.start;
       state = r.state;
-      turns = r.turns;
-      rounds = r.rounds;
-      way = way.way;
-      cycle = cycle.way;
+      stem_rounds = r.stem_rounds;
+      cycle_rounds = r.cycle_rounds;
+      path_edges = path_edges.path_edges;
+      cycle = cycle.path_edges;
       is_start = starts r.start r.is_start;
-      leads = way.leads;
+      leads = path_edges.leads;
       positive = r.positive;
       returns = cycle.leads;
       meets = ap (λ marks. met marks b.formula) cycle.marks ∙ (ap (met (map (λ (e : LabelledEdge). e.marks) r.cycle)) (sym formula) ∙ r.meets);

@@ -16,19 +16,19 @@ IsPath a p (x ∷ xs) (e ∷ es) q =
     (p ≡ e.from) × Contains a.edges e × (truth (holds_at a.names x) e.label ≡ true) × IsPath a e.to xs es q
 
 -- The automaton accepts the lasso word, whose cycle isn't empty: a path from a start reads the stem and then the cycle
--- `turns` times, and one from its end back to that end reads the cycle `rounds` times and meets the acceptance condition.
+-- `stem_rounds` times, and one from its end back to that end reads the cycle `cycle_rounds` times and meets the acceptance condition.
 pub record Accepts (a : Automaton) (u v : List NameSet) : Type 0 where
   pub endless : 0 < length v
   pub start : ℕ
   pub state : ℕ
-  pub turns : ℕ
-  pub rounds : ℕ
-  pub way : List LabelledEdge
+  pub stem_rounds : ℕ
+  pub cycle_rounds : ℕ
+  pub path_edges : List LabelledEdge
   pub cycle : List LabelledEdge
   pub is_start : Contains a.starts start
-  pub leads : IsPath a start (u ++ copies turns v) way state
-  pub positive : 0 < rounds
-  pub returns : IsPath a state (copies rounds v) cycle state
+  pub leads : IsPath a start (u ++ copies stem_rounds v) path_edges state
+  pub positive : 0 < cycle_rounds
+  pub returns : IsPath a state (copies cycle_rounds v) cycle state
   pub meets : met (map (λ e. e.marks) cycle) a.formula ≡ true
 
 -- Lasso words that spell the same infinite word are accepted alike, by every automaton.

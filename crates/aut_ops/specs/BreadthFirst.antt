@@ -11,8 +11,8 @@ LeadsBy next x (z ∷ zs) y = Contains (next x) z × LeadsBy next z zs y
 pub record IsReachedFrom {X : Type 0} (starts : List X) (next : X → List X) (y : X) : Type 0 where
   pub start : X
   pub is_start : Contains starts start
-  pub way : List X
-  pub leads : LeadsBy next start way y
+  pub path : List X
+  pub leads : LeadsBy next start path y
 
 -- the items in the order of their first occurrence, each once
 abbrev pub once : {X : Type 0} → (X → X → Bool) → List X → List X

@@ -33,9 +33,9 @@ pub record AreLedTo (a b : Automaton) (pair : ℕ × ℕ) : Type 0 where
   pub second : ℕ
   pub is_first : Contains a.starts first
   pub is_second : Contains b.starts second
-  pub way : List LabelledEdge
+  pub path_edges : List LabelledEdge
   pub other : List LabelledEdge
-  pub leads : IsPath a first letters way pair.0
+  pub leads : IsPath a first letters path_edges pair.0
   pub leads_too : IsPath b second letters other pair.1
 
 -- The pairs that are reached are those to which one list of letters leads in both automata.

@@ -51,31 +51,31 @@ round_below ls level (e ∷ es) below = round_below ls (level_after (Some ls) le
 -- some rounds of a cycle that begin and end at one level, and have the mark
 record ClosedRounds (ls : List Literal) (level : ℕ) (es : List LabelledEdge) : Type 0 where
   before : ℕ
-  rounds : ℕ
-  positive : 0 < rounds
-  back : turn ls (turn ls level (copies before es)) (copies rounds es) ≡ turn ls level (copies before es)
-  mark : marked ls (turn ls level (copies before es)) (copies rounds es) ≡ true
+  cycle_rounds : ℕ
+  positive : 0 < cycle_rounds
+  back : turn ls (turn ls level (copies before es)) (copies cycle_rounds es) ≡ turn ls level (copies before es)
+  mark : marked ls (turn ls level (copies before es)) (copies cycle_rounds es) ≡ true
 
 closed_rounds : (ls : List Literal) (level : ℕ) (es : List LabelledEdge) → level < literal_places ls → PassesAll ls es → ClosedRounds ls level es
 closed_rounds ls level es below passes =
     let found = pigeons (literal_places ls) (λ i. turn ls level (copies i es)) (suc (literal_places ls)) (omega arith) (λ i within. round_below ls level (copies i es) below) in
     let later = found.later in
-    let rounds : ℕ = found.second - found.first in
-    let all : found.first + rounds ≡ found.second = omega arith in
-    let some : 0 < rounds = omega arith in
+    let cycle_rounds : ℕ = found.second - found.first in
+    let all : found.first + cycle_rounds ≡ found.second = omega arith in
+    let some : 0 < cycle_rounds = omega arith in
     let at : ℕ = turn ls level (copies found.first es) in
     let here : at < literal_places ls = round_below ls level (copies found.first es) below in
-    let back : turn ls at (copies rounds es) ≡ at = sym (turn_then ls level (copies found.first es) (copies rounds es))
-    ∙ (ap (turn ls level) (sym (copies-add found.first rounds es) ∙ ap (λ n. copies n es) all) ∙ sym found.same) in
-    let met : met_on ls at (copies rounds es) ≡ true = any-copies (λ (e : LabelledEdge). meets_at ls at e.marks) rounds es some ∙ passed_on ls at es (passes at here) in
+    let back : turn ls at (copies cycle_rounds es) ≡ at = sym (turn_then ls level (copies found.first es) (copies cycle_rounds es))
+    ∙ (ap (turn ls level) (sym (copies-add found.first cycle_rounds es) ∙ ap (λ n. copies n es) all) ∙ sym found.same) in
+    let met : met_on ls at (copies cycle_rounds es) ≡ true = any-copies (λ (e : LabelledEdge). meets_at ls at e.marks) cycle_rounds es some ∙ passed_on ls at es (passes at here) in
     record {
       before = found.first;
-      rounds = rounds;
+      cycle_rounds = cycle_rounds;
       positive = some;
       back = back;
-      mark = elim (cases_Bool (marked ls at (copies rounds es))) [
+      mark = elim (cases_Bool (marked ls at (copies cycle_rounds es))) [
         | inl there ↦ there
-        | inr none ↦ absurd (false≢true (sym ((rises ls at (copies rounds es) here none).still back) ∙ met))
+        | inr none ↦ absurd (false≢true (sym ((rises ls at (copies cycle_rounds es) here none).still back) ∙ met))
       ];
     }
 
@@ -84,43 +84,45 @@ module _ (k : ℕ) (watch : ℕ → Watch) (a : Automaton) (has : HasRoom k watc
   by_levels_at : (u v : List NameSet) (r : Accepts a u v) (ls : List Literal) → watch r.state ≡ Some ls → Accepts (with_counters k watch a) u v
   by_levels_at u v r ls waits =
       let start_below : 0 < levels (watch r.start) = some_level (watch r.start) in
-      let level : ℕ = end_level watch 0 r.way in
-      let below : level < literal_places ls = subst (λ (w : Watch). level < levels w) waits (end_below k watch a has r.start r.state 0 (u ++ copies r.turns v) r.way start_below r.leads) in
-      let some = some_edges a r.state r.state r.rounds v r.cycle r.endless r.positive r.returns in
-      let passes = (asks.waits r.state ls (copies r.rounds v) r.cycle some r.returns waits).0 r.meets in
+      let level : ℕ = end_level watch 0 r.path_edges in
+      let below : level < literal_places ls = subst (λ (w : Watch). level < levels w) waits
+      (end_below k watch a has r.start r.state 0 (u ++ copies r.stem_rounds v) r.path_edges start_below r.leads) in
+      let some = some_edges a r.state r.state r.cycle_rounds v r.cycle r.endless r.positive r.returns in
+      let passes = (asks.waits r.state ls (copies r.cycle_rounds v) r.cycle some r.returns waits).0 r.meets in
       let closed = closed_rounds ls level r.cycle below passes in
       let i = closed.before in
-      let d = closed.rounds in
-      let round = path_copies a r.state i (copies r.rounds v) r.cycle r.returns in
-      let again = path_copies a r.state d (copies r.rounds v) r.cycle r.returns in
-      let along = waits_along k watch a has r.state r.state (copies i (copies r.rounds v)) (copies i r.cycle) ls round waits in
-      let along_again = waits_along k watch a has r.state r.state (copies d (copies r.rounds v)) (copies d r.cycle) ls again waits in
+      let d = closed.cycle_rounds in
+      let round = path_copies a r.state i (copies r.cycle_rounds v) r.cycle r.returns in
+      let again = path_copies a r.state d (copies r.cycle_rounds v) r.cycle r.returns in
+      let along = waits_along k watch a has r.state r.state (copies i (copies r.cycle_rounds v)) (copies i r.cycle) ls round waits in
+      let along_again = waits_along k watch a has r.state r.state (copies d (copies r.cycle_rounds v)) (copies d r.cycle) ls again waits in
       let at : ℕ = turn ls level (copies i r.cycle) in
-      let way : List LabelledEdge = r.way ++ copies i r.cycle in
-      let ends : end_level watch 0 way ≡ at = end_then watch 0 r.way (copies i r.cycle) ∙ end_is_turn watch ls level (copies i r.cycle) along in
+      let path_edges : List LabelledEdge = r.path_edges ++ copies i r.cycle in
+      let ends : end_level watch 0 path_edges ≡ at = end_then watch 0 r.path_edges (copies i r.cycle) ∙ end_is_turn watch ls level (copies i r.cycle) along in
       let ends_again : end_level watch at (copies d r.cycle) ≡ at = end_is_turn watch ls at (copies d r.cycle) along_again ∙ closed.back in
       let at_below : at < levels (watch r.state) = subst (λ (w : Watch). at < levels w) (sym waits) (round_below ls level (copies i r.cycle) below) in
-      let word : (u ++ copies r.turns v) ++ copies i (copies r.rounds v) ≡ u ++ copies (r.turns + i * r.rounds) v =
-      ap (λ (w : List NameSet). (u ++ copies r.turns v) ++ w) (copies-copies i r.rounds v) ∙ gone_on u v r.turns (i * r.rounds) in
-      let leads : IsPath a r.start (u ++ copies (r.turns + i * r.rounds) v) way r.state =
-      subst (λ (w : List NameSet). IsPath a r.start w way r.state) word
-      (path_join a r.start r.state r.state (u ++ copies r.turns v) (copies i (copies r.rounds v)) r.way (copies i r.cycle) r.leads round) in
-      let returns : IsPath a r.state (copies (d * r.rounds) v) (copies d r.cycle) r.state =
-      subst (λ (w : List NameSet). IsPath a r.state w (copies d r.cycle) r.state) (copies-copies d r.rounds v) again in
-      let walk_leads = walk_path k watch a has r.start r.state 0 (u ++ copies (r.turns + i * r.rounds) v) way start_below leads in
-      let walk_returns = walk_path k watch a has r.state r.state at (copies (d * r.rounds) v) (copies d r.cycle) at_below returns in
+      let word : (u ++ copies r.stem_rounds v) ++ copies i (copies r.cycle_rounds v) ≡ u ++ copies (r.stem_rounds + i * r.cycle_rounds) v =
+      ap (λ (w : List NameSet). (u ++ copies r.stem_rounds v) ++ w) (copies-copies i r.cycle_rounds v) ∙ gone_on u v r.stem_rounds (i * r.cycle_rounds) in
+      let leads : IsPath a r.start (u ++ copies (r.stem_rounds + i * r.cycle_rounds) v) path_edges r.state =
+      subst (λ (w : List NameSet). IsPath a r.start w path_edges r.state) word
+      (path_join a r.start r.state r.state (u ++ copies r.stem_rounds v) (copies i (copies r.cycle_rounds v)) r.path_edges (copies i r.cycle) r.leads round) in
+      let returns : IsPath a r.state (copies (d * r.cycle_rounds) v) (copies d r.cycle) r.state =
+      subst (λ (w : List NameSet). IsPath a r.state w (copies d r.cycle) r.state) (copies-copies d r.cycle_rounds v) again in
+      let walk_leads = walk_path k watch a has r.start r.state 0 (u ++ copies (r.stem_rounds + i * r.cycle_rounds) v) path_edges start_below leads in
+      let walk_returns = walk_path k watch a has r.state r.state at (copies (d * r.cycle_rounds) v) (copies d r.cycle) at_below returns in
       record {
         endless = r.endless;
         start = state_at k r.start 0;
         state = state_at k r.state at;
-        turns = r.turns + i * r.rounds;
-        rounds = d * r.rounds;
-        way = walk k watch 0 way;
+        stem_rounds = r.stem_rounds + i * r.cycle_rounds;
+        cycle_rounds = d * r.cycle_rounds;
+        path_edges = walk k watch 0 path_edges;
         cycle = walk k watch at (copies d r.cycle);
         is_start = there_map (λ start. state_at k start 0) a.starts r.start r.is_start;
-        leads = subst (λ (l : ℕ). IsPath (with_counters k watch a) (state_at k r.start 0) (u ++ copies (r.turns + i * r.rounds) v) (walk k watch 0 way) (state_at k r.state l)) ends walk_leads;
-        positive = mul-lt 0 0 d r.rounds closed.positive r.positive;
-        returns = subst (λ (l : ℕ). IsPath (with_counters k watch a) (state_at k r.state at) (copies (d * r.rounds) v) (walk k watch at (copies d r.cycle)) (state_at k r.state l)) ends_again
+        leads = subst (λ (l : ℕ). IsPath (with_counters k watch a) (state_at k r.start 0) (u ++ copies (r.stem_rounds + i * r.cycle_rounds) v) (walk k watch 0 path_edges)
+            (state_at k r.state l)) ends walk_leads;
+        positive = mul-lt 0 0 d r.cycle_rounds closed.positive r.positive;
+        returns = subst (λ (l : ℕ). IsPath (with_counters k watch a) (state_at k r.state at) (copies (d * r.cycle_rounds) v) (walk k watch at (copies d r.cycle)) (state_at k r.state l)) ends_again
             walk_returns;
         meets = marks_are_marked k watch ls at (copies d r.cycle) along_again ∙ closed.mark;
       }
@@ -129,33 +131,36 @@ module _ (k : ℕ) (watch : ℕ → Watch) (a : Automaton) (has : HasRoom k watc
   by_levels u v r = by_watch (watch r.state) refl
     where
       by_watch : (w : Watch) → w ≡ watch r.state → Accepts (with_counters k watch a) u v
-      by_watch None is = absurd (asks.never r.state (copies r.rounds v) r.cycle (some_edges a r.state r.state r.rounds v r.cycle r.endless r.positive r.returns) r.returns (sym is) r.meets)
+      by_watch None is = absurd (asks.never r.state (copies r.cycle_rounds v) r.cycle (some_edges a r.state r.state r.cycle_rounds v r.cycle r.endless r.positive r.returns) r.returns (sym is) r.meets)
       by_watch (Some ls) is = by_levels_at u v r ls (sym is)
 
   from_levels : (u v : List NameSet) → Accepts (with_counters k watch a) u v → Accepts a u v
   from_levels u v r =
       let start = from_map (λ start. state_at k start 0) a.starts r.start r.is_start in
-      let way = walked k watch a has start.0 0 (u ++ copies r.turns v) r.way r.state (some_level (watch start.0))
-      (subst (λ (s : ℕ). IsPath (with_counters k watch a) s (u ++ copies r.turns v) r.way r.state) (sym start.2) r.leads) in
-      let level : ℕ = end_level watch 0 way.edges in
-      let below : level < levels (watch way.end) = end_below k watch a has start.0 way.end 0 (u ++ copies r.turns v) way.edges (some_level (watch start.0)) way.path in
-      let cycle = walked k watch a has way.end level (copies r.rounds v) r.cycle r.state below
-      (subst (λ (s : ℕ). IsPath (with_counters k watch a) s (copies r.rounds v) r.cycle r.state) way.at r.returns) in
-      let after = end_below k watch a has way.end cycle.end level (copies r.rounds v) cycle.edges below cycle.path in
-      let places = same_from_place cycle.end (end_level watch level cycle.edges) way.end level k (omega (arith, after, has.room cycle.end)) (omega (arith, below, has.room way.end))
-      (sym cycle.at ∙ way.at) in
-      let returns : IsPath a way.end (copies r.rounds v) cycle.edges way.end = subst (λ (q : ℕ). IsPath a way.end (copies r.rounds v) cycle.edges q) places.0 cycle.path in
+      let path_edges = walked k watch a has start.0 0 (u ++ copies r.stem_rounds v) r.path_edges r.state (some_level (watch start.0))
+      (subst (λ (s : ℕ). IsPath (with_counters k watch a) s (u ++ copies r.stem_rounds v) r.path_edges r.state) (sym start.2) r.leads) in
+      let level : ℕ = end_level watch 0 path_edges.edges in
+      let below : level < levels (watch path_edges.end) = end_below k watch a has start.0 path_edges.end 0 (u ++ copies r.stem_rounds v) path_edges.edges (some_level (watch start.0))
+      path_edges.path in
+      let cycle = walked k watch a has path_edges.end level (copies r.cycle_rounds v) r.cycle r.state below
+      (subst (λ (s : ℕ). IsPath (with_counters k watch a) s (copies r.cycle_rounds v) r.cycle r.state) path_edges.at r.returns) in
+      let after = end_below k watch a has path_edges.end cycle.end level (copies r.cycle_rounds v) cycle.edges below cycle.path in
+      let places = same_from_place cycle.end (end_level watch level cycle.edges) path_edges.end level k (omega (arith, after, has.room cycle.end)) (omega (arith, below, has.room path_edges.end))
+      (sym cycle.at ∙ path_edges.at) in
+      let returns : IsPath a path_edges.end (copies r.cycle_rounds v) cycle.edges path_edges.end = subst (λ (q : ℕ). IsPath a path_edges.end (copies r.cycle_rounds v) cycle.edges q) places.0
+      cycle.path in
       let marks : list_any (is_in 0) (marks_of (walk k watch level cycle.edges)) ≡ true = ap (λ (es : List LabelledEdge). list_any (is_in 0) (marks_of es)) (sym cycle.is) ∙ r.meets in
-      let waits = marked_waits k watch a has way.end way.end level (copies r.rounds v) cycle.edges returns marks in
+      let waits = marked_waits k watch a has path_edges.end path_edges.end level (copies r.cycle_rounds v) cycle.edges returns marks in
       let ls = waits.literals in
-      let along = waits_along k watch a has way.end way.end (copies r.rounds v) cycle.edges ls returns waits.is in
+      let along = waits_along k watch a has path_edges.end path_edges.end (copies r.cycle_rounds v) cycle.edges ls returns waits.is in
       let back : turn ls level cycle.edges ≡ level = sym (end_is_turn watch ls level cycle.edges along) ∙ places.1 in
       let mark : marked ls level cycle.edges ≡ true = sym (marks_are_marked k watch ls level cycle.edges along) ∙ marks in
       let here : level < literal_places ls = subst (λ (w : Watch). level < levels w) waits.is below in
-      let some = some_edges a way.end way.end r.rounds v cycle.edges r.endless r.positive returns in
-      let run : LassoRun a u v r.turns r.rounds = record { start = start.0; state = way.end; way = way.edges; cycle = cycle.edges; is_start = start.1; leads = way.path; returns = returns } in
-      accepts_of a u v r.turns r.rounds run r.endless r.positive
-      ((asks.waits way.end ls (copies r.rounds v) cycle.edges some returns waits.is).1 (λ j within. on_passed ls j cycle.edges (all_passed ls level cycle.edges here back mark j within)))
+      let some = some_edges a path_edges.end path_edges.end r.cycle_rounds v cycle.edges r.endless r.positive returns in
+      let run : LassoRun a u v r.stem_rounds r.cycle_rounds =
+      record { start = start.0; state = path_edges.end; path_edges = path_edges.edges; cycle = cycle.edges; is_start = start.1; leads = path_edges.path; returns = returns } in
+      accepts_of a u v r.stem_rounds r.cycle_rounds run r.endless r.positive
+      ((asks.waits path_edges.end ls (copies r.cycle_rounds v) cycle.edges some returns waits.is).1 (λ j within. on_passed ls j cycle.edges (all_passed ls level cycle.edges here back mark j within)))
 
   pub levelled_accepts_the_same : AcceptTheSame (with_counters k watch a) a
   levelled_accepts_the_same u v = (from_levels u v, by_levels u v)

@@ -78,26 +78,27 @@ own_sets_met a copy listed cycle carried =
 
 with_copies : (a : Automaton) (u v : List NameSet) → Accepts a u v → Accepts (copied a) u v
 with_copies a u v r =
-    let some = some_edges a r.state r.state r.rounds v r.cycle r.endless r.positive r.returns in
+    let some = some_edges a r.state r.state r.cycle_rounds v r.cycle r.endless r.positive r.returns in
     let found = met_copy a r.cycle some r.meets in
     let copy = found.copy in
     let cycle : List LabelledEdge = map (edge_in a.states copy) r.cycle in
-    let into = entering a copy found.listed r.state r.state (copies r.rounds v) r.cycle some r.returns in
+    let into = entering a copy found.listed r.state r.state (copies r.cycle_rounds v) r.cycle some r.returns in
     let state : ℕ = state_in a.states copy.number r.state in
     record {
       endless = r.endless;
       start = r.start;
       state = state;
-      turns = r.turns + r.rounds;
-      rounds = r.rounds;
-      way = map stay r.way ++ into.edges;
+      stem_rounds = r.stem_rounds + r.cycle_rounds;
+      cycle_rounds = r.cycle_rounds;
+      path_edges = map stay r.path_edges ++ into.edges;
       cycle = cycle;
       is_start = r.is_start;
-      leads = subst (λ (w : List NameSet). IsPath (copied a) r.start w (map stay r.way ++ into.edges) state) (gone_on u v r.turns r.rounds)
-          (path_join (copied a) r.start r.state state (u ++ copies r.turns v) (copies r.rounds v) (map stay r.way) into.edges
-          (main_path a r.start r.state (u ++ copies r.turns v) r.way r.leads) into.path);
+      leads = subst (λ (w : List NameSet). IsPath (copied a) r.start w (map stay r.path_edges ++ into.edges) state) (gone_on u v r.stem_rounds r.cycle_rounds)
+          (path_join (copied a) r.start r.state state (u ++ copies r.stem_rounds v) (copies r.cycle_rounds v) (map stay r.path_edges) into.edges
+          (main_path a r.start r.state (u ++ copies r.stem_rounds v) r.path_edges r.leads) into.path);
       positive = r.positive;
-      returns = copy_path a copy found.listed r.state r.state (copies r.rounds v) r.cycle (λ e there. found.met.allowed e.marks (there_map (λ (d : LabelledEdge). d.marks) r.cycle e there)) r.returns;
+      returns = copy_path a copy found.listed r.state r.state (copies r.cycle_rounds v) r.cycle
+          (λ e there. found.met.allowed e.marks (there_map (λ (d : LabelledEdge). d.marks) r.cycle e there)) r.returns;
       meets = own_sets_met a copy found.listed cycle (sets_met a.states copy r.cycle found.met);
     }
 
@@ -166,22 +167,25 @@ in_copy a copy listed es allowed holds = record {
 
 without_copies : (a : Automaton) → IsWellFormed a → (u v : List NameSet) → Accepts (copied a) u v → Accepts a u v
 without_copies a formed u v r =
-    let way = from_main a formed r.start (All-contains (λ p. p < a.states) a.starts r.start formed.starts r.is_start) (u ++ copies r.turns v) r.way r.state r.leads in
+    let path_edges = from_main a formed r.start (All-contains (λ p. p < a.states) a.starts r.start formed.starts r.is_start) (u ++ copies r.stem_rounds v) r.path_edges r.state r.leads in
     ⊎_elim
-    (λ (m : IsMain a formed way.end way.edges r.way r.state).
-    let cycle = from_main a formed way.end way.below (copies r.rounds v) r.cycle r.state (subst (λ (s : ℕ). IsPath (copied a) s (copies r.rounds v) r.cycle r.state) m.at r.returns) in
+    (λ (m : IsMain a formed path_edges.end path_edges.edges r.path_edges r.state).
+    let cycle = from_main a formed path_edges.end path_edges.below (copies r.cycle_rounds v) r.cycle r.state
+    (subst (λ (s : ℕ). IsPath (copied a) s (copies r.cycle_rounds v) r.cycle r.state) m.at r.returns) in
     ⊎_elim
     (λ (n : IsMain a formed cycle.end cycle.edges r.cycle r.state). absurd (not_in_main a cycle.edges (subst (λ (es : List LabelledEdge). met (marks_of es) (copied a).formula ≡ true) n.is r.meets)))
-    (λ (n : IsElsewhere a formed cycle.end r.state). absurd (not_main a n.copy n.listed cycle.end way.end cycle.below way.below (sym n.at ∙ m.at)))
+    (λ (n : IsElsewhere a formed cycle.end r.state). absurd (not_main a n.copy n.listed cycle.end path_edges.end cycle.below path_edges.below (sym n.at ∙ m.at)))
     cycle.place)
-    (λ (m : IsElsewhere a formed way.end r.state).
-    let cycle = from_copy a formed m.copy m.listed way.end way.below (copies r.rounds v) r.cycle r.state (subst (λ (s : ℕ). IsPath (copied a) s (copies r.rounds v) r.cycle r.state) m.at r.returns) in
-    let closed = same_from_place m.copy.number cycle.end m.copy.number way.end a.states cycle.below way.below (sym cycle.at ∙ m.at) in
-    let returns = subst (λ (q : ℕ). IsPath a way.end (copies r.rounds v) cycle.edges q) closed.1 cycle.path in
-    let run : LassoRun a u v r.turns r.rounds = record { start = r.start; state = way.end; way = way.edges; cycle = cycle.edges; is_start = r.is_start; leads = way.path; returns = returns } in
-    accepts_of a u v r.turns r.rounds run r.endless r.positive
+    (λ (m : IsElsewhere a formed path_edges.end r.state).
+    let cycle = from_copy a formed m.copy m.listed path_edges.end path_edges.below (copies r.cycle_rounds v) r.cycle r.state
+    (subst (λ (s : ℕ). IsPath (copied a) s (copies r.cycle_rounds v) r.cycle r.state) m.at r.returns) in
+    let closed = same_from_place m.copy.number cycle.end m.copy.number path_edges.end a.states cycle.below path_edges.below (sym cycle.at ∙ m.at) in
+    let returns = subst (λ (q : ℕ). IsPath a path_edges.end (copies r.cycle_rounds v) cycle.edges q) closed.1 cycle.path in
+    let run : LassoRun a u v r.stem_rounds r.cycle_rounds =
+    record { start = r.start; state = path_edges.end; path_edges = path_edges.edges; cycle = cycle.edges; is_start = r.is_start; leads = path_edges.path; returns = returns } in
+    accepts_of a u v r.stem_rounds r.cycle_rounds run r.endless r.positive
     (copy_met a cycle.edges m.copy m.listed (in_copy a m.copy m.listed cycle.edges cycle.allowed (subst (λ (es : List LabelledEdge). met (marks_of es) (copied a).formula ≡ true) cycle.is r.meets))))
-    way.place
+    path_edges.place
 
 pub copied_accepts_the_same : (a : Automaton) → IsWellFormed a → AcceptTheSame (copied a) a
 copied_accepts_the_same a formed u v = (without_copies a formed u v, with_copies a u v)

@@ -50,8 +50,8 @@ module _ (a : Automaton) (formed : IsWellFormed a) (flags : List Bool) (are : Ar
 
   record Path (p q : ℕ) : Type 0 where
     word : List NameSet
-    way : List LabelledEdge
-    leads : IsPath made p word way q
+    path_edges : List LabelledEdge
+    leads : IsPath made p word path_edges q
 
   module _ (edge : LabelledEdge) (on : IsMarkedOnCycle a edge) where
     -- an edge to a state from which the marked edge is reached is kept
@@ -70,7 +70,7 @@ module _ (a : Automaton) (formed : IsWellFormed a) (flags : List Bool) (are : Ar
         edge_step e there = record { walk = arc_of e ∷ []; leads = (there_map arc_of (satisfiable_edges a) e there, refl, refl) }
 
     walked : (p q : ℕ) (walk : List (ℕ × ℕ)) → ReachedFrom (passable_arcs a) a.starts p → IsWalk (passable_arcs a) p walk q → Reaches (passable_arcs a) q edge.from → Path p q
-    walked p q [] reached leads after = record { word = []; way = []; leads = leads }
+    walked p q [] reached leads after = record { word = []; path_edges = []; leads = leads }
     walked p q (arc ∷ walk) reached leads after =
         let found = from_map arc_of (satisfiable_edges a) arc leads.0 in
         let e = found.0 in
@@ -81,7 +81,7 @@ module _ (a : Automaton) (formed : IsWellFormed a) (flags : List Bool) (are : Ar
         let rest = walked e.to q walk (reached_more p e.to reached first) next after in
         let one = allowed e found.1 in
         let there = kept p e found.1 from reached (reach_then (passable_arcs a) e.to q edge.from (record { walk = walk; leads = next }) after) in
-        record { word = one.letter ∷ rest.word; way = e ∷ rest.way; leads = (from, there, one.holds, rest.leads) }
+        record { word = one.letter ∷ rest.word; path_edges = e ∷ rest.path_edges; leads = (from, there, one.holds, rest.leads) }
 
   useful_live : (q : ℕ) → IsUseful a q → a.formula ≡ Inf 0 false → IsLive made q
   useful_live q useful condition =
@@ -99,11 +99,12 @@ module _ (a : Automaton) (formed : IsWellFormed a) (flags : List Bool) (are : Ar
         round = one.letter ∷ back.word;
         some = omega arith;
         state = e.from;
-        way = stem.way;
-        cycle = e ∷ back.way;
+        path_edges = stem.path_edges;
+        cycle = e ∷ back.path_edges;
         leads = stem.leads;
         returns = (refl, is_kept, one.holds, back.leads);
-        meets = ap (met (map (λ (d : LabelledEdge). d.marks) (e ∷ back.way))) condition ∙ or_left (is_in 0 e.marks) (list_any (is_in 0) (map (λ (d : LabelledEdge). d.marks) back.way)) on.marked;
+        meets = ap (met (map (λ (d : LabelledEdge). d.marks) (e ∷ back.path_edges))) condition
+            ∙ or_left (is_in 0 e.marks) (list_any (is_in 0) (map (λ (d : LabelledEdge). d.marks) back.path_edges)) on.marked;
       }
 
   between_live : a.formula ≡ Inf 0 false → AreLive made

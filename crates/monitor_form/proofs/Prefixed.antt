@@ -39,8 +39,8 @@ module _ (b m : Automaton) (sets : List (List ℕ)) (is : TracksSubsets b m sets
   record Back (i : ℕ) (xs : List NameSet) (q : ℕ) : Type 0 where
     from : ℕ
     there : Contains (set_at sets i) from
-    way : List LabelledEdge
-    leads : IsPath b from xs way q
+    path_edges : List LabelledEdge
+    leads : IsPath b from xs path_edges q
 
   record Followed (i j : ℕ) (xs : List NameSet) : Type 0 where
     good : Good j
@@ -49,7 +49,7 @@ module _ (b m : Automaton) (sets : List (List ℕ)) (is : TracksSubsets b m sets
   follow : AreLive b → (i j : ℕ) (xs : List NameSet) (es : List LabelledEdge) → IsPath m i xs es j → Good i → Followed i j xs
   follow live i j [] [] path good = record {
     good = subst Good path good;
-    back = λ q there. record { from = q; there = subst (λ k. Contains (set_at sets k) q) (sym path) there; way = []; leads = refl };
+    back = λ q there. record { from = q; there = subst (λ k. Contains (set_at sets k) q) (sym path) there; path_edges = []; leads = refl };
   }
   follow live i j [] (e ∷ es) path good = absurd path
   follow live i j (x ∷ xs) [] path good = absurd path
@@ -67,8 +67,8 @@ module _ (b m : Automaton) (sets : List (List ℕ)) (is : TracksSubsets b m sets
         back = λ q there. (let after = rest.back q there in let goal = (move.goals after.from).0 after.there in record {
           from = goal.edge.from;
           there = subst (λ k. Contains (set_at sets k) goal.edge.from) (sym path.0) goal.from;
-          way = goal.edge ∷ after.way;
-          leads = (refl, goal.there, goal.allowed, subst (λ p. IsPath b p xs after.way q) (sym goal.to) after.leads);
+          path_edges = goal.edge ∷ after.path_edges;
+          leads = (refl, goal.there, goal.allowed, subst (λ p. IsPath b p xs after.path_edges q) (sym goal.to) after.leads);
         });
       }
 
@@ -77,9 +77,9 @@ module _ (b m : Automaton) (sets : List (List ℕ)) (is : TracksSubsets b m sets
       let p = long_path m u v n r in
       let begun = first_found b.starts p.start (subst (λ ss. Contains ss p.start) is.starts p.is_start) in
       let start = (is.first begun.0).1 begun.1 in
-      let read = u ++ copies p.turns v in
+      let read = u ++ copies p.stem_rounds v in
       let good : Good 0 = record { below = some_sets sets begun.0 start; some = begun.0; there = start; each = λ q there. live.starts q ((is.first q).0 there) } in
-      let f = follow live 0 p.state read p.way (subst (λ s. IsPath m s read p.way p.state) begun.2 p.leads) good in
+      let f = follow live 0 p.state read p.path_edges (subst (λ s. IsPath m s read p.path_edges p.state) begun.2 p.leads) good in
       let q = f.good.some in
       let l = f.good.each q f.good.there in
       let back = f.back q f.good.there in
@@ -91,28 +91,29 @@ module _ (b m : Automaton) (sets : List (List ℕ)) (is : TracksSubsets b m sets
           endless = l.some;
           start = back.from;
           state = l.state;
-          turns = 0;
-          rounds = 1;
-          way = back.way ++ l.way;
+          stem_rounds = 0;
+          cycle_rounds = 1;
+          path_edges = back.path_edges ++ l.path_edges;
           cycle = l.cycle;
           is_start = (is.first back.from).0 back.there;
-          leads = subst (λ w. IsPath b back.from w (back.way ++ l.way) l.state) (sym (append-nil stem)) (path_join b back.from q l.state read l.stem back.way l.way back.leads l.leads);
+          leads = subst (λ w. IsPath b back.from w (back.path_edges ++ l.path_edges) l.state) (sym (append-nil stem))
+              (path_join b back.from q l.state read l.stem back.path_edges l.path_edges back.leads l.leads);
           positive = omega arith;
           returns = subst (λ w. IsPath b l.state w l.cycle l.state) (sym (append-nil l.round)) l.returns;
           meets = l.meets;
         };
         same = λ k within. (let inside : k < length read = omega (arith, within, p.long) in
-            stem_letter stem l.round k (omega (arith, inside, length-append read l.stem)) ∙ (slice_get-append_left read l.stem k inside ∙ sym (letter_in u v p.turns k r.endless inside)));
+            stem_letter stem l.round k (omega (arith, inside, length-append read l.stem)) ∙ (slice_get-append_left read l.stem k inside ∙ sym (letter_in u v p.stem_rounds k r.endless inside)));
       }
 
   -- a path of m
   record Onward (i : ℕ) (xs : List NameSet) : Type 0 where
     stop : ℕ
-    way : List LabelledEdge
-    leads : IsPath m i xs way stop
+    path_edges : List LabelledEdge
+    leads : IsPath m i xs path_edges stop
 
   forth : (i p q : ℕ) (xs : List NameSet) (es : List LabelledEdge) → i < length sets → Contains (set_at sets i) p → IsPath b p xs es q → Onward i xs
-  forth i p q [] [] below there path = record { stop = i; way = []; leads = refl }
+  forth i p q [] [] below there path = record { stop = i; path_edges = []; leads = refl }
   forth i p q [] (d ∷ ds) below there path = absurd path
   forth i p q (x ∷ xs) [] below there path = absurd path
   forth i p q (x ∷ xs) (d ∷ ds) below there path =
@@ -121,7 +122,7 @@ module _ (b m : Automaton) (sets : List (List ℕ)) (is : TracksSubsets b m sets
       let move = is.steps one.edge x one.there one.allowed in
       let inside = (move.goals d.to).1 (subst (λ k. IsGoal b (set_at sets k) x d.to) (sym one.from) goal) in
       let rest = forth one.edge.to d.to q xs ds move.below inside path.3 in
-      record { stop = rest.stop; way = one.edge ∷ rest.way; leads = (sym one.from, one.there, one.allowed, rest.leads) }
+      record { stop = rest.stop; path_edges = one.edge ∷ rest.path_edges; leads = (sym one.from, one.there, one.allowed, rest.leads) }
 
   stays : (i j : ℕ) (xs : List NameSet) (es : List LabelledEdge) → IsPath m i xs es j → i < length sets → j < length sets
   stays i j [] [] path below = subst (λ k. k < length sets) path below
@@ -131,7 +132,7 @@ module _ (b m : Automaton) (sets : List (List ℕ)) (is : TracksSubsets b m sets
 
   stops_below : (v : List NameSet) (k p : ℕ) (s : Stops m v k p) → p < length sets → (i : ℕ) → i ≤ k → s.at i < length sets
   stops_below v k p s below zero within = subst (λ j. j < length sets) (sym s.first) below
-  stops_below v k p s below (suc i) within = stays (s.at i) (s.at (suc i)) v (s.way i) (s.leg i (omega (arith, within))) (stops_below v k p s below i (omega (arith, within)))
+  stops_below v k p s below (suc i) within = stays (s.at i) (s.at (suc i)) v (s.path_edges i) (s.leg i (omega (arith, within))) (stops_below v k p s below i (omega (arith, within)))
 
   closed : (u v : List NameSet) → 0 < length v → ((n : ℕ) → HasPrefix b u v n) → Accepts m u v
   closed u v some prefixes =
@@ -139,14 +140,14 @@ module _ (b m : Automaton) (sets : List (List ℕ)) (is : TracksSubsets b m sets
       let read = u ++ copies n v in
       let h = prefixes (length read) in
       let p = long_path b h.stem h.cycle (length read) h.accepted in
-      let all = h.stem ++ copies p.turns h.cycle in
+      let all = h.stem ++ copies p.stem_rounds h.cycle in
       let begun = begins_with read all p.long (λ k within. (let inside : k < length all = omega (arith, within, p.long) in
-      sym (letter_in h.stem h.cycle p.turns k h.accepted.endless inside) ∙ (h.same k within ∙ letter_in u v n k some within))) in
-      let parts = path_split b p.start p.state read begun.rest p.way (subst (λ w. IsPath b p.start w p.way p.state) begun.is p.leads) in
+      sym (letter_in h.stem h.cycle p.stem_rounds k h.accepted.endless inside) ∙ (h.same k within ∙ letter_in u v n k some within))) in
+      let parts = path_split b p.start p.state read begun.rest p.path_edges (subst (λ w. IsPath b p.start w p.path_edges p.state) begun.is p.leads) in
       let there = (is.first p.start).1 p.is_start in
       let below = some_sets sets p.start there in
       let on = forth 0 p.start parts.middle read parts.front below there parts.first in
-      let halves = path_split m 0 on.stop u (copies n v) on.way on.leads in
+      let halves = path_split m 0 on.stop u (copies n v) on.path_edges on.leads in
       let low = stays 0 halves.middle u halves.front halves.first below in
       let s = stops m v n halves.middle on.stop halves.back halves.second in
       let loop = loop_of m v n halves.middle s (stops_below v n halves.middle s low) in
@@ -154,12 +155,12 @@ module _ (b m : Automaton) (sets : List (List ℕ)) (is : TracksSubsets b m sets
         endless = some;
         start = 0;
         state = loop.state;
-        turns = loop.before;
-        rounds = loop.more;
-        way = halves.front ++ loop.way;
+        stem_rounds = loop.before;
+        cycle_rounds = loop.more;
+        path_edges = halves.front ++ loop.path_edges;
         cycle = loop.cycle;
         is_start = subst (λ ss. Contains ss 0) (sym is.starts) (first_place b.starts p.start p.is_start);
-        leads = path_join m 0 halves.middle loop.state u (copies loop.before v) halves.front loop.way halves.first loop.leads;
+        leads = path_join m 0 halves.middle loop.state u (copies loop.before v) halves.front loop.path_edges halves.first loop.leads;
         positive = loop.positive;
         returns = loop.returns;
         meets = ap (met (map (λ (d : LabelledEdge). d.marks) loop.cycle)) is.formula;

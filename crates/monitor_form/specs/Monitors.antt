@@ -15,9 +15,9 @@ pub record IsLive (b : Automaton) (q : ℕ) : Type 0 where
   pub round : List NameSet
   pub some : 0 < length round
   pub state : ℕ
-  pub way : List LabelledEdge
+  pub path_edges : List LabelledEdge
   pub cycle : List LabelledEdge
-  pub leads : IsPath b q stem way state
+  pub leads : IsPath b q stem path_edges state
   pub returns : IsPath b state round cycle state
   pub meets : met (map (λ e. e.marks) cycle) b.formula ≡ true
 

@@ -113,9 +113,9 @@ same_root_moves b t v x alike m h =
 module _ (b : Automaton) where
   leads_tree : (ks : List ℕ) (x y : List Node) → IsTree x → LeadsTo (tree_moves b) x ks y → IsTree y
   leads_tree [] x y tree e = subst IsTree e tree
-  leads_tree (k ∷ ks) x y tree way =
-      let step = step_given b x (slice_get (tree_classes b x) k) way.1 way.2 in
-      leads_tree ks way.1 y (subst IsTree step.is (steps_keep_trees b.states (class_moves b x step.valuation) x tree)) way.3
+  leads_tree (k ∷ ks) x y tree path_edges =
+      let step = step_given b x (slice_get (tree_classes b x) k) path_edges.1 path_edges.2 in
+      leads_tree ks path_edges.1 y (subst IsTree step.is (steps_keep_trees b.states (class_moves b x step.valuation) x tree)) path_edges.3
 
   pub reached_tree : (y : List Node) → IsReached (tree_moves b) (start_tree b) y → IsTree y
   reached_tree y reached = leads_tree reached.word (start_tree b) y (first_is_tree b.states b.starts) reached.leads

@@ -77,9 +77,9 @@ module _ (b : Automaton) (p : ℕ → Bool) (starts : (s : ℕ) → Contains b.s
 
   leads_only : (ks : List ℕ) (x y : List Node) → HoldsOnly p b.states x → LeadsTo (tree_moves b) x ks y → HoldsOnly p b.states y
   leads_only [] x y only e = subst (HoldsOnly p b.states) e only
-  leads_only (k ∷ ks) x y only way =
-      let step = step_given b x (slice_get (tree_classes b x) k) way.1 way.2 in
-      leads_only ks way.1 y (subst (HoldsOnly p b.states) step.is (next_only x step.valuation)) way.3
+  leads_only (k ∷ ks) x y only path_edges =
+      let step = step_given b x (slice_get (tree_classes b x) k) path_edges.1 path_edges.2 in
+      leads_only ks path_edges.1 y (subst (HoldsOnly p b.states) step.is (next_only x step.valuation)) path_edges.3
 
   width_passing : (trees : List (List Node)) → ((t : List Node) → Contains trees t → length t ≤ rank p b.states) → width trees ≤ max 1 (rank p b.states)
   width_passing [] each = omega arith

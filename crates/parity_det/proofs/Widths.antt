@@ -20,7 +20,7 @@ first_few n starts false = omega arith
 
 leads_few : (b : Automaton) (ks : List ℕ) (x y : List Node) → length x ≤ MOST_NODES → LeadsTo (tree_moves b) x ks y → length y ≤ MOST_NODES
 leads_few b [] x y few e = subst (λ (t : List Node). length t ≤ MOST_NODES) e few
-leads_few b (k ∷ ks) x y few way = leads_few b ks way.1 y (step_given b x (slice_get (tree_classes b x) k) way.1 way.2).few way.3
+leads_few b (k ∷ ks) x y few path_edges = leads_few b ks path_edges.1 y (step_given b x (slice_get (tree_classes b x) k) path_edges.1 path_edges.2).few path_edges.3
 
 width_few : (trees : List (List Node)) → All (λ t. length t ≤ MOST_NODES) trees → width trees ≤ MOST_NODES
 width_few [] all = omega arith

@@ -18,11 +18,11 @@ AcceptedIsGreen = (n p : ℕ) (t : List Node) (round : List (List Move)) (es : L
 -- a state that the name holds, and a path from it back to it over some rounds, with an accepting move
 pub record HasCycle (name : ℕ) (t : List Node) (round : List (List Move)) : Type 0 where
   pub state : ℕ
-  pub rounds : ℕ
+  pub cycle_rounds : ℕ
   pub path : List Move
   pub here : holds t name state ≡ true
-  pub positive : 0 < rounds
-  pub leads : IsMovePath state (copies rounds round) path state
+  pub positive : 0 < cycle_rounds
+  pub leads : IsMovePath state (copies cycle_rounds round) path state
   pub accepts : list_any (λ e. e.accepting) path ≡ true
 
 -- Where the trees come back after a round with a stable green name, that name, after the letter at which it is green, holds

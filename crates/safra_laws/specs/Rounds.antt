@@ -41,17 +41,17 @@ NamesAtMost n most t [] = Unit {0}
 NamesAtMost n most t (ms ∷ w) = (length t ≤ most) × NamesAtMost n most (next_tree n ms t) w
 
 -- The automaton accepts the stem and then the round again and again: a path from a start reads the stem and the round, and
--- one from its end back to that end reads the round `rounds` times and has an accepting move.
+-- one from its end back to that end reads the round `cycle_rounds` times and has an accepting move.
 pub record IsAccepted (starts : List ℕ) (stem round : List (List Move)) : Type 0 where
   pub start : ℕ
   pub state : ℕ
-  pub rounds : ℕ
-  pub way : List Move
+  pub cycle_rounds : ℕ
+  pub path_edges : List Move
   pub cycle : List Move
   pub is_start : Contains starts start
-  pub leads : IsMovePath start (stem ++ round) way state
-  pub positive : 0 < rounds
-  pub returns : IsMovePath state (copies rounds round) cycle state
+  pub leads : IsMovePath start (stem ++ round) path_edges state
+  pub positive : 0 < cycle_rounds
+  pub returns : IsMovePath state (copies cycle_rounds round) cycle state
   pub accepts : list_any (λ e. e.accepting) cycle ≡ true
 
 -- neither the name nor a lower one is red at any of these letters

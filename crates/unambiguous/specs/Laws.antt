@@ -37,4 +37,4 @@ RunsAreAcceptance = (a : Automaton) (u v : List NameSet) → 0 < length v → Ac
 
 -- The indices of the edges determine the start, and so all states: two different runs differ in the index of some edge.
 abbrev pub PlacesFixStart : Type 0
-PlacesFixStart = (a : Automaton) (u v : List NameSet) → 0 < length v → (r t : AcceptingRun a u v) → ((n : ℕ) → nth r.way r.cycle n ≡ nth t.way t.cycle n) → r.start ≡ t.start
+PlacesFixStart = (a : Automaton) (u v : List NameSet) → 0 < length v → (r t : AcceptingRun a u v) → ((n : ℕ) → nth r.path_edges r.cycle n ≡ nth t.path_edges t.cycle n) → r.start ≡ t.start

@@ -18,22 +18,22 @@ IsEdgePath a p (x ∷ xs) [] q = ⊥
 IsEdgePath a p (x ∷ xs) (m ∷ ms) q =
     (e : LabelledEdge) × (slice_get a.edges m ≡ Some e) × (p ≡ e.from) × (truth (holds_at a.names x) e.label ≡ true) × IsEdgePath a e.to xs ms q
 
--- a path from a start that reads the stem and then the cycle `turns` times, and one from its end back to that end that reads
--- the cycle `rounds` times and meets the acceptance condition
+-- a path from a start that reads the stem and then the cycle `stem_rounds` times, and one from its end back to that end that reads
+-- the cycle `cycle_rounds` times and meets the acceptance condition
 pub record AcceptingRun (a : Automaton) (u v : List NameSet) : Type 0 where
   pub start : ℕ
   pub state : ℕ
-  pub turns : ℕ
-  pub rounds : ℕ
-  pub way : List ℕ
+  pub stem_rounds : ℕ
+  pub cycle_rounds : ℕ
+  pub path_edges : List ℕ
   pub cycle : List ℕ
   pub is_start : Contains a.starts start
-  pub leads : IsEdgePath a start (u ++ copies turns v) way state
-  pub positive : 0 < rounds
-  pub returns : IsEdgePath a state (copies rounds v) cycle state
+  pub leads : IsEdgePath a start (u ++ copies stem_rounds v) path_edges state
+  pub positive : 0 < cycle_rounds
+  pub returns : IsEdgePath a state (copies cycle_rounds v) cycle state
   pub meets : met (map (edge_marks a) cycle) a.formula ≡ true
 
 -- Two accepting runs over one lasso word take the same edges. Edges are told apart by their index: an edge that is listed
 -- twice counts as two.
 abbrev pub IsUnambiguous : Automaton → Type 0
-IsUnambiguous a = (u v : List NameSet) → 0 < length v → (r t : AcceptingRun a u v) (n : ℕ) → nth r.way r.cycle n ≡ nth t.way t.cycle n
+IsUnambiguous a = (u v : List NameSet) → 0 < length v → (r t : AcceptingRun a u v) (n : ℕ) → nth r.path_edges r.cycle n ≡ nth t.path_edges t.cycle n

@@ -17,11 +17,11 @@ AllMeet names (x ∷ xs) (t ∷ ts) = (truth (holds_at names x) t ≡ true) × A
 -- The lasso word matches the pattern: its stem is the pattern's stem and some copies of its cycle, and its cycle is one
 -- or more copies of the pattern's cycle.
 pub record Matches (p : WordPattern) (u v : List NameSet) : Type 0 where
-  pub turns : ℕ
-  pub rounds : ℕ
-  pub some : 0 < rounds
-  pub stem : AllMeet p.names u (p.stem ++ copies turns p.cycle)
-  pub cycle : AllMeet p.names v (copies rounds p.cycle)
+  pub stem_rounds : ℕ
+  pub cycle_rounds : ℕ
+  pub some : 0 < cycle_rounds
+  pub stem : AllMeet p.names u (p.stem ++ copies stem_rounds p.cycle)
+  pub cycle : AllMeet p.names v (copies cycle_rounds p.cycle)
 
 -- a word that both automata accept
 pub record AcceptTogether (a b : Automaton) : Type 0 where

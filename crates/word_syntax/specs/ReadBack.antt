@@ -21,12 +21,12 @@ AllAgree names (x ∷ xs) (y ∷ ys) = AgreesOn names x y × AllAgree names xs y
 -- The lasso word x, y agrees on these names with an unrolling of u, v: some copies of the cycle v are added to the stem u, and the
 -- new cycle is one or more copies of v. The unrolling is a lasso word of the same infinite word.
 pub record AgreesUnrolled (names : List (List ℕ)) (u v x y : List NameSet) : Type 0 where
-  pub turns : ℕ
-  pub rounds : ℕ
-  pub some : 0 < rounds
-  pub same : SpellsSame (u ++ copies turns v) (copies rounds v) u v
-  pub stem : AllAgree names x (u ++ copies turns v)
-  pub cycle : AllAgree names y (copies rounds v)
+  pub stem_rounds : ℕ
+  pub cycle_rounds : ℕ
+  pub some : 0 < cycle_rounds
+  pub same : SpellsSame (u ++ copies stem_rounds v) (copies cycle_rounds v) u v
+  pub stem : AllAgree names x (u ++ copies stem_rounds v)
+  pub cycle : AllAgree names y (copies cycle_rounds v)
 
 -- The printed text writes a pattern over these names. The words that match it are those that agree on these names with an unrolling
 -- of the printed word.

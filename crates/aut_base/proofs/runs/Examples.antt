@@ -113,8 +113,8 @@ ever_after_on_off : ¬ Accepts ever_after [] (on ∷ off ∷ [])
 ever_after_on_off r = go (cases_eq r.state 1)
   where
     go : (r.state ≡ 1) ⊎ (r.state ≡ 1 → ⊥) → ⊥
-    go (inl at) = no_round r.rounds r.positive (stays r.state (copies r.rounds (on ∷ off ∷ [])) r.cycle r.state at r.returns).1
-    go (inr away) = false≢true (sym (no_mark r.state (copies r.rounds (on ∷ off ∷ [])) r.cycle r.state away r.returns) ∙ r.meets)
+    go (inl at) = no_round r.cycle_rounds r.positive (stays r.state (copies r.cycle_rounds (on ∷ off ∷ [])) r.cycle r.state at r.returns).1
+    go (inr away) = false≢true (sym (no_mark r.state (copies r.cycle_rounds (on ∷ off ∷ [])) r.cycle r.state away r.returns) ∙ r.meets)
 
 -- The letters at which the foreign proposition holds.
 on_and_foreign_a : set.contains on_and_foreign name_a ≡ true
@@ -156,7 +156,7 @@ stands_second starts p x y xs (e ∷ es) q path =
     path.0 ∙ (sym (is_loop starts x e path.1 path.2).stays ∙ stands starts e.to y xs es q path.3)
 
 two_starts_on_off : ¬ Accepts (either_way (0 ∷ 1 ∷ [])) [] (on ∷ off ∷ [])
-two_starts_on_off r = go r.rounds r.positive r.returns
+two_starts_on_off r = go r.cycle_rounds r.positive r.returns
   where
     go : (k : ℕ) → 0 < k → IsPath (either_way (0 ∷ 1 ∷ [])) r.state (copies k (on ∷ off ∷ [])) r.cycle r.state → ⊥
     go zero some path = absurd (omega arith)
@@ -166,14 +166,14 @@ two_starts_on_off r = go r.rounds r.positive r.returns
         absurd (omega arith)
 
 second_start_on : ¬ Accepts (either_way (1 ∷ [])) [] (on ∷ [])
-second_start_on r = go r.rounds r.positive r.returns
+second_start_on r = go r.cycle_rounds r.positive r.returns
   where
     is_one : (k : ℕ) → k < 1 → get_or (1 ∷ []) k r.start ≡ r.start → r.start ≡ 1
     is_one zero within is = sym is
     is_one (suc k) within is = absurd (omega arith)
 
     at_one : r.state ≡ 1
-    at_one = stays_there (1 ∷ []) r.start (copies r.turns (on ∷ [])) r.way r.state r.leads ∙ is_one r.is_start.0 r.is_start.1 r.is_start.2
+    at_one = stays_there (1 ∷ []) r.start (copies r.stem_rounds (on ∷ [])) r.path_edges r.state r.leads ∙ is_one r.is_start.0 r.is_start.1 r.is_start.2
 
     go : (k : ℕ) → 0 < k → IsPath (either_way (1 ∷ [])) r.state (copies k (on ∷ [])) r.cycle r.state → ⊥
     go zero some path = absurd (omega arith)
@@ -204,9 +204,9 @@ worked_examples = record {
     endless = lit< tt;
     start = 0;
     state = 1;
-    turns = 1;
-    rounds = 1;
-    way = edge 0 a 1 [] ∷ [];
+    stem_rounds = 1;
+    cycle_rounds = 1;
+    path_edges = edge 0 a 1 [] ∷ [];
     cycle = edge 1 a 1 (0 ∷ []) ∷ [];
     is_start = (0, lit< tt, refl);
     leads = (refl, (1, lit< tt, refl), on_a, refl);
@@ -218,9 +218,9 @@ worked_examples = record {
     endless = lit< tt;
     start = 0;
     state = 1;
-    turns = 1;
-    rounds = 1;
-    way = edge 0 LabelTree.True 0 [] ∷ edge 0 a 1 [] ∷ [];
+    stem_rounds = 1;
+    cycle_rounds = 1;
+    path_edges = edge 0 LabelTree.True 0 [] ∷ edge 0 a 1 [] ∷ [];
     cycle = edge 1 a 1 (0 ∷ []) ∷ [];
     is_start = (0, lit< tt, refl);
     leads = (refl, (0, lit< tt, refl), refl, (refl, (1, lit< tt, refl), on_a, refl));
@@ -237,9 +237,9 @@ worked_examples = record {
     endless = lit< tt;
     start = 0;
     state = 0;
-    turns = 0;
-    rounds = 2;
-    way = [];
+    stem_rounds = 0;
+    cycle_rounds = 2;
+    path_edges = [];
     cycle = edge 0 LabelTree.True 1 [] ∷ edge 1 LabelTree.True 0 (0 ∷ []) ∷ [];
     is_start = (0, lit< tt, refl);
     leads = refl;
@@ -251,9 +251,9 @@ worked_examples = record {
     endless = lit< tt;
     start = 0;
     state = 0;
-    turns = 0;
-    rounds = 2;
-    way = [];
+    stem_rounds = 0;
+    cycle_rounds = 2;
+    path_edges = [];
     cycle = edge 0 LabelTree.True 1 [] ∷ edge 1 LabelTree.True 0 (0 ∷ []) ∷ edge 0 LabelTree.True 1 [] ∷ edge 1 LabelTree.True 0 (0 ∷ []) ∷ edge 0 LabelTree.True 1 [] ∷ edge 1 LabelTree.True
         0 (0 ∷ []) ∷ [];
     is_start = (0, lit< tt, refl);
@@ -271,9 +271,9 @@ worked_examples = record {
     endless = lit< tt;
     start = 0;
     state = 0;
-    turns = 0;
-    rounds = 1;
-    way = [];
+    stem_rounds = 0;
+    cycle_rounds = 1;
+    path_edges = [];
     cycle = edge 0 a 0 [] ∷ [];
     is_start = (0, lit< tt, refl);
     leads = refl;
@@ -285,9 +285,9 @@ worked_examples = record {
     endless = lit< tt;
     start = 1;
     state = 1;
-    turns = 0;
-    rounds = 1;
-    way = [];
+    stem_rounds = 0;
+    cycle_rounds = 1;
+    path_edges = [];
     cycle = edge 1 (LabelTree.Not a) 1 [] ∷ [];
     is_start = (1, lit< tt, refl);
     leads = refl;

@@ -18,17 +18,18 @@ use Rattle.aut_base.specs.Runs.{LassoRun}
 abbrev pub marks_of : List LabelledEdge → List (List ℕ)
 marks_of = map (λ e. e.marks)
 
-abbrev pub run_of : (a : Automaton) (u v : List NameSet) (r : Accepts a u v) → LassoRun a u v r.turns r.rounds
-run_of a u v r = record { start = r.start; state = r.state; way = r.way; cycle = r.cycle; is_start = r.is_start; leads = r.leads; returns = r.returns }
+abbrev pub run_of : (a : Automaton) (u v : List NameSet) (r : Accepts a u v) → LassoRun a u v r.stem_rounds r.cycle_rounds
+run_of a u v r = record { start = r.start; state = r.state; path_edges = r.path_edges; cycle = r.cycle; is_start = r.is_start; leads = r.leads; returns = r.returns }
 
-pub accepts_of : (a : Automaton) (u v : List NameSet) (turns rounds : ℕ) (r : LassoRun a u v turns rounds) → 0 < length v → 0 < rounds → met (marks_of r.cycle) a.formula ≡ true → Accepts a u v
-accepts_of a u v turns rounds r endless positive meets = record {
+pub accepts_of : (a : Automaton) (u v : List NameSet) (stem_rounds cycle_rounds : ℕ) (r : LassoRun a u v stem_rounds cycle_rounds) → 0 < length v → 0 < cycle_rounds
+    → met (marks_of r.cycle) a.formula ≡ true → Accepts a u v
+accepts_of a u v stem_rounds cycle_rounds r endless positive meets = record {
   endless = endless;
   start = r.start;
   state = r.state;
-  turns = turns;
-  rounds = rounds;
-  way = r.way;
+  stem_rounds = stem_rounds;
+  cycle_rounds = cycle_rounds;
+  path_edges = r.path_edges;
   cycle = r.cycle;
   is_start = r.is_start;
   leads = r.leads;
@@ -38,14 +39,15 @@ accepts_of a u v turns rounds r endless positive meets = record {
 }
 
 -- a word that an automaton accepts is accepted by another too, if the run is a run of that one and its cycle meets its condition
-pub accepts_too : (a b : Automaton) (u v : List NameSet) (r : Accepts a u v) → Contains b.starts r.start → IsPath b r.start (u ++ copies r.turns v) r.way r.state
-    → IsPath b r.state (copies r.rounds v) r.cycle r.state → met (marks_of r.cycle) b.formula ≡ true → Accepts b u v
+pub accepts_too : (a b : Automaton) (u v : List NameSet) (r : Accepts a u v) → Contains b.starts r.start → IsPath b r.start (u ++ copies r.stem_rounds v) r.path_edges r.state
+    → IsPath b r.state (copies r.cycle_rounds v) r.cycle r.state → met (marks_of r.cycle) b.formula ≡ true → Accepts b u v
 accepts_too a b u v r is_start leads returns meets =
-    accepts_of b u v r.turns r.rounds (record { start = r.start; state = r.state; way = r.way; cycle = r.cycle; is_start = is_start; leads = leads; returns = returns }) r.endless r.positive meets
+    accepts_of b u v r.stem_rounds r.cycle_rounds
+    (record { start = r.start; state = r.state; path_edges = r.path_edges; cycle = r.cycle; is_start = is_start; leads = leads; returns = returns }) r.endless r.positive meets
 
 -- a run whose cycle meets the same conditions
-pub record Likewise (a : Automaton) (u v : List NameSet) (turns rounds : ℕ) (cycle : List LabelledEdge) : Type 0 where
-  pub run : LassoRun a u v turns rounds
+pub record Likewise (a : Automaton) (u v : List NameSet) (stem_rounds cycle_rounds : ℕ) (cycle : List LabelledEdge) : Type 0 where
+  pub run : LassoRun a u v stem_rounds cycle_rounds
   pub alike : (f : FormulaTree) → met (marks_of run.cycle) f ≡ met (marks_of cycle) f
 
 swapped_alike : {A : Type 0} (xs ys : List A) → Alike (ys ++ xs) (xs ++ ys)
@@ -61,57 +63,59 @@ swapped xs ys es parts f =
     ∙ ap (λ cs. met cs f) (sym (map-append (λ (e : LabelledEdge). e.marks) xs ys) ∙ ap marks_of (sym parts)))
 
 -- the cycle is read once more before the run closes
-one_turn : (a : Automaton) (u v : List NameSet) (turns rounds : ℕ) (r : LassoRun a u v turns rounds) → 0 < rounds → Likewise a u v (suc turns) rounds r.cycle
-one_turn a u v turns zero r some = absurd (omega arith)
-one_turn a u v turns (suc k) r some =
+one_turn : (a : Automaton) (u v : List NameSet) (stem_rounds cycle_rounds : ℕ) (r : LassoRun a u v stem_rounds cycle_rounds) → 0 < cycle_rounds → Likewise a u v (suc stem_rounds) cycle_rounds r.cycle
+one_turn a u v stem_rounds zero r some = absurd (omega arith)
+one_turn a u v stem_rounds (suc k) r some =
     let parts = path_split a r.state r.state v (copies k v) r.cycle r.returns in
-    let word : (u ++ copies turns v) ++ v ≡ u ++ copies (suc turns) v = append_assoc u (copies turns v) v ∙ ap (λ w. u ++ w) (copies-push turns v) in
-    let P : List NameSet → Type 0 = λ w. IsPath a r.start w (r.way ++ parts.front) parts.middle in
+    let word : (u ++ copies stem_rounds v) ++ v ≡ u ++ copies (suc stem_rounds) v = append_assoc u (copies stem_rounds v) v ∙ ap (λ w. u ++ w) (copies-push stem_rounds v) in
+    let P : List NameSet → Type 0 = λ w. IsPath a r.start w (r.path_edges ++ parts.front) parts.middle in
     let Q : List NameSet → Type 0 = λ w. IsPath a parts.middle w (parts.back ++ parts.front) parts.middle in
     record {
       run = record {
         start = r.start;
         state = parts.middle;
-        way = r.way ++ parts.front;
+        path_edges = r.path_edges ++ parts.front;
         cycle = parts.back ++ parts.front;
         is_start = r.is_start;
-        leads = subst P word (path_join a r.start r.state parts.middle (u ++ copies turns v) v r.way parts.front r.leads parts.first);
+        leads = subst P word (path_join a r.start r.state parts.middle (u ++ copies stem_rounds v) v r.path_edges parts.front r.leads parts.first);
         returns = subst Q (copies-push k v) (path_join a parts.middle r.state parts.middle (copies k v) v parts.back parts.front parts.second parts.first);
       };
       alike = swapped parts.front parts.back r.cycle parts.parts;
     }
 
-some_turns : (a : Automaton) (u v : List NameSet) (turns rounds k : ℕ) (r : LassoRun a u v turns rounds) → 0 < rounds → Likewise a u v (turns + k) rounds r.cycle
-some_turns a u v turns rounds zero r some =
-    let e : turns ≡ turns + 0 = omega arith in
-    let P : ℕ → Type 0 = λ n. Likewise a u v n rounds r.cycle in
+some_turns : (a : Automaton) (u v : List NameSet) (stem_rounds cycle_rounds k : ℕ) (r : LassoRun a u v stem_rounds cycle_rounds) → 0 < cycle_rounds
+    → Likewise a u v (stem_rounds + k) cycle_rounds r.cycle
+some_turns a u v stem_rounds cycle_rounds zero r some =
+    let e : stem_rounds ≡ stem_rounds + 0 = omega arith in
+    let P : ℕ → Type 0 = λ n. Likewise a u v n cycle_rounds r.cycle in
     subst P e (record { run = r; alike = λ f. refl })
-some_turns a u v turns rounds (suc k) r some =
-    let once = one_turn a u v turns rounds r some in
-    let more = some_turns a u v (suc turns) rounds k once.run some in
-    let e : suc turns + k ≡ turns + suc k = omega arith in
-    let P : ℕ → Type 0 = λ n. Likewise a u v n rounds r.cycle in
+some_turns a u v stem_rounds cycle_rounds (suc k) r some =
+    let once = one_turn a u v stem_rounds cycle_rounds r some in
+    let more = some_turns a u v (suc stem_rounds) cycle_rounds k once.run some in
+    let e : suc stem_rounds + k ≡ stem_rounds + suc k = omega arith in
+    let P : ℕ → Type 0 = λ n. Likewise a u v n cycle_rounds r.cycle in
     subst P e (record { run = more.run; alike = λ f. more.alike f ∙ once.alike f })
 
-more_rounds : (a : Automaton) (u v : List NameSet) (turns rounds k : ℕ) (r : LassoRun a u v turns rounds) → 0 < k → Likewise a u v turns (k * rounds) r.cycle
-more_rounds a u v turns rounds k r some =
+more_rounds : (a : Automaton) (u v : List NameSet) (stem_rounds cycle_rounds k : ℕ) (r : LassoRun a u v stem_rounds cycle_rounds) → 0 < k → Likewise a u v stem_rounds (k * cycle_rounds) r.cycle
+more_rounds a u v stem_rounds cycle_rounds k r some =
     let P : List NameSet → Type 0 = λ w. IsPath a r.state w (copies k r.cycle) r.state in
     record {
       run = record {
         start = r.start;
         state = r.state;
-        way = r.way;
+        path_edges = r.path_edges;
         cycle = copies k r.cycle;
         is_start = r.is_start;
         leads = r.leads;
-        returns = subst P (copies-copies k rounds v) (path_copies a r.state k (copies rounds v) r.cycle r.returns);
+        returns = subst P (copies-copies k cycle_rounds v) (path_copies a r.state k (copies cycle_rounds v) r.cycle r.returns);
       };
       alike = met_alike (marks_of (copies k r.cycle)) (marks_of r.cycle) (gone_alike (λ (e : LabelledEdge). e.marks) k r.cycle some);
     }
 
 -- k more turns before the run closes, and m times the rounds
-pub later : (a : Automaton) (u v : List NameSet) (turns rounds k m : ℕ) (r : LassoRun a u v turns rounds) → 0 < rounds → 0 < m → Likewise a u v (turns + k) (m * rounds) r.cycle
-later a u v turns rounds k m r some times =
-    let first = some_turns a u v turns rounds k r some in
-    let second = more_rounds a u v (turns + k) rounds m first.run times in
+pub later : (a : Automaton) (u v : List NameSet) (stem_rounds cycle_rounds k m : ℕ) (r : LassoRun a u v stem_rounds cycle_rounds) → 0 < cycle_rounds → 0 < m
+    → Likewise a u v (stem_rounds + k) (m * cycle_rounds) r.cycle
+later a u v stem_rounds cycle_rounds k m r some times =
+    let first = some_turns a u v stem_rounds cycle_rounds k r some in
+    let second = more_rounds a u v (stem_rounds + k) cycle_rounds m first.run times in
     record { run = second.run; alike = λ f. second.alike f ∙ first.alike f }

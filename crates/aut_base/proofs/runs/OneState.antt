@@ -72,7 +72,7 @@ one_state_accepts at_on at_off sets f u v endless = (from, to)
         ap (λ marks. met marks f) (marks_along at_on at_off sets f p (copies k v) cycle q path) ∙ met_alike _ _ (gone_alike (marks_at at_on at_off) k v some) f
 
     from : Accepts (one_state at_on at_off sets f) u v → met (map (marks_at at_on at_off) v) f ≡ true
-    from r = sym (same_marks r.rounds r.state r.state r.cycle r.positive r.returns) ∙ r.meets
+    from r = sym (same_marks r.cycle_rounds r.state r.state r.cycle r.positive r.returns) ∙ r.meets
 
     to : met (map (marks_at at_on at_off) v) f ≡ true → Accepts (one_state at_on at_off sets f) u v
     to h =
@@ -81,9 +81,9 @@ one_state_accepts at_on at_off sets f u v endless = (from, to)
           endless = endless;
           start = 0;
           state = 0;
-          turns = 0;
-          rounds = 1;
-          way = map (loop_at at_on at_off) (u ++ copies 0 v);
+          stem_rounds = 0;
+          cycle_rounds = 1;
+          path_edges = map (loop_at at_on at_off) (u ++ copies 0 v);
           cycle = map (loop_at at_on at_off) (copies 1 v);
           is_start = (0, lit< tt, refl);
           leads = goes at_on at_off sets f (u ++ copies 0 v);

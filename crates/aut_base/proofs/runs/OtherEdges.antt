@@ -24,22 +24,23 @@ path_wider a b names has p q (x ∷ xs) (e ∷ es) path =
 
 -- and so is a run that begins at a start of the other
 abbrev pub run_wider : (a b : Automaton) (u v : List NameSet) → a.names ≡ b.names → ((e : LabelledEdge) → Contains a.edges e → Contains b.edges e)
-    → (turns rounds : ℕ) (r : LassoRun a u v turns rounds)
-    → Contains b.starts r.start → LassoRun b u v turns rounds
-run_wider a b u v names has turns rounds r is_start = record {
+    → (stem_rounds cycle_rounds : ℕ) (r : LassoRun a u v stem_rounds cycle_rounds)
+    → Contains b.starts r.start → LassoRun b u v stem_rounds cycle_rounds
+run_wider a b u v names has stem_rounds cycle_rounds r is_start = record {
   start = r.start;
   state = r.state;
-  way = r.way;
+  path_edges = r.path_edges;
   cycle = r.cycle;
   is_start = is_start;
-  leads = path_wider a b names has r.start r.state (u ++ copies turns v) r.way r.leads;
-  returns = path_wider a b names has r.state r.state (copies rounds v) r.cycle r.returns;
+  leads = path_wider a b names has r.start r.state (u ++ copies stem_rounds v) r.path_edges r.leads;
+  returns = path_wider a b names has r.state r.state (copies cycle_rounds v) r.cycle r.returns;
 }
 
 -- a word that the automaton accepts is accepted by the other if the run's cycle meets its condition
 pub accepts_wider : (a b : Automaton) → a.names ≡ b.names → ((e : LabelledEdge) → Contains a.edges e → Contains b.edges e) → (u v : List NameSet) (r : Accepts a u v) → Contains b.starts r.start
     → met (marks_of r.cycle) b.formula ≡ true → Accepts b u v
-accepts_wider a b names has u v r is_start meets = accepts_of b u v r.turns r.rounds (run_wider a b u v names has r.turns r.rounds (run_of a u v r) is_start) r.endless r.positive meets
+accepts_wider a b names has u v r is_start meets = accepts_of b u v r.stem_rounds r.cycle_rounds (run_wider a b u v names has r.stem_rounds r.cycle_rounds (run_of a u v r) is_start)
+    r.endless r.positive meets
 
 -- ---- edges for the same letters
 
@@ -77,18 +78,18 @@ path_follows a b follows p (x ∷ xs) (e ∷ es) q path =
 
 pub accepts_follows : (a b : Automaton) → Follows a b → ((s : ℕ) → Contains a.starts s → Contains b.starts s) → a.formula ≡ b.formula → (u v : List NameSet) → Accepts a u v → Accepts b u v
 accepts_follows a b follows starts formula u v r =
-    let way = path_follows a b follows r.start (u ++ copies r.turns v) r.way r.state r.leads in
-    let cycle = path_follows a b follows r.state (copies r.rounds v) r.cycle r.state r.returns in
-    let run : LassoRun b u v r.turns r.rounds = record {
+    let path_edges = path_follows a b follows r.start (u ++ copies r.stem_rounds v) r.path_edges r.state r.leads in
+    let cycle = path_follows a b follows r.state (copies r.cycle_rounds v) r.cycle r.state r.returns in
+    let run : LassoRun b u v r.stem_rounds r.cycle_rounds = record {
       start = r.start;
       state = r.state;
-      way = way.edges;
+      path_edges = path_edges.edges;
       cycle = cycle.edges;
       is_start = starts r.start r.is_start;
-      leads = way.goes;
+      leads = path_edges.goes;
       returns = cycle.goes;
     } in
-    accepts_of b u v r.turns r.rounds run r.endless r.positive (ap (λ marks. met marks b.formula) cycle.marks ∙ (ap (met (marks_of r.cycle)) (sym formula) ∙ r.meets))
+    accepts_of b u v r.stem_rounds r.cycle_rounds run r.endless r.positive (ap (λ marks. met marks b.formula) cycle.marks ∙ (ap (met (marks_of r.cycle)) (sym formula) ∙ r.meets))
 
 -- the edges of one automaton are those of the other under labels that are true at the same letters
 pub record Relabels (a b : Automaton) (f : LabelledEdge → LabelledEdge) : Type 0 where

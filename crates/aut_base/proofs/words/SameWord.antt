@@ -27,17 +27,17 @@ round_agrees w u v s j spells some k within =
     spells (length u + s * length v + k) ∙ round_letter u v s j k _ some (omega arith) (omega arith)
 
 -- The position at which the closed path over the second word begins: `wait` steps after position o, where the word's stem of x letters
--- and its cycle of y letters, `turns` times, were read. A closed path of `size` edges reads whole cycles if it is repeated `times` times.
+-- and its cycle of y letters, `stem_rounds` times, were read. A closed path of `size` edges reads whole cycles if it is repeated `times` times.
 record Moment (o size x y : ℕ) : Type 0 where
-  turns : ℕ
+  stem_rounds : ℕ
   wait : ℕ
   times : ℕ
-  rounds : ℕ
-  at : o + wait ≡ x + turns * y
+  cycle_rounds : ℕ
+  at : o + wait ≡ x + stem_rounds * y
   enough : wait ≤ times * size
-  whole : times * size ≡ rounds * y
+  whole : times * size ≡ cycle_rounds * y
   some_times : 0 < times
-  some_rounds : 0 < rounds
+  some_rounds : 0 < cycle_rounds
 
 moment : (o size x y : ℕ) → 0 < size → 0 < y → Moment o size x y
 moment o size x y some_size some_y =
@@ -47,10 +47,10 @@ moment o size x y some_size some_y =
     let wider : (wait + 1) * y ≤ (wait + 1) * y * size = le-mul_of_pos_right ((wait + 1) * y) some_size in
     let long : wait + 1 ≤ (wait + 1) * size = le-mul_of_pos_right (wait + 1) some_size in
     record {
-      turns = o;
+      stem_rounds = o;
       wait = wait;
       times = (wait + 1) * y;
-      rounds = (wait + 1) * size;
+      cycle_rounds = (wait + 1) * size;
       at = omega arith;
       enough = omega arith;
       whole = omega arith;
@@ -85,39 +85,40 @@ turn a w n m q wait all enough at first again =
 -- An accepting run as paths over the infinite word `w`, which has period l from position o on: a path leads to a closed path, which
 -- can be followed from each of those positions.
 record Looped (a : Automaton) (u v : List NameSet) (r : Accepts a u v) (w : ℕ → Option NameSet) (o l : ℕ) : Type 0 where
-  long_way : length r.way ≡ o + r.turns * l
-  long_cycle : length r.cycle ≡ r.rounds * l
+  long_way : length r.path_edges ≡ o + r.stem_rounds * l
+  long_cycle : length r.cycle ≡ r.cycle_rounds * l
   some_cycle : 0 < length r.cycle
-  leads : Reads a w 0 r.start r.way r.state
+  leads : Reads a w 0 r.start r.path_edges r.state
   round : (s : ℕ) → Reads a w (o + s * l) r.state r.cycle r.state
 
 looped : (a : Automaton) (u v : List NameSet) → 0 < length v → (r : Accepts a u v) → Looped a u v r (letter_at u v) (length u) (length v)
 looped a u v some r =
     let w : ℕ → Option NameSet = letter_at u v in
-    let wide : r.rounds ≤ r.rounds * length v = le-mul_of_pos_right r.rounds some in
-    let positive : 0 < r.rounds = r.positive in
-    let word : length (u ++ copies r.turns v) ≡ length u + r.turns * length v = length-append u (copies r.turns v) ∙ ap (λ k. length u + k) (length-copies r.turns v) in
-    let long : length r.cycle ≡ r.rounds * length v = as_long a r.state (copies r.rounds v) r.cycle r.state r.returns ∙ length-copies r.rounds v in
+    let wide : r.cycle_rounds ≤ r.cycle_rounds * length v = le-mul_of_pos_right r.cycle_rounds some in
+    let positive : 0 < r.cycle_rounds = r.positive in
+    let word : length (u ++ copies r.stem_rounds v) ≡ length u + r.stem_rounds * length v = length-append u (copies r.stem_rounds v) ∙ ap (λ k. length u + k) (length-copies r.stem_rounds v) in
+    let long : length r.cycle ≡ r.cycle_rounds * length v = as_long a r.state (copies r.cycle_rounds v) r.cycle r.state r.returns ∙ length-copies r.cycle_rounds v in
     record {
-      long_way = as_long a r.start (u ++ copies r.turns v) r.way r.state r.leads ∙ word;
+      long_way = as_long a r.start (u ++ copies r.stem_rounds v) r.path_edges r.state r.leads ∙ word;
       long_cycle = long;
       some_cycle = omega arith;
-      leads = reads_word a w 0 r.start (u ++ copies r.turns v) r.way r.state (word_agrees w u v r.turns (λ n. refl) some) r.leads;
-      round = λ s. reads_word a w (length u + s * length v) r.state (copies r.rounds v) r.cycle r.state (round_agrees w u v s r.rounds (λ n. refl) some) r.returns;
+      leads = reads_word a w 0 r.start (u ++ copies r.stem_rounds v) r.path_edges r.state (word_agrees w u v r.stem_rounds (λ n. refl) some) r.leads;
+      round = λ s. reads_word a w (length u + s * length v) r.state (copies r.cycle_rounds v) r.cycle r.state (round_agrees w u v s r.cycle_rounds (λ n. refl) some) r.returns;
     }
 
 -- the closed path, repeated `times` times and rotated
 turned : (a : Automaton) (u v : List NameSet) (r : Accepts a u v) (w : ℕ → Option NameSet) (o l wait times : ℕ) (g : Looped a u v r w o l) → wait ≤ times * length r.cycle
-    → Turned a w (o + r.turns * l) r.state wait (copies times r.cycle)
+    → Turned a w (o + r.stem_rounds * l) r.state wait (copies times r.cycle)
 turned a u v r w o l wait times g enough =
     let all = copies times r.cycle in
     let long : length all ≡ times * length r.cycle = length-copies times r.cycle in
-    let long' : times * length r.cycle ≡ times * (r.rounds * l) = ap (λ k. times * k) g.long_cycle in
-    let many = repeated a w o l r.rounds r.state r.cycle g.long_cycle g.round times in
-    turn a w (o + r.turns * l) (o + (r.turns + times * r.rounds) * l) r.state wait all (omega arith) (omega arith) (many r.turns) (many (r.turns + times * r.rounds))
+    let long' : times * length r.cycle ≡ times * (r.cycle_rounds * l) = ap (λ k. times * k) g.long_cycle in
+    let many = repeated a w o l r.cycle_rounds r.state r.cycle g.long_cycle g.round times in
+    turn a w (o + r.stem_rounds * l) (o + (r.stem_rounds + times * r.cycle_rounds) * l) r.state wait all (omega arith) (omega arith) (many r.stem_rounds)
+    (many (r.stem_rounds + times * r.cycle_rounds))
 
 taken_up : (a : Automaton) (u v : List NameSet) (r : Accepts a u v) (w : ℕ → Option NameSet) (o l : ℕ) (x y : List NameSet) (g : Looped a u v r w o l) → 0 < length y
-    → ((n : ℕ) → w n ≡ letter_at x y n) → Moment (o + r.turns * l) (length r.cycle) (length x) (length y) → Accepts a x y
+    → ((n : ℕ) → w n ≡ letter_at x y n) → Moment (o + r.stem_rounds * l) (length r.cycle) (length x) (length y) → Accepts a x y
 taken_up a u v r w o l x y g some spells m =
     let all = copies m.times r.cycle in
     let front = take m.wait all in
@@ -126,27 +127,27 @@ taken_up a u v r w o l x y g some spells m =
     let long_all : length all ≡ m.times * length r.cycle = length-copies m.times r.cycle in
     let long_front : length front ≡ m.wait = length-take-le m.wait all (omega arith) in
     let long_back : length back ≡ length all - m.wait = length-drop m.wait all in
-    let word : length (x ++ copies m.turns y) ≡ length x + m.turns * length y = length-append x (copies m.turns y) ∙ ap (λ k. length x + k) (length-copies m.turns y) in
-    let gone : length (copies m.rounds y) ≡ m.rounds * length y = length-copies m.rounds y in
+    let word : length (x ++ copies m.stem_rounds y) ≡ length x + m.stem_rounds * length y = length-append x (copies m.stem_rounds y) ∙ ap (λ k. length x + k) (length-copies m.stem_rounds y) in
+    let gone : length (copies m.cycle_rounds y) ≡ m.cycle_rounds * length y = length-copies m.cycle_rounds y in
     let P : ℕ → Type 0 = λ n. Reads a w n t.here (back ++ front) t.here in
-    let run : LassoRun a x y m.turns m.rounds = record {
+    let run : LassoRun a x y m.stem_rounds m.cycle_rounds = record {
       start = r.start;
       state = t.here;
-      way = r.way ++ front;
+      path_edges = r.path_edges ++ front;
       cycle = back ++ front;
       is_start = r.is_start;
-      leads = reads_path a w 0 r.start (x ++ copies m.turns y) (r.way ++ front) t.here (word_agrees w x y m.turns spells some) (omega (arith, length-append r.way front))
-          (join a w 0 (o + r.turns * l) r.start r.state t.here r.way front (omega arith) g.leads t.on);
-      returns = reads_path a w (length x + m.turns * length y) t.here (copies m.rounds y) (back ++ front) t.here (round_agrees w x y m.turns m.rounds spells some)
+      leads = reads_path a w 0 r.start (x ++ copies m.stem_rounds y) (r.path_edges ++ front) t.here (word_agrees w x y m.stem_rounds spells some) (omega (arith, length-append r.path_edges front))
+          (join a w 0 (o + r.stem_rounds * l) r.start r.state t.here r.path_edges front (omega arith) g.leads t.on);
+      returns = reads_path a w (length x + m.stem_rounds * length y) t.here (copies m.cycle_rounds y) (back ++ front) t.here (round_agrees w x y m.stem_rounds m.cycle_rounds spells some)
           (omega (arith, length-append back front)) (subst P m.at t.round);
     } in
-    accepts_of a x y m.turns m.rounds run some m.some_rounds
+    accepts_of a x y m.stem_rounds m.cycle_rounds run some m.some_rounds
     (met_alike (marks_of (back ++ front)) (marks_of r.cycle) (turned_alike (λ e. e.marks) m.times m.wait r.cycle m.some_times) a.formula ∙ r.meets)
 
 carry : (a : Automaton) (u v x y : List NameSet) → 0 < length v → 0 < length y → SpellsSame u v x y → Accepts a u v → Accepts a x y
 carry a u v x y some_v some_y same r =
     let g = looped a u v some_v r in
-    taken_up a u v r (letter_at u v) (length u) (length v) x y g some_y same (moment (length u + r.turns * length v) (length r.cycle) (length x) (length y) g.some_cycle some_y)
+    taken_up a u v r (letter_at u v) (length u) (length v) x y g some_y same (moment (length u + r.stem_rounds * length v) (length r.cycle) (length x) (length y) g.some_cycle some_y)
 
 pub same_word_same_verdict : SameWordSameVerdict
 same_word_same_verdict a u v x y some_v some_y same = (carry a u v x y some_v some_y same, carry a x y u v some_y some_v (λ n. sym (same n)))

@@ -100,12 +100,12 @@ module _ (a : Automaton) (formed : IsWellFormed a) where
 
         narrower : Accepts a u v → Accepts (between flags a) u v
         narrower r =
-            let leads = path_reaches r.start r.state (u ++ copies r.turns v) r.way r.leads in
+            let leads = path_reaches r.start r.state (u ++ copies r.stem_rounds v) r.path_edges r.leads in
             let none = reach_none (passable_arcs a) in
             let flagged = on u v r r.start (All-contains (λ p. p < a.states) a.starts r.start formed.starts r.is_start) (none r.start) leads in
             accepts_too a (between flags a) u v r (there_filter (is_flagged flags) a.starts r.start r.is_start flagged)
-            (path_between r.start r.state (on u v r) r.start r.state (u ++ copies r.turns v) r.way (none r.start) (none r.state) r.leads)
-            (path_between r.start r.state (on u v r) r.state r.state (copies r.rounds v) r.cycle leads (none r.state) r.returns)
+            (path_between r.start r.state (on u v r) r.start r.state (u ++ copies r.stem_rounds v) r.path_edges (none r.start) (none r.state) r.leads)
+            (path_between r.start r.state (on u v r) r.state r.state (copies r.cycle_rounds v) r.cycle leads (none r.state) r.returns)
             r.meets
 
     pub between_formed : IsWellFormed (between flags a)

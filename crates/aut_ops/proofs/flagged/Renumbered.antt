@@ -68,16 +68,16 @@ module _ (a : Automaton) (flags : List Bool) (begun : (p : ℕ) → Contains a.s
       old : Accepts new u v → Accepts a u v
       old r =
           let start = from_map (flagged_before flags) a.starts r.start r.is_start in
-          let to = run_image new a Stands (λ c d. d ≡ c) back u v r.turns r.rounds (run_of new u v r) start.0 start.1 (sym start.2, begun start.0 start.1) in
+          let to = run_image new a Stands (λ c d. d ≡ c) back u v r.stem_rounds r.cycle_rounds (run_of new u v r) start.0 start.1 (sym start.2, begun start.0 start.1) in
           let same : marks_of to.run.cycle ≡ marks_of r.cycle = same_from_all_zip (λ c d. d ≡ c) (marks_of r.cycle) (marks_of to.run.cycle) to.marks (λ c d e. e) in
-          accepts_of a u v r.turns r.rounds to.run r.endless r.positive (ap (λ cs. met cs a.formula) same ∙ r.meets)
+          accepts_of a u v r.stem_rounds r.cycle_rounds to.run r.endless r.positive (ap (λ cs. met cs a.formula) same ∙ r.meets)
 
       accepts_renumbered : Accepts a u v → Accepts new u v
       accepts_renumbered r =
-          let to = run_image a new (λ p q. q ≡ flagged_before flags p) (λ c d. d ≡ c) onwards u v r.turns r.rounds (run_of a u v r) (flagged_before flags r.start)
+          let to = run_image a new (λ p q. q ≡ flagged_before flags p) (λ c d. d ≡ c) onwards u v r.stem_rounds r.cycle_rounds (run_of a u v r) (flagged_before flags r.start)
           (there_map (flagged_before flags) a.starts r.start r.is_start) refl in
           let same : marks_of to.run.cycle ≡ marks_of r.cycle = same_from_all_zip (λ c d. d ≡ c) (marks_of r.cycle) (marks_of to.run.cycle) to.marks (λ c d e. e) in
-          accepts_of new u v r.turns r.rounds to.run r.endless r.positive (ap (λ cs. met cs a.formula) same ∙ r.meets)
+          accepts_of new u v r.stem_rounds r.cycle_rounds to.run r.endless r.positive (ap (λ cs. met cs a.formula) same ∙ r.meets)
 
   pub renumbered_formed : IsWellFormed a → IsWellFormed new
   renumbered_formed formed = record {

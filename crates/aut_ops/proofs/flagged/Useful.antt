@@ -79,7 +79,7 @@ useful_accepts a formed flags are condition = between_accepts a formed flags (λ
   where
     useful : (u v : List NameSet) (r : Accepts a u v) (q : ℕ) → Reaches (passable_arcs a) r.start q → Reaches (passable_arcs a) q r.state → IsUseful a q
     useful u v r q before after =
-        let found = goes_marked a formed r.state r.state (copies r.rounds v) r.cycle r.returns (ap (met (marks_of r.cycle)) (sym condition) ∙ r.meets) in
+        let found = goes_marked a formed r.state r.state (copies r.cycle_rounds v) r.cycle r.returns (ap (met (marks_of r.cycle)) (sym condition) ∙ r.meets) in
         record {
           reached = record { start = r.start; listed = r.is_start; reached = before };
           edge = found.edge;

@@ -49,25 +49,26 @@ image a b Stands Marked sim p q p' (x ∷ xs) (e ∷ es) stands path =
     }
 
 -- the run of the second that answers one of the first
-pub record RunImage (b : Automaton) (Marked : List ℕ → List ℕ → Type 0) (u v : List NameSet) (turns rounds : ℕ) (cycle : List LabelledEdge) : Type 0 where
-  pub run : LassoRun b u v turns rounds
+pub record RunImage (b : Automaton) (Marked : List ℕ → List ℕ → Type 0) (u v : List NameSet) (stem_rounds cycle_rounds : ℕ) (cycle : List LabelledEdge) : Type 0 where
+  pub run : LassoRun b u v stem_rounds cycle_rounds
   pub marks : AllZip Marked (marks_of cycle) (marks_of run.cycle)
 
 pub run_image : (a b : Automaton) (Stands : ℕ → ℕ → Type 0) (Marked : List ℕ → List ℕ → Type 0) → Simulates a b Stands Marked
-    → (u v : List NameSet) (turns rounds : ℕ) (r : LassoRun a u v turns rounds) (start : ℕ) → Contains b.starts start → Stands r.start start → RunImage b Marked u v turns rounds r.cycle
-run_image a b Stands Marked sim u v turns rounds r start is_start stands =
-    let way = image a b Stands Marked sim r.start start r.state (u ++ copies turns v) r.way stands r.leads in
-    let cycle = image a b Stands Marked sim r.state way.state r.state (copies rounds v) r.cycle way.to r.returns in
-    let P : ℕ → Type 0 = λ s. IsPath b way.state (copies rounds v) cycle.edges s in
+    → (u v : List NameSet) (stem_rounds cycle_rounds : ℕ) (r : LassoRun a u v stem_rounds cycle_rounds) (start : ℕ) → Contains b.starts start → Stands r.start start
+    → RunImage b Marked u v stem_rounds cycle_rounds r.cycle
+run_image a b Stands Marked sim u v stem_rounds cycle_rounds r start is_start stands =
+    let path_edges = image a b Stands Marked sim r.start start r.state (u ++ copies stem_rounds v) r.path_edges stands r.leads in
+    let cycle = image a b Stands Marked sim r.state path_edges.state r.state (copies cycle_rounds v) r.cycle path_edges.to r.returns in
+    let P : ℕ → Type 0 = λ s. IsPath b path_edges.state (copies cycle_rounds v) cycle.edges s in
     record {
       run = record {
         start = start;
-        state = way.state;
-        way = way.edges;
+        state = path_edges.state;
+        path_edges = path_edges.edges;
         cycle = cycle.edges;
         is_start = is_start;
-        leads = way.goes;
-        returns = subst P (sim.one r.state cycle.state way.state cycle.to way.to) cycle.goes;
+        leads = path_edges.goes;
+        returns = subst P (sim.one r.state cycle.state path_edges.state cycle.to path_edges.to) cycle.goes;
       };
       marks = cycle.marks;
     }

@@ -167,18 +167,19 @@ module _ (a b : Automaton) (names : b.names ≡ a.names) (first : IsWellFormed a
 
   first_accepted : (u v : List NameSet) → Accepts a u v → Accepts both u v
   first_accepted u v r =
-      let to = run_image a both (λ p q. p ≡ q) (λ c d. d ≡ c) first_in_sum u v r.turns r.rounds (run_of a u v r) r.start
+      let to = run_image a both (λ p q. p ≡ q) (λ c d. d ≡ c) first_in_sum u v r.stem_rounds r.cycle_rounds (run_of a u v r) r.start
       (Contains-append_left a.starts (map (λ p. p + a.states) b.starts) r.start r.is_start) refl in
       let same : marks_of to.run.cycle ≡ marks_of r.cycle = same_from_all_zip (λ c d. d ≡ c) (marks_of r.cycle) (marks_of to.run.cycle) to.marks (λ c d e. e) in
-      accepts_of both u v r.turns r.rounds to.run r.endless r.positive
-      (ap (λ cs. met cs both.formula) same ∙ (met_first (marks_of r.cycle) (within_first r.state r.state (copies r.rounds v) r.cycle r.returns) ∙ r.meets))
+      accepts_of both u v r.stem_rounds r.cycle_rounds to.run r.endless r.positive
+      (ap (λ cs. met cs both.formula) same ∙ (met_first (marks_of r.cycle) (within_first r.state r.state (copies r.cycle_rounds v) r.cycle r.returns) ∙ r.meets))
 
   second_accepted : (u v : List NameSet) → Accepts b u v → Accepts both u v
   second_accepted u v r =
-      let to = run_image b both (λ p q. q ≡ p + a.states) (λ c d. Moved d c) second_in_sum u v r.turns r.rounds (run_of b u v r) (r.start + a.states)
+      let to = run_image b both (λ p q. q ≡ p + a.states) (λ c d. Moved d c) second_in_sum u v r.stem_rounds r.cycle_rounds (run_of b u v r) (r.start + a.states)
       (Contains-append_right a.starts (map (λ p. p + a.states) b.starts) (r.start + a.states) (there_map (λ p. p + a.states) b.starts r.start r.is_start)) refl in
-      let some = cycle_long both to.run.state r.rounds v to.run.cycle r.endless r.positive to.run.returns in
-      accepts_of both u v r.turns r.rounds to.run r.endless r.positive (met_second (marks_of to.run.cycle) (marks_of r.cycle) some (turn (marks_of r.cycle) (marks_of to.run.cycle) to.marks) ∙ r.meets)
+      let some = cycle_long both to.run.state r.cycle_rounds v to.run.cycle r.endless r.positive to.run.returns in
+      accepts_of both u v r.stem_rounds r.cycle_rounds to.run r.endless r.positive
+      (met_second (marks_of to.run.cycle) (marks_of r.cycle) some (turn (marks_of r.cycle) (marks_of to.run.cycle) to.marks) ∙ r.meets)
     where
       turn : (cs ds : List (List ℕ)) → AllZip (λ c d. Moved d c) cs ds → AllZip Moved ds cs
       turn [] [] zip = tt
@@ -188,17 +189,17 @@ module _ (a b : Automaton) (names : b.names ≡ a.names) (first : IsWellFormed a
 
   from_first : (u v : List NameSet) (r : Accepts both u v) → Contains a.starts r.start → Accepts a u v
   from_first u v r start =
-      let to = run_image both a (λ p q. (p ≡ q) × (p < a.states)) (λ c d. d ≡ c) sum_in_first u v r.turns r.rounds (run_of both u v r) r.start start
+      let to = run_image both a (λ p q. (p ≡ q) × (p < a.states)) (λ c d. d ≡ c) sum_in_first u v r.stem_rounds r.cycle_rounds (run_of both u v r) r.start start
       (refl, All-contains (λ p. p < a.states) a.starts r.start first.starts start) in
       let same : marks_of to.run.cycle ≡ marks_of r.cycle = same_from_all_zip (λ c d. d ≡ c) (marks_of r.cycle) (marks_of to.run.cycle) to.marks (λ c d e. e) in
-      accepts_of a u v r.turns r.rounds to.run r.endless r.positive
-      (sym (met_first (marks_of to.run.cycle) (within_first to.run.state to.run.state (copies r.rounds v) to.run.cycle to.run.returns)) ∙ (ap (λ cs. met cs both.formula) same ∙ r.meets))
+      accepts_of a u v r.stem_rounds r.cycle_rounds to.run r.endless r.positive
+      (sym (met_first (marks_of to.run.cycle) (within_first to.run.state to.run.state (copies r.cycle_rounds v) to.run.cycle to.run.returns)) ∙ (ap (λ cs. met cs both.formula) same ∙ r.meets))
 
   from_second : (u v : List NameSet) (r : Accepts both u v) → (q : ℕ) → Contains b.starts q → r.start ≡ q + a.states → Accepts b u v
   from_second u v r q start at =
-      let to = run_image both b (λ p q. p ≡ q + a.states) Moved sum_in_second u v r.turns r.rounds (run_of both u v r) q start at in
-      let some = cycle_long both r.state r.rounds v r.cycle r.endless r.positive r.returns in
-      accepts_of b u v r.turns r.rounds to.run r.endless r.positive (sym (met_second (marks_of r.cycle) (marks_of to.run.cycle) some to.marks) ∙ r.meets)
+      let to = run_image both b (λ p q. p ≡ q + a.states) Moved sum_in_second u v r.stem_rounds r.cycle_rounds (run_of both u v r) q start at in
+      let some = cycle_long both r.state r.cycle_rounds v r.cycle r.endless r.positive r.returns in
+      accepts_of b u v r.stem_rounds r.cycle_rounds to.run r.endless r.positive (sym (met_second (marks_of r.cycle) (marks_of to.run.cycle) some to.marks) ∙ r.meets)
 
   from_sum : (u v : List NameSet) (r : Accepts both u v) → Accepts a u v ⊎ Accepts b u v
   from_sum u v r = elim (Contains-append_cases a.starts (map (λ p. p + a.states) b.starts) r.start r.is_start) [

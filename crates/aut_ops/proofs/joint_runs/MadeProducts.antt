@@ -94,13 +94,14 @@ pub over_runs : (a : Automaton) (names : List (List ℕ)) → AreAmong a.names n
 over_runs a names among formed runs u v endless =
     let some = runs u v endless in
     let any : Automaton = record a { formula = True } in
-    let one = accepts_of any u v some.turns some.rounds (run_wider a any u v refl (λ e there. there) some.turns some.rounds some.run some.run.is_start) endless some.positive refl in
+    let one = accepts_of any u v some.stem_rounds some.cycle_rounds (run_wider a any u v refl (λ e there. there) some.stem_rounds some.cycle_rounds some.run some.run.is_start) endless
+    some.positive refl in
     let two = (over_accepts any names among (labels_below a formed) u v).1 one in
     record {
-      turns = two.turns;
-      rounds = two.rounds;
+      stem_rounds = two.stem_rounds;
+      cycle_rounds = two.cycle_rounds;
       positive = two.positive;
-      run = run_wider (over_names names any) (over_names names a) u v refl (λ e there. there) two.turns two.rounds (run_of (over_names names any) u v two) two.is_start;
+      run = run_wider (over_names names any) (over_names names a) u v refl (λ e there. there) two.stem_rounds two.cycle_rounds (run_of (over_names names any) u v two) two.is_start;
     }
 
 -- and the language of a product of automata over more names

@@ -34,41 +34,41 @@ module _ (a b : Automaton) (names : b.names ≡ a.names) (formed : IsWellFormed 
       let here : slice_get pairs r.start ≡ Some (s, t) = ap (slice_get pairs) (sym (alone k r.start r.is_start)) ∙ at in
       let run = run_of (begun k whole) u v r in
       let one = run_image (begun k whole) (begun s a) (FirstOf conj a b names formed also pairs listed) (AgreeBelow a.sets)
-      (begun_alike whole a k s _ _ (product_in_first conj a b names formed also pairs listed)) u v r.turns r.rounds run s (first_there s []) (t, here) in
+      (begun_alike whole a k s _ _ (product_in_first conj a b names formed also pairs listed)) u v r.stem_rounds r.cycle_rounds run s (first_there s []) (t, here) in
       let two = run_image (begun k whole) (begun t b) (SecondOf conj a b names formed also pairs listed) (AgreeRaised a.sets b.sets)
-      (begun_alike whole b k t _ _ (product_in_second conj a b names formed also pairs listed)) u v r.turns r.rounds run t (first_there t []) (s, here) in
+      (begun_alike whole b k t _ _ (product_in_second conj a b names formed also pairs listed)) u v r.stem_rounds r.cycle_rounds run t (first_there t []) (s, here) in
       let cycle = marks_of r.cycle in
       let both = and_parts (met cycle a.formula) (met cycle (shift a.sets b.formula)) (sym (met-conj cycle a.formula (shift a.sets b.formula)) ∙ r.meets) in (
-        accepts_of (begun s a) u v r.turns r.rounds one.run r.endless r.positive (sym (met_below a.sets cycle (marks_of one.run.cycle) one.marks a.formula formed.formula) ∙ both.0),
-        accepts_of (begun t b) u v r.turns r.rounds two.run r.endless r.positive (sym (met_raised a.sets b.sets cycle (marks_of two.run.cycle) two.marks b.formula also.formula) ∙ both.1),
+        accepts_of (begun s a) u v r.stem_rounds r.cycle_rounds one.run r.endless r.positive (sym (met_below a.sets cycle (marks_of one.run.cycle) one.marks a.formula formed.formula) ∙ both.0),
+        accepts_of (begun t b) u v r.stem_rounds r.cycle_rounds two.run r.endless r.positive (sym (met_raised a.sets b.sets cycle (marks_of two.run.cycle) two.marks b.formula also.formula) ∙ both.1),
       )
 
   to_whole : (u v : List NameSet) → Accepts (begun s a) u v → Accepts (begun t b) u v → Accepts (begun k whole) u v
   to_whole u v f g =
-      let one = later (begun s a) u v f.turns f.rounds g.turns g.rounds (run_of (begun s a) u v f) f.positive g.positive in
-      let two = later (begun t b) u v g.turns g.rounds f.turns f.rounds (run_of (begun t b) u v g) g.positive f.positive in
-      let turns : g.turns + f.turns ≡ f.turns + g.turns = omega arith in
-      let rounds : f.rounds * g.rounds ≡ g.rounds * f.rounds = mul_comm f.rounds g.rounds in
+      let one = later (begun s a) u v f.stem_rounds f.cycle_rounds g.stem_rounds g.cycle_rounds (run_of (begun s a) u v f) f.positive g.positive in
+      let two = later (begun t b) u v g.stem_rounds g.cycle_rounds f.stem_rounds f.cycle_rounds (run_of (begun t b) u v g) g.positive f.positive in
+      let stem_rounds : g.stem_rounds + f.stem_rounds ≡ f.stem_rounds + g.stem_rounds = omega arith in
+      let cycle_rounds : f.cycle_rounds * g.cycle_rounds ≡ g.cycle_rounds * f.cycle_rounds = mul_comm f.cycle_rounds g.cycle_rounds in
       let first = one.run in
       let second = two.run in
-      let word : List NameSet = u ++ copies (f.turns + g.turns) v in
-      let round : List NameSet = copies (g.rounds * f.rounds) v in
-      let way : IsPath a s word first.way first.state = path_wider (begun s a) a refl (λ e there. there) s first.state word first.way
-      (subst (λ p. IsPath (begun s a) p word first.way first.state) (sym (alone s first.start first.is_start)) first.leads) in
-      let way_too : IsPath b t word second.way second.state = path_wider (begun t b) b refl (λ e there. there) t second.state word second.way
-      (subst (λ n. IsPath (begun t b) t (u ++ copies n v) second.way second.state) turns
-      (subst (λ p. IsPath (begun t b) p (u ++ copies (g.turns + f.turns) v) second.way second.state) (sym (alone t second.start second.is_start)) second.leads)) in
+      let word : List NameSet = u ++ copies (f.stem_rounds + g.stem_rounds) v in
+      let round : List NameSet = copies (g.cycle_rounds * f.cycle_rounds) v in
+      let path_edges : IsPath a s word first.path_edges first.state = path_wider (begun s a) a refl (λ e there. there) s first.state word first.path_edges
+      (subst (λ p. IsPath (begun s a) p word first.path_edges first.state) (sym (alone s first.start first.is_start)) first.leads) in
+      let way_too : IsPath b t word second.path_edges second.state = path_wider (begun t b) b refl (λ e there. there) t second.state word second.path_edges
+      (subst (λ n. IsPath (begun t b) t (u ++ copies n v) second.path_edges second.state) stem_rounds
+      (subst (λ p. IsPath (begun t b) p (u ++ copies (g.stem_rounds + f.stem_rounds) v) second.path_edges second.state) (sym (alone t second.start second.is_start)) second.leads)) in
       let back : IsPath a first.state round first.cycle first.state = path_wider (begun s a) a refl (λ e there. there) first.state first.state round first.cycle first.returns in
       let back_too : IsPath b second.state round second.cycle second.state = path_wider (begun t b) b refl (λ e there. there) second.state second.state round second.cycle
-      (subst (λ n. IsPath (begun t b) second.state (copies n v) second.cycle second.state) rounds second.returns) in
-      let leads = pair_path conj a b names formed also pairs listed k s t first.state second.state word first.way second.way at way way_too in
+      (subst (λ n. IsPath (begun t b) second.state (copies n v) second.cycle second.state) cycle_rounds second.returns) in
+      let leads = pair_path conj a b names formed also pairs listed k s t first.state second.state word first.path_edges second.path_edges at path_edges way_too in
       let returns = pair_path conj a b names formed also pairs listed leads.state first.state second.state first.state second.state round first.cycle second.cycle leads.to back back_too in
       let closed : returns.state ≡ leads.state =
       one_place same_pair pair_tells pairs (pairs_differ a b pairs listed) returns.state leads.state (first.state, second.state) returns.to leads.to in
-      let run : LassoRun (begun k whole) u v (f.turns + g.turns) (g.rounds * f.rounds) = record {
+      let run : LassoRun (begun k whole) u v (f.stem_rounds + g.stem_rounds) (g.cycle_rounds * f.cycle_rounds) = record {
         start = k;
         state = leads.state;
-        way = leads.edges;
+        path_edges = leads.edges;
         cycle = returns.edges;
         is_start = first_there k [];
         leads = path_wider whole (begun k whole) refl (λ e there. there) k leads.state word leads.edges leads.goes;
@@ -76,8 +76,8 @@ module _ (a b : Automaton) (names : b.names ≡ a.names) (formed : IsWellFormed 
             (subst (λ q. IsPath whole leads.state round returns.edges q) closed returns.goes);
       } in
       let cycle = marks_of returns.edges in
-      let wide : g.rounds ≤ g.rounds * f.rounds = le-mul_of_pos_right g.rounds f.positive in
-      accepts_of (begun k whole) u v (f.turns + g.turns) (g.rounds * f.rounds) run f.endless (omega (arith, wide, g.positive))
+      let wide : g.cycle_rounds ≤ g.cycle_rounds * f.cycle_rounds = le-mul_of_pos_right g.cycle_rounds f.positive in
+      accepts_of (begun k whole) u v (f.stem_rounds + g.stem_rounds) (g.cycle_rounds * f.cycle_rounds) run f.endless (omega (arith, wide, g.positive))
       (met-conj cycle a.formula (shift a.sets b.formula) ∙ and_from (met cycle a.formula) (met cycle (shift a.sets b.formula))
       (met_below a.sets cycle (marks_of first.cycle) returns.firsts a.formula formed.formula ∙ (one.alike a.formula ∙ f.meets))
       (met_raised a.sets b.sets cycle (marks_of second.cycle) returns.seconds b.formula also.formula ∙ (two.alike b.formula ∙ g.meets)))

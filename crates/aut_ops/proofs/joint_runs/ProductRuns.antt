@@ -25,8 +25,8 @@ use Rattle.aut_ops.specs.Labels.{both_labels}
 use Rattle.aut_ops.specs.Products.{ArePairs, numbered, product_on, same_pair, start_pairs}
 
 -- a run of the product that is made of runs of both, with their cycles
-pub record JointRun (a b p : Automaton) (u v : List NameSet) (turns rounds : ℕ) (firsts seconds : List LabelledEdge) : Type 0 where
-  pub run : LassoRun p u v turns rounds
+pub record JointRun (a b p : Automaton) (u v : List NameSet) (stem_rounds cycle_rounds : ℕ) (firsts seconds : List LabelledEdge) : Type 0 where
+  pub run : LassoRun p u v stem_rounds cycle_rounds
   pub first : (f : FormulaTree) → SetsBelow a.sets f → met (marks_of run.cycle) f ≡ met (marks_of firsts) f
   pub second : (f : FormulaTree) → SetsBelow b.sets f → met (marks_of run.cycle) (shift a.sets f) ≡ met (marks_of seconds) f
 
@@ -157,23 +157,25 @@ module _ (join : FormulaTree → FormulaTree → FormulaTree) (a b : Automaton) 
         seconds = (joint_second a.sets b.sets e.marks f.marks (edge_of_first e one.1).marks, rest.seconds);
       }
 
-  same_turns : (u v : List NameSet) (turns rounds : ℕ) (r : LassoRun a u v turns rounds) (s : LassoRun b u v turns rounds) → JointRun a b p u v turns rounds r.cycle s.cycle
-  same_turns u v turns rounds r s =
+  same_turns : (u v : List NameSet) (stem_rounds cycle_rounds : ℕ) (r : LassoRun a u v stem_rounds cycle_rounds) (s : LassoRun b u v stem_rounds cycle_rounds)
+      → JointRun a b p u v stem_rounds cycle_rounds r.cycle s.cycle
+  same_turns u v stem_rounds cycle_rounds r s =
       let differ = pairs_differ a b pairs listed in
       let there = start_there a b pairs listed r.start s.start r.is_start s.is_start in
       let start : ℕ = position_or_len (same_pair (r.start, s.start)) pairs in
-      let way = pair_path start r.start s.start r.state s.state (u ++ copies turns v) r.way s.way (place_there same_pair pair_tells pairs differ (r.start, s.start) there) r.leads s.leads in
-      let cycle = pair_path way.state r.state s.state r.state s.state (copies rounds v) r.cycle s.cycle way.to r.returns s.returns in
-      let P : ℕ → Type 0 = λ q. IsPath p way.state (copies rounds v) cycle.edges q in
+      let path_edges = pair_path start r.start s.start r.state s.state (u ++ copies stem_rounds v) r.path_edges s.path_edges
+      (place_there same_pair pair_tells pairs differ (r.start, s.start) there) r.leads s.leads in
+      let cycle = pair_path path_edges.state r.state s.state r.state s.state (copies cycle_rounds v) r.cycle s.cycle path_edges.to r.returns s.returns in
+      let P : ℕ → Type 0 = λ q. IsPath p path_edges.state (copies cycle_rounds v) cycle.edges q in
       record {
         run = record {
           start = start;
-          state = way.state;
-          way = way.edges;
+          state = path_edges.state;
+          path_edges = path_edges.edges;
           cycle = cycle.edges;
           is_start = there_map (λ pair. position_or_len (same_pair pair) pairs) (start_pairs a b) (r.start, s.start) (there_start a b r.start s.start r.is_start s.is_start);
-          leads = way.goes;
-          returns = subst P (one_place same_pair pair_tells pairs differ cycle.state way.state (r.state, s.state) cycle.to way.to) cycle.goes;
+          leads = path_edges.goes;
+          returns = subst P (one_place same_pair pair_tells pairs differ cycle.state path_edges.state (r.state, s.state) cycle.to path_edges.to) cycle.goes;
         };
         first = λ f below. met_below a.sets (marks_of cycle.edges) (marks_of r.cycle) cycle.firsts f below;
         second = λ f below. met_raised a.sets b.sets (marks_of cycle.edges) (marks_of s.cycle) cycle.seconds f below;
@@ -181,23 +183,23 @@ module _ (join : FormulaTree → FormulaTree → FormulaTree) (a b : Automaton) 
 
   -- runs of both over the same word give a run of the product, wherever each of them closes
   pub record Joined (u v : List NameSet) (firsts seconds : List LabelledEdge) : Type 0 where
-    pub turns : ℕ
-    pub rounds : ℕ
-    pub positive : 0 < rounds
-    pub joint : JointRun a b p u v turns rounds firsts seconds
+    pub stem_rounds : ℕ
+    pub cycle_rounds : ℕ
+    pub positive : 0 < cycle_rounds
+    pub joint : JointRun a b p u v stem_rounds cycle_rounds firsts seconds
 
   pub join_runs : (u v : List NameSet) (i j k l : ℕ) (r : LassoRun a u v i j) (s : LassoRun b u v k l) → 0 < j → 0 < l → Joined u v r.cycle s.cycle
   join_runs u v i j k l r s some_r some_s =
       let one = later a u v i j k l r some_r some_s in
       let two = later b u v k l i j s some_s some_r in
-      let turns : k + i ≡ i + k = omega arith in
-      let rounds : j * l ≡ l * j = mul_comm j l in
-      let again : Likewise b u v (i + k) (l * j) s.cycle = subst (λ t. Likewise b u v t (l * j) s.cycle) turns (subst (λ m. Likewise b u v (k + i) m s.cycle) rounds two) in
+      let stem_rounds : k + i ≡ i + k = omega arith in
+      let cycle_rounds : j * l ≡ l * j = mul_comm j l in
+      let again : Likewise b u v (i + k) (l * j) s.cycle = subst (λ t. Likewise b u v t (l * j) s.cycle) stem_rounds (subst (λ m. Likewise b u v (k + i) m s.cycle) cycle_rounds two) in
       let both = same_turns u v (i + k) (l * j) one.run again.run in
       let wide : l ≤ l * j = le-mul_of_pos_right l some_r in
       record {
-        turns = i + k;
-        rounds = l * j;
+        stem_rounds = i + k;
+        cycle_rounds = l * j;
         positive = omega (arith, wide, some_s);
         joint = record {
           run = both.run;
@@ -207,20 +209,20 @@ module _ (join : FormulaTree → FormulaTree → FormulaTree) (a b : Automaton) 
       }
 
   -- the runs of both of which a run of the product is made
-  pub record Parts (u v : List NameSet) (turns rounds : ℕ) (cycle : List LabelledEdge) : Type 0 where
-    pub first_run : LassoRun a u v turns rounds
-    pub second_run : LassoRun b u v turns rounds
+  pub record Parts (u v : List NameSet) (stem_rounds cycle_rounds : ℕ) (cycle : List LabelledEdge) : Type 0 where
+    pub first_run : LassoRun a u v stem_rounds cycle_rounds
+    pub second_run : LassoRun b u v stem_rounds cycle_rounds
     pub first : (f : FormulaTree) → SetsBelow a.sets f → met (marks_of cycle) f ≡ met (marks_of first_run.cycle) f
     pub second : (f : FormulaTree) → SetsBelow b.sets f → met (marks_of cycle) (shift a.sets f) ≡ met (marks_of second_run.cycle) f
 
-  pub part_runs : (u v : List NameSet) (turns rounds : ℕ) (r : LassoRun p u v turns rounds) → Parts u v turns rounds r.cycle
-  part_runs u v turns rounds r =
+  pub part_runs : (u v : List NameSet) (stem_rounds cycle_rounds : ℕ) (r : LassoRun p u v stem_rounds cycle_rounds) → Parts u v stem_rounds cycle_rounds r.cycle
+  part_runs u v stem_rounds cycle_rounds r =
       let start = from_map (λ pair. position_or_len (same_pair pair) pairs) (start_pairs a b) r.start r.is_start in
       let both = from_start a b start.0 start.1 in
       let there = start_there a b pairs listed start.0.0 start.0.1 both.0 both.1 in
       let at : slice_get pairs r.start ≡ Some start.0 = ap (slice_get pairs) (sym start.2) ∙ place_there same_pair pair_tells pairs (pairs_differ a b pairs listed) start.0 there in
-      let one = run_image p a FirstOf (AgreeBelow a.sets) product_in_first u v turns rounds r start.0.0 both.0 (start.0.1, at) in
-      let two = run_image p b SecondOf (AgreeRaised a.sets b.sets) product_in_second u v turns rounds r start.0.1 both.1 (start.0.0, at) in
+      let one = run_image p a FirstOf (AgreeBelow a.sets) product_in_first u v stem_rounds cycle_rounds r start.0.0 both.0 (start.0.1, at) in
+      let two = run_image p b SecondOf (AgreeRaised a.sets b.sets) product_in_second u v stem_rounds cycle_rounds r start.0.1 both.1 (start.0.0, at) in
       record {
         first_run = one.run;
         second_run = two.run;

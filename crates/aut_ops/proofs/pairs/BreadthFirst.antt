@@ -16,23 +16,23 @@ use Rattle.exploration.specs.Turns.{with_new}
 -- what is reached
 
 pub reached_start : {X : Type 0} (starts : List X) (next : X → List X) (x : X) → Contains starts x → IsReachedFrom starts next x
-reached_start starts next x there = record { start = x; is_start = there; way = []; leads = refl }
+reached_start starts next x there = record { start = x; is_start = there; path = []; leads = refl }
 
-leads_on : {X : Type 0} (next : X → List X) (x y z : X) (way : List X) → LeadsBy next x way y → Contains (next y) z → LeadsBy next x (way ++ z ∷ []) z
+leads_on : {X : Type 0} (next : X → List X) (x y z : X) (path : List X) → LeadsBy next x path y → Contains (next y) z → LeadsBy next x (path ++ z ∷ []) z
 leads_on next x y z [] leads there = (subst (λ w. Contains (next w) z) (sym leads) there, refl)
-leads_on next x y z (w ∷ way) leads there = (leads.0, leads_on next w y z way leads.1 there)
+leads_on next x y z (w ∷ path) leads there = (leads.0, leads_on next w y z path leads.1 there)
 
 pub reached_next : {X : Type 0} (starts : List X) (next : X → List X) (y z : X) → IsReachedFrom starts next y → Contains (next y) z → IsReachedFrom starts next z
-reached_next starts next y z r there = record { start = r.start; is_start = r.is_start; way = r.way ++ z ∷ []; leads = leads_on next r.start y z r.way r.leads there }
+reached_next starts next y z r there = record { start = r.start; is_start = r.is_start; path = r.path ++ z ∷ []; leads = leads_on next r.start y z r.path r.leads there }
 
 -- a property of the starts that steps preserve holds of all that is reached
-leads_keeps : {X : Type 0} (P : X → Type 0) (next : X → List X) → ((x y : X) → P x → Contains (next x) y → P y) → (x y : X) (way : List X) → P x → LeadsBy next x way y → P y
+leads_keeps : {X : Type 0} (P : X → Type 0) (next : X → List X) → ((x y : X) → P x → Contains (next x) y → P y) → (x y : X) (path : List X) → P x → LeadsBy next x path y → P y
 leads_keeps P next step x y [] here leads = subst P leads here
-leads_keeps P next step x y (z ∷ way) here leads = leads_keeps P next step z y way (step x z here leads.0) leads.1
+leads_keeps P next step x y (z ∷ path) here leads = leads_keeps P next step z y path (step x z here leads.0) leads.1
 
 pub reached_keeps : {X : Type 0} (P : X → Type 0) (starts : List X) (next : X → List X) → ((x : X) → Contains starts x → P x) → ((x y : X) → P x → Contains (next x) y → P y) → (y : X)
     → IsReachedFrom starts next y → P y
-reached_keeps P starts next first step y r = leads_keeps P next step r.start y r.way (first r.start r.is_start) r.leads
+reached_keeps P starts next first step y r = leads_keeps P next step r.start y r.path (first r.start r.is_start) r.leads
 
 -- lists with each item once
 

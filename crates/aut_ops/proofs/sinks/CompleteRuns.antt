@@ -90,34 +90,35 @@ module _ (a : Automaton) (formed : IsWellFormed a) (complete : IsComplete a) whe
         by_cases (inr past) is = absurd (omega (arith, less, past))
 
     -- the state after this many turns
-    abbrev turns : ℕ → ℕ → ℕ
-    turns zero p = p
-    turns (suc k) p = turns k (after p)
+    abbrev stem_rounds : ℕ → ℕ → ℕ
+    stem_rounds zero p = p
+    stem_rounds (suc k) p = stem_rounds k (after p)
 
-    turns_add : (j k p : ℕ) → turns (j + k) p ≡ turns k (turns j p)
-    turns_add zero k p = let e : 0 + k ≡ k = omega arith in ap (λ n. turns n p) e
-    turns_add (suc j) k p = let e : suc j + k ≡ suc (j + k) = omega arith in ap (λ n. turns n p) e ∙ turns_add j k (after p)
+    turns_add : (j k p : ℕ) → stem_rounds (j + k) p ≡ stem_rounds k (stem_rounds j p)
+    turns_add zero k p = let e : 0 + k ≡ k = omega arith in ap (λ n. stem_rounds n p) e
+    turns_add (suc j) k p = let e : suc j + k ≡ suc (j + k) = omega arith in ap (λ n. stem_rounds n p) e ∙ turns_add j k (after p)
 
     record Turns (k p : ℕ) : Type 0 where
       edges : List LabelledEdge
-      goes : IsPath a p (copies k v) edges (turns k p)
-      within : turns k p < a.states
+      goes : IsPath a p (copies k v) edges (stem_rounds k p)
+      within : stem_rounds k p < a.states
 
     all_turns : (k p : ℕ) → p < a.states → Turns k p
     all_turns zero p less = record { edges = []; goes = refl; within = less }
     all_turns (suc k) p less =
         let one = turn p less in
         let rest = all_turns k (after p) one.within in
-        record { edges = one.edges ++ rest.edges; goes = path_join a p (after p) (turns k (after p)) v (copies k v) one.edges rest.edges one.goes rest.goes; within = rest.within }
+        record { edges = one.edges ++ rest.edges; goes = path_join a p (after p) (stem_rounds k (after p)) v (copies k v) one.edges rest.edges one.goes rest.goes; within = rest.within }
 
     some_run : (u : List NameSet) → HasRun a u v
     some_run u =
         let start : ℕ = get_or a.starts 0 0 in
         let is_start : Contains a.starts start = (0, complete.start, get_or_default a.starts 0 start 0 complete.start) in
         let stem = from start u (All-contains (λ p. p < a.states) a.starts start formed.starts is_start) in
-        let states : List ℕ = map (λ k. turns k stem.state) (range_with_len 0 (a.states + 1)) in
-        let long : length states ≡ a.states + 1 = length-map-range_with_len (λ k. turns k stem.state) 0 (a.states + 1) in
-        let at : (k : ℕ) → k < a.states + 1 → get_or states k 0 ≡ turns k stem.state = λ k less. get_or-map-range_with_len (λ k. turns k stem.state) 0 (a.states + 1) k k 0 less (omega arith) in
+        let states : List ℕ = map (λ k. stem_rounds k stem.state) (range_with_len 0 (a.states + 1)) in
+        let long : length states ≡ a.states + 1 = length-map-range_with_len (λ k. stem_rounds k stem.state) 0 (a.states + 1) in
+        let at : (k : ℕ) → k < a.states + 1 → get_or states k 0 ≡ stem_rounds k stem.state = λ k less. get_or-map-range_with_len (λ k. stem_rounds k stem.state) 0 (a.states + 1) k k 0 less
+        (omega arith) in
         let twice = two_same a.states states (λ k d within.
         let here = at k (omega (arith, within, long)) in
         let same = get_or_default states k d 0 within in
@@ -125,23 +126,23 @@ module _ (a : Automaton) (formed : IsWellFormed a) (complete : IsComplete a) whe
         omega (arith, here, same, low)) (omega (arith, long)) in
         let one = all_turns twice.early stem.state stem.within in
         let more : ℕ = twice.late - twice.early in
-        let two = all_turns more (turns twice.early stem.state) one.within in
+        let two = all_turns more (stem_rounds twice.early stem.state) one.within in
         let whole : twice.early + more ≡ twice.late = omega (arith, twice.order) in
-        let back : turns more (turns twice.early stem.state) ≡ turns twice.early stem.state =
+        let back : stem_rounds more (stem_rounds twice.early stem.state) ≡ stem_rounds twice.early stem.state =
         sym (turns_add twice.early more stem.state)
-        ∙ (ap (λ n. turns n stem.state) whole ∙ (sym (at twice.late (omega (arith, twice.within, long))) ∙ (sym twice.same ∙ at twice.early (omega (arith, twice.within, twice.order, long))))) in
+        ∙ (ap (λ n. stem_rounds n stem.state) whole ∙ (sym (at twice.late (omega (arith, twice.within, long))) ∙ (sym twice.same ∙ at twice.early (omega (arith, twice.within, twice.order, long))))) in
         record {
-          turns = twice.early;
-          rounds = more;
+          stem_rounds = twice.early;
+          cycle_rounds = more;
           positive = omega (arith, twice.order);
           run = record {
             start = start;
-            state = turns twice.early stem.state;
-            way = stem.edges ++ one.edges;
+            state = stem_rounds twice.early stem.state;
+            path_edges = stem.edges ++ one.edges;
             cycle = two.edges;
             is_start = is_start;
-            leads = path_join a start stem.state (turns twice.early stem.state) u (copies twice.early v) stem.edges one.edges stem.goes one.goes;
-            returns = subst (λ q. IsPath a (turns twice.early stem.state) (copies more v) two.edges q) back two.goes;
+            leads = path_join a start stem.state (stem_rounds twice.early stem.state) u (copies twice.early v) stem.edges one.edges stem.goes one.goes;
+            returns = subst (λ q. IsPath a (stem_rounds twice.early stem.state) (copies more v) two.edges q) back two.goes;
           };
         }
 

@@ -33,10 +33,10 @@ path_marks a P each p q (x ∷ xs) [] path = absurd path
 path_marks a P each p q (x ∷ xs) (e ∷ es) path = All-cons P e.marks (marks_of es) (each e path.1) (path_marks a P each e.to q xs es path.3)
 
 -- a closed path that reads a word has an edge
-pub cycle_long : (a : Automaton) (q rounds : ℕ) (v : List NameSet) (es : List LabelledEdge) → 0 < length v → 0 < rounds → IsPath a q (copies rounds v) es q → 0 < length (marks_of es)
-cycle_long a q rounds v es some positive path =
-    let wide : rounds ≤ rounds * length v = le-mul_of_pos_right rounds some in
-    omega (arith, wide, length-map es (λ (e : LabelledEdge). e.marks), as_long a q (copies rounds v) es q path, length-copies rounds v)
+pub cycle_long : (a : Automaton) (q cycle_rounds : ℕ) (v : List NameSet) (es : List LabelledEdge) → 0 < length v → 0 < cycle_rounds → IsPath a q (copies cycle_rounds v) es q → 0 < length (marks_of es)
+cycle_long a q cycle_rounds v es some positive path =
+    let wide : cycle_rounds ≤ cycle_rounds * length v = le-mul_of_pos_right cycle_rounds some in
+    omega (arith, wide, length-map es (λ (e : LabelledEdge). e.marks), as_long a q (copies cycle_rounds v) es q path, length-copies cycle_rounds v)
 
 module _ (a : Automaton) (formed : IsWellFormed a) where
   abbrev c : Automaton
@@ -125,8 +125,8 @@ module _ (a : Automaton) (formed : IsWellFormed a) where
 
   sink_rejects : (u v : List NameSet) (r : Accepts c u v) → r.state ≡ a.states → ⊥
   sink_rejects u v r at =
-      let marks = (in_sink r.state r.state (copies r.rounds v) r.cycle at r.returns).1 in
-      let fails = sink_fails (is_met_unmarked a.formula) (marks_of r.cycle) refl (cycle_long c r.state r.rounds v r.cycle r.endless r.positive r.returns) marks in
+      let marks = (in_sink r.state r.state (copies r.cycle_rounds v) r.cycle at r.returns).1 in
+      let fails = sink_fails (is_met_unmarked a.formula) (marks_of r.cycle) refl (cycle_long c r.state r.cycle_rounds v r.cycle r.endless r.positive r.returns) marks in
       false≢true (sym fails ∙ r.meets)
 
   outside_accepts : (u v : List NameSet) (r : Accepts c u v) → r.state < a.states → Accepts a u v
@@ -135,12 +135,12 @@ module _ (a : Automaton) (formed : IsWellFormed a) where
       by_cases : Contains a.starts r.start ⊎ (r.start ≡ a.states) → Accepts a u v
       by_cases (inl first) =
           let below = All-contains (λ p. p < a.states) a.starts r.start formed.starts first in
-          accepts_too c a u v r first (outside r.start r.state (u ++ copies r.turns v) r.way below at r.leads) (outside r.state r.state (copies r.rounds v) r.cycle at at r.returns)
+          accepts_too c a u v r first (outside r.start r.state (u ++ copies r.stem_rounds v) r.path_edges below at r.leads) (outside r.state r.state (copies r.cycle_rounds v) r.cycle at at r.returns)
           (met_old (is_met_unmarked a.formula) (marks_of r.cycle) r.meets)
-      by_cases (inr sunk) = let end = (in_sink r.start r.state (u ++ copies r.turns v) r.way sunk r.leads).0 in absurd (omega (arith, end, at))
+      by_cases (inr sunk) = let end = (in_sink r.start r.state (u ++ copies r.stem_rounds v) r.path_edges sunk r.leads).0 in absurd (omega (arith, end, at))
 
   with_sink_accepted : (u v : List NameSet) → Accepts c u v → Accepts a u v
-  with_sink_accepted u v r = by_cases (ends r.start r.state (u ++ copies r.turns v) r.way (first (start_is (length a.starts == 0) r.start r.is_start)) r.leads)
+  with_sink_accepted u v r = by_cases (ends r.start r.state (u ++ copies r.stem_rounds v) r.path_edges (first (start_is (length a.starts == 0) r.start r.is_start)) r.leads)
     where
       first : Contains a.starts r.start ⊎ (r.start ≡ a.states) → (r.start < a.states) ⊎ (r.start ≡ a.states)
       first (inl there) = inl (All-contains (λ p. p < a.states) a.starts r.start formed.starts there)
@@ -152,7 +152,7 @@ module _ (a : Automaton) (formed : IsWellFormed a) where
 
   with_sink_accepts : (u v : List NameSet) → Accepts a u v → Accepts c u v
   with_sink_accepts u v r =
-      let within = path_marks a (All (λ m. m < a.sets)) (λ e there. (All-contains (IsEdgeOf a) a.edges e formed.edges there).marks) r.state r.state (copies r.rounds v) r.cycle r.returns in
+      let within = path_marks a (All (λ m. m < a.sets)) (λ e there. (All-contains (IsEdgeOf a) a.edges e formed.edges there).marks) r.state r.state (copies r.cycle_rounds v) r.cycle r.returns in
       accepts_wider a c refl (old_there a formed) u v r (start_kept (length a.starts == 0) r.start refl r.is_start) (met_new (is_met_unmarked a.formula) (marks_of r.cycle) within r.meets)
 
   pub sink_keeps_language : AcceptTheSame c a

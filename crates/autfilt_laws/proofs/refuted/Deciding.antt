@@ -54,45 +54,45 @@ module _ (a : Automaton) (u v : List NameSet) where
   accepted : 0 < length v → Few → Accepts a u v
   accepted endless h =
       let stem = h.2 in
-      let turns = stem.holds in
-      let way = turns.2 in
-      let rounds = way.holds in
-      let cycle = rounds.2.1 in
+      let stem_rounds = stem.holds in
+      let path_edges = stem_rounds.2 in
+      let cycle_rounds = path_edges.holds in
+      let cycle = cycle_rounds.2.1 in
       record {
         endless = endless;
         start = h.0;
-        state = way.stop;
-        turns = turns.0;
-        rounds = rounds.0;
-        way = stem.path ++ way.path;
+        state = path_edges.stop;
+        stem_rounds = stem_rounds.0;
+        cycle_rounds = cycle_rounds.0;
+        path_edges = stem.path ++ path_edges.path;
         cycle = cycle.path;
         is_start = h.1;
-        leads = path_join a h.0 stem.stop way.stop u (copies turns.0 v) stem.path way.path stem.leads way.leads;
-        positive = rounds.2.0;
-        returns = subst (λ r. IsPath a way.stop (copies rounds.0 v) cycle.path r) cycle.holds.0 cycle.leads;
+        leads = path_join a h.0 stem.stop path_edges.stop u (copies stem_rounds.0 v) stem.path path_edges.path stem.leads path_edges.leads;
+        positive = cycle_rounds.2.0;
+        returns = subst (λ r. IsPath a path_edges.stop (copies cycle_rounds.0 v) cycle.path r) cycle.holds.0 cycle.leads;
         meets = cycle.holds.1;
       }
 
   few : StaysBelow a → ((s : ℕ) → Contains a.starts s → s < a.states) → Accepts a u v → Few
   few stays starts r =
-      let halves = path_split a r.start r.state u (copies r.turns v) r.way r.leads in
+      let halves = path_split a r.start r.state u (copies r.stem_rounds v) r.path_edges r.leads in
       let middle : halves.middle < a.states = end_below a stays r.start halves.middle u halves.front (starts r.start r.is_start) halves.first in
-      let state : r.state < a.states = end_below a stays halves.middle r.state (copies r.turns v) halves.back middle halves.second in
-      let way = shortened a stays v r.turns halves.middle r.state r.turns halves.back (omega arith) middle halves.second in
-      let cycle = shortened a stays v r.rounds r.state r.state r.rounds r.cycle (omega arith) state r.returns in
-      let closed : Found a r.state (copies cycle.rounds v) (Closes r.state) = record {
+      let state : r.state < a.states = end_below a stays halves.middle r.state (copies r.stem_rounds v) halves.back middle halves.second in
+      let path_edges = shortened a stays v r.stem_rounds halves.middle r.state r.stem_rounds halves.back (omega arith) middle halves.second in
+      let cycle = shortened a stays v r.cycle_rounds r.state r.state r.cycle_rounds r.cycle (omega arith) state r.returns in
+      let closed : Found a r.state (copies cycle.cycle_rounds v) (Closes r.state) = record {
         path = cycle.path;
         stop = r.state;
         leads = cycle.leads;
         holds = (refl, met_covering cycle.path r.cycle cycle.to cycle.from a.formula ∙ r.meets);
       } in
-      let arrives : Found a halves.middle (copies way.rounds v) (λ es q. Recurs q) = record {
-        path = way.path;
+      let arrives : Found a halves.middle (copies path_edges.cycle_rounds v) (λ es q. Recurs q) = record {
+        path = path_edges.path;
         stop = r.state;
-        leads = way.leads;
-        holds = (cycle.rounds, cycle.few, (cycle.some r.positive, closed));
+        leads = path_edges.leads;
+        holds = (cycle.cycle_rounds, cycle.few, (cycle.some r.positive, closed));
       } in
-      (r.start, r.is_start, record { path = halves.front; stop = halves.middle; leads = halves.first; holds = (way.rounds, way.few, arrives) })
+      (r.start, r.is_start, record { path = halves.front; stop = halves.middle; leads = halves.first; holds = (path_edges.cycle_rounds, path_edges.few, arrives) })
 
 pub accepts_or_not : (a : Automaton) → IsWellFormed a → (u v : List NameSet) → 0 < length v → OrNot (Accepts a u v)
 accepts_or_not a formed u v endless =

@@ -114,11 +114,11 @@ what_is_left v i j es e there = elim (Contains-append_cases (front v i es) (back
 
 -- a path of fewer rounds, at least one, with the same marks
 record Fewer (a : Automaton) (v : List NameSet) (p q k : ℕ) (es : List LabelledEdge) : Type 0 where
-  rounds : ℕ
-  fewer : rounds < k
-  some : 0 < rounds
+  cycle_rounds : ℕ
+  fewer : cycle_rounds < k
+  some : 0 < cycle_rounds
   path : List LabelledEdge
-  leads : IsPath a p (copies rounds v) path q
+  leads : IsPath a p (copies cycle_rounds v) path q
   to : Covers path es
   from : Covers es path
 
@@ -130,7 +130,7 @@ leave_out a v p q k i j es some later inside path state seen =
     let rest : IsPath a (state_at v p es i) (copies (k - j) v) (back v j es) q = subst (λ s. IsPath a s (copies (k - j) v) (back v j es) q) (sym state) two.second in
     let joined = path_join a p (state_at v p es i) q (copies i v) (copies (k - j) v) (front v i es) (back v j es) one.first rest in
     record {
-      rounds = i + (k - j);
+      cycle_rounds = i + (k - j);
       fewer = omega (arith, later, inside);
       some = omega (arith, some);
       path = front v i es ++ back v j es;
@@ -149,25 +149,25 @@ fewer a stays v p q k es below many path =
 
 -- a path of few rounds with the same marks
 pub record Short (a : Automaton) (v : List NameSet) (p q k : ℕ) (es : List LabelledEdge) : Type 0 where
-  pub rounds : ℕ
-  pub few : rounds ≤ bound a
-  pub some : 0 < k → 0 < rounds
+  pub cycle_rounds : ℕ
+  pub few : cycle_rounds ≤ bound a
+  pub some : 0 < k → 0 < cycle_rounds
   pub path : List LabelledEdge
-  pub leads : IsPath a p (copies rounds v) path q
+  pub leads : IsPath a p (copies cycle_rounds v) path q
   pub to : Covers path es
   pub from : Covers es path
 
 as_it_is : (a : Automaton) (v : List NameSet) (p q k : ℕ) (es : List LabelledEdge) → k ≤ bound a → IsPath a p (copies k v) es q → Short a v p q k es
-as_it_is a v p q k es few path = record { rounds = k; few = few; some = λ h. h; path = es; leads = path; to = covers_itself es; from = covers_itself es }
+as_it_is a v p q k es few path = record { cycle_rounds = k; few = few; some = λ h. h; path = es; leads = path; to = covers_itself es; from = covers_itself es }
 
 pub shortened : (a : Automaton) → StaysBelow a → (v : List NameSet) (fuel p q k : ℕ) (es : List LabelledEdge) → k ≤ fuel → p < a.states → IsPath a p (copies k v) es q → Short a v p q k es
 shortened a stays v zero p q k es less below path = as_it_is a v p q k es (omega (arith, less)) path
 shortened a stays v (suc fuel) p q k es less below path = elim (cases_lt (bound a) k) [
   | inl many ↦ (
       let f = fewer a stays v p q k es below many path in
-      let s = shortened a stays v fuel p q f.rounds f.path (omega (arith, less, f.fewer)) below f.leads in
+      let s = shortened a stays v fuel p q f.cycle_rounds f.path (omega (arith, less, f.fewer)) below f.leads in
       record {
-        rounds = s.rounds;
+        cycle_rounds = s.cycle_rounds;
         few = s.few;
         some = λ h. s.some f.some;
         path = s.path;

@@ -245,24 +245,24 @@ pub record IsMidway (old s : Store) (alike : Test) (by count index : ℕ) (parts
   pub one : (on : ℕ → Bool) → count_true s on parts ≡ 1
 
 pub split_end : (old s : Store) (alike : Test) (by count index : ℕ) (parts : List Part) → count ≤ index → IsMidway old s alike by count index parts → AreClassParts s (also_by old alike by) parts
-split_end old s alike by count index parts end way = record {
+split_end old s alike by count index parts end path_edges = record {
   each = λ k d within. elim (dec_lt k index) [
-    | yes h ↦ way.split k d within (inl h)
-    | no h ↦ way.split k d within (inr (omega arith))
+    | yes h ↦ path_edges.split k d within (inl h)
+    | no h ↦ path_edges.split k d within (inr (omega arith))
   ];
-  one = way.one;
+  one = path_edges.one;
 }
 
 module _ {old s t : Store} (first : Grows old s) (second : Grows s t) (alike : Test) (is : IsAlikeness alike) (by : ℕ) (has_by : HasPlace old by) (before after : List Part) (count index : ℕ)
-    (has : All (λ (part : Part). HasPlace s part.place) before) (here : index < count) (way : IsMidway old s alike by count index before) where
+    (has : All (λ (part : Part). HasPlace s part.place) before) (here : index < count) (path_edges : IsMidway old s alike by count index before) where
   abbrev finer : Test
   finer = also_by old alike by
 
   the_part : (part : Part) → slice_get before index ≡ Some part → IsClassPart s alike part
-  the_part part was = subst (IsClassPart s alike) (get_or_from_slice_get before index part part was) (way.left index part (omega arith) here)
+  the_part part was = subst (IsClassPart s alike) (get_or_from_slice_get before index part part was) (path_edges.left index part (omega arith) here)
 
   split_before : (k : ℕ) (d : Part) → k < length before → (k ≡ index → ⊥) → (k < index + 1) ⊎ (count ≤ k) → IsClassPart t finer (get_or before k d)
-  split_before k d within other where_it_is = part_kept second finer _ (way.split k d within (earlier where_it_is))
+  split_before k d within other where_it_is = part_kept second finer _ (path_edges.split k d within (earlier where_it_is))
     where
       earlier : (k < index + 1) ⊎ (count ≤ k) → (k < index) ⊎ (count ≤ k)
       earlier (inl h) = inl (omega arith)
@@ -270,10 +270,10 @@ module _ {old s t : Store} (first : Grows old s) (second : Grows s t) (alike : T
 
   step_whole : IsUnsplit s before after index by → IsMidway old t alike by count (index + 1) after
   step_whole whole = subst (IsMidway old t alike by count (index + 1)) (sym whole.unchanged) (record {
-    within = way.within;
-    left = λ k d from to. part_kept second alike _ (way.left k d (omega (arith, from)) to);
+    within = path_edges.within;
+    left = λ k d from to. part_kept second alike _ (path_edges.left k d (omega (arith, from)) to);
     split = split;
-    one = λ on. count_kept second on before (recursion_from_All _ before has) ∙ way.one on;
+    one = λ on. count_kept second on before (recursion_from_All _ before has) ∙ path_edges.one on;
   })
     where
       split : (k : ℕ) (d : Part) → k < length before → (k < index + 1) ⊎ (count ≤ k) → IsClassPart t finer (get_or before k d)
@@ -285,14 +285,14 @@ module _ {old s t : Store} (first : Grows old s) (second : Grows s t) (alike : T
 
   step_halved : IsHalved s t before after index by → IsMidway old t alike by count (index + 1) after
   step_halved half = subst (IsMidway old t alike by count (index + 1)) (sym half.made) (record {
-    within = let a = way.within in omega (arith, long);
+    within = let a = path_edges.within in omega (arith, long);
     left = λ k d from to.
         let other : k ≢ index = omega arith in
-        let within : k < length before = let a = way.within in omega arith in
+        let within : k < length before = let a = path_edges.within in omega arith in
         subst (IsClassPart t alike) (sym (get_or-set_other more index k kept d other ∙ get_or_append_left before (half.rest ∷ []) d k within))
-        (part_kept second alike _ (way.left k d (omega (arith, from)) to));
+        (part_kept second alike _ (path_edges.left k d (omega (arith, from)) to));
     split = split;
-    one = λ on. sym (ap (count_true t on) half.made) ∙ (count_halved second before after index by has half on ∙ way.one on);
+    one = λ on. sym (ap (count_true t on) half.made) ∙ (count_halved second before after index by has half on ∙ path_edges.one on);
   })
     where
       kept : Part
@@ -316,7 +316,7 @@ module _ {old s t : Store} (first : Grows old s) (second : Grows s t) (alike : T
 
       split : (k : ℕ) (d : Part) → k < length (set more index kept) → (k < index + 1) ⊎ (count ≤ k) → IsClassPart t finer (get_or (set more index kept) k d)
       split k d within where_it_is = elim (ℕ_discrete k index) [
-        | yes e ↦ let a = way.within in let b = length-append before (half.rest ∷ []) in let within_more : index < length more = omega arith in
+        | yes e ↦ let a = path_edges.within in let b = length-append before (half.rest ∷ []) in let within_more : index < length more = omega arith in
             subst (IsClassPart t finer) (sym (ap (λ i. get_or (set more index kept) i d) e ∙ get_or-set_same more index kept d within_more))
             (kept_part first alike by has_by half.part part second half.kept half.halves.is_kept)
         | no other ↦ subst (IsClassPart t finer) (sym (get_or-set_other more index k kept d other)) (past k d within other where_it_is)

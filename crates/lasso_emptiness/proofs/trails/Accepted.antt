@@ -40,7 +40,7 @@ pub own_word : (c : SymbolicAutomaton) (passable stem cycle : List EdgeRef) (sta
 own_word c passable stem cycle state w at leads accepting stem_letters cycle_letters =
     let around = accepting.state in
     let same : state ≡ around = at ∙ head_from (IsPassable c) around around cycle accepting.some accepting.closed in
-    let way = reads_along c (Contains passable) leads.start state stem w.stem leads.leads stem_letters in
+    let path_edges = reads_along c (Contains passable) leads.start state stem w.stem leads.leads stem_letters in
     let loop = reads_along c (IsPassable c) around around cycle w.cycle accepting.closed cycle_letters in
     let long : length w.cycle ≡ length cycle = letters_long c cycle w.cycle cycle_letters in
     let some : 0 < length cycle = accepting.some in
@@ -53,12 +53,13 @@ own_word c passable stem cycle state w at leads accepting stem_letters cycle_let
         endless = omega arith;
         start = leads.start;
         state = around;
-        turns = 0;
-        rounds = 1;
-        way = way.trees;
+        stem_rounds = 0;
+        cycle_rounds = 1;
+        path_edges = path_edges.trees;
         cycle = loop.trees;
         is_start = leads.is_start;
-        leads = subst (λ xs. IsPath (automaton_of c) leads.start xs way.trees around) (sym (append-nil w.stem)) (subst (λ q. IsPath (automaton_of c) leads.start w.stem way.trees q) same way.path);
+        leads = subst (λ xs. IsPath (automaton_of c) leads.start xs path_edges.trees around) (sym (append-nil w.stem))
+            (subst (λ q. IsPath (automaton_of c) leads.start w.stem path_edges.trees q) same path_edges.path);
         positive = omega arith;
         returns = subst (λ xs. IsPath (automaton_of c) around xs loop.trees around) (sym (append-nil w.cycle)) loop.path;
         meets = ap (λ marks. met marks c.formula) loop.marks ∙ accepting.meets;
@@ -83,15 +84,15 @@ reached_on starts edges reached are p q (e ∷ es) from trail =
 pub accepts_nothing : (c : SymbolicAutomaton) → IsWellFormedSymbolic c → (passable reached : List EdgeRef) → ArePassable c passable → AreReachedEdges c.starts passable reached
     → NoneAccepting c.links (Contains reached) c.formula → AcceptsNothing (automaton_of c)
 accepts_nothing c is passable reached are picked none u v accepts =
-    let way = trail_of c is accepts.start accepts.state (u ++ copies accepts.turns v) accepts.way accepts.leads in
-    let loop = trail_of c is accepts.state accepts.state (copies accepts.rounds v) accepts.cycle accepts.returns in
+    let path_edges = trail_of c is accepts.start accepts.state (u ++ copies accepts.stem_rounds v) accepts.path_edges accepts.leads in
+    let loop = trail_of c is accepts.state accepts.state (copies accepts.cycle_rounds v) accepts.cycle accepts.returns in
     let start : ReachedFrom (map arc_of passable) c.starts accepts.start = record { start = accepts.start; listed = accepts.is_start; reached = reach_none (map arc_of passable) accepts.start } in
-    let there = reached_on c.starts passable reached picked accepts.start accepts.state way.edges start
-    (trail_weaker (IsPassable c) (Contains passable) are.whole accepts.start accepts.state way.edges way.trail) in
+    let there = reached_on c.starts passable reached picked accepts.start accepts.state path_edges.edges start
+    (trail_weaker (IsPassable c) (Contains passable) are.whole accepts.start accepts.state path_edges.edges path_edges.trail) in
     let around = reached_on c.starts passable reached picked accepts.state accepts.state loop.edges there.1
     (trail_weaker (IsPassable c) (Contains passable) are.whole accepts.state accepts.state loop.edges loop.trail) in
-    let long : length accepts.cycle ≡ length (copies accepts.rounds v) = as_long (automaton_of c) accepts.state (copies accepts.rounds v) accepts.cycle accepts.state accepts.returns in
-    let some : 0 < length (copies accepts.rounds v) = some_copies accepts.rounds v accepts.positive accepts.endless in
+    let long : length accepts.cycle ≡ length (copies accepts.cycle_rounds v) = as_long (automaton_of c) accepts.state (copies accepts.cycle_rounds v) accepts.cycle accepts.state accepts.returns in
+    let some : 0 < length (copies accepts.cycle_rounds v) = some_copies accepts.cycle_rounds v accepts.positive accepts.endless in
     let edges_long : length loop.edges ≡ length accepts.cycle = loop.long in
     none loop.edges (record {
       some = omega arith;

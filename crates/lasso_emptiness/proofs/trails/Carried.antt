@@ -27,14 +27,14 @@ use Rattle.lasso_emptiness.proofs.trails.Touring.{ToursSoFar, tours_all, tours_m
 use Rattle.lasso_emptiness.proofs.trails.Trails.{trail_kind, trail_weaker}
 
 -- for a walk there is a path between the same states
-path_along : (edges : List EdgeRef) (p q : ℕ) (walk : List (ℕ × ℕ)) → IsWalk (map arc_of edges) p walk q → (way : List EdgeRef) × IsTrail (Contains edges) p way q
+path_along : (edges : List EdgeRef) (p q : ℕ) (walk : List (ℕ × ℕ)) → IsWalk (map arc_of edges) p walk q → (path_edges : List EdgeRef) × IsTrail (Contains edges) p path_edges q
 path_along edges p q [] leads = ([], leads)
 path_along edges p q (arc ∷ walk) leads =
     let edge = from_map arc_of edges arc leads.0 in
     let rest = path_along edges edge.0.to q walk (subst (λ x. IsWalk (map arc_of edges) x walk q) (sym (ap (λ (a : ℕ × ℕ). a.1) edge.2)) leads.2) in
     (edge.0 ∷ rest.0, (edge.1, ap (λ (a : ℕ × ℕ). a.0) edge.2 ∙ leads.1, rest.1))
 
-path_to : (edges : List EdgeRef) (p q : ℕ) → Reaches (map arc_of edges) p q → (way : List EdgeRef) × IsTrail (Contains edges) p way q
+path_to : (edges : List EdgeRef) (p q : ℕ) → Reaches (map arc_of edges) p q → (path_edges : List EdgeRef) × IsTrail (Contains edges) p path_edges q
 path_to edges p q reaches = path_along edges p q reaches.walk reaches.leads
 
 -- a path that has the first i of the edges
@@ -50,7 +50,7 @@ tour_of_all edges some joined =
     let back = path_to edges whole.at first (whole.so_far.goes_on (listed_edge edges 0) first_here) in (
       whole.cycle ++ back.0,
       tours_all edges edges whole.cycle (whole.cycle ++ back.0) (length edges) first whole.at some (omega arith) whole.so_far
-          (record { way = back.0; added = refl; leads = back.1 }),
+          (record { path_edges = back.0; added = refl; leads = back.1 }),
     )
   where
     first : ℕ
@@ -68,13 +68,13 @@ tour_of_all edges some joined =
         let within : i < length edges = omega (arith, most) in
         let one_more : i + 1 ≡ suc i = omega arith in
         let before = passes i (omega (arith, most)) in
-        let way = path_to edges before.at (listed_edge edges i).from (tours_reaches edges edges joined inside i within before.cycle first before.at before.so_far) in
+        let path_edges = path_to edges before.at (listed_edge edges i).from (tours_reaches edges edges joined inside i within before.cycle first before.at before.so_far) in
         record {
-          cycle = (before.cycle ++ way.0) ++ listed_edge edges i ∷ [];
+          cycle = (before.cycle ++ path_edges.0) ++ listed_edge edges i ∷ [];
           at = (listed_edge edges i).to;
-          so_far = subst (λ k. ToursSoFar edges (take k edges) ((before.cycle ++ way.0) ++ listed_edge edges i ∷ []) first (listed_edge edges i).to) one_more
-              (tours_more edges edges joined inside i within before.cycle (before.cycle ++ way.0) ((before.cycle ++ way.0) ++ listed_edge edges i ∷ []) first before.at before.so_far
-              (record { way = way.0; added = refl; leads = way.1 }) refl);
+          so_far = subst (λ k. ToursSoFar edges (take k edges) ((before.cycle ++ path_edges.0) ++ listed_edge edges i ∷ []) first (listed_edge edges i).to) one_more
+              (tours_more edges edges joined inside i within before.cycle (before.cycle ++ path_edges.0) ((before.cycle ++ path_edges.0) ++ listed_edge edges i ∷ []) first before.at before.so_far
+              (record { path_edges = path_edges.0; added = refl; leads = path_edges.1 }) refl);
         }
 
 -- lists with the same members pass the same tests
@@ -129,13 +129,13 @@ carrier_accepts c is edges group are carrier =
     λ e here. trail_kind (IsReachedEdge c edges) carried.1.state carried.1.state cycle e carried.1.closed here in
     let first = listed_edge cycle 0 in
     let reached = (on first (Contains-get_or cycle 0 _ carried.1.some)).reached in
-    let way = path_to edges reached.start first.from reached.reached in
-    let stem = letters_for c is way.0 (λ e here. are.each e (trail_kind (Contains edges) reached.start first.from way.0 e way.1 here)) in
+    let path_edges = path_to edges reached.start first.from reached.reached in
+    let stem = letters_for c is path_edges.0 (λ e here. are.each e (trail_kind (Contains edges) reached.start first.from path_edges.0 e path_edges.1 here)) in
     let loop = letters_for c is cycle (λ e here. (on e here).passable) in
     let long = letters_long c cycle loop.0 loop.1 in
     let some = carried.1.some in
     let own : IsOwnWord (automaton_of c) (record { stem = stem.0; cycle = loop.0; goes_on = omega (arith, some, long) }) =
-    own_word c edges way.0 cycle first.from _ refl (record { start = reached.start; is_start = reached.listed; leads = way.1 }) (record {
+    own_word c edges path_edges.0 cycle first.from _ refl (record { start = reached.start; is_start = reached.listed; leads = path_edges.1 }) (record {
       some = carried.1.some;
       state = carried.1.state;
       closed = trail_weaker (IsReachedEdge c edges) (IsPassable c) (λ e kind. kind.passable) carried.1.state carried.1.state cycle carried.1.closed;

@@ -43,7 +43,7 @@ way_added edges arcs found places p q old new arcs_are same shortest made =
     (All-weaker (λ place. place < length arcs) (λ place. place < length edges) (λ place below. let long : length arcs ≡ length edges = ap length arcs_are
     ∙ length-map edges arc_of in omega arith) found shortest.placed) in
     let walk = subst (λ ps. IsWalk (map arc_of edges) p (map (arc_at (map arc_of edges)) ps) q) (sym same) (subst (λ arcs. IsWalk arcs p (map (arc_at arcs) found) q) arcs_are shortest.walks) in
-    record { way = map (listed_edge edges) places; added = made; leads = trail_at edges p q places inside walk }
+    record { path_edges = map (listed_edge edges) places; added = made; leads = trail_at edges p q places inside walk }
 
 -- The path so far: it begins in `first`, the state that the first edge leaves, ends in `at`, and has the edges `done`.
 pub record ToursSoFar (edges done cycle : List EdgeRef) (first at : ℕ) : Type 0 where
@@ -73,15 +73,15 @@ module _ (edges needed : List EdgeRef) (joined : IsStronglyConnected edges) (ins
   pub tours_more : (cycle mid new : List EdgeRef) (first at : ℕ) → ToursSoFar edges (take i needed) cycle first at → ExtendsPath (Contains edges) at next.from cycle mid → new ≡ mid ++ next ∷ []
       → ToursSoFar edges (take (i + 1) needed) new first next.to
   tours_more cycle mid new first at so_far on made =
-      let whole : new ≡ (cycle ++ on.way) ++ next ∷ [] = made ∙ ap (λ es. es ++ next ∷ []) on.added in
+      let whole : new ≡ (cycle ++ on.path_edges) ++ next ∷ [] = made ∙ ap (λ es. es ++ next ∷ []) on.added in
       subst (λ done. ToursSoFar edges done new first next.to) (sym (take-push needed i next within (get_or_default needed i _ next within)))
       (subst (λ es. ToursSoFar edges (take i needed ++ next ∷ []) es first next.to) (sym whole) (record {
-        leads = trail_then (Contains edges) first next.from next.to (cycle ++ on.way) (next ∷ []) (trail_then (Contains edges) first at next.from cycle on.way so_far.leads on.leads)
+        leads = trail_then (Contains edges) first next.from next.to (cycle ++ on.path_edges) (next ∷ []) (trail_then (Contains edges) first at next.from cycle on.path_edges so_far.leads on.leads)
             (next_inside, refl, refl);
-        passes = All-push (Contains ((cycle ++ on.way) ++ next ∷ [])) (take i needed) next
-            (All-weaker (Contains cycle) (Contains ((cycle ++ on.way) ++ next ∷ []))
-            (λ e here. Contains-append_left (cycle ++ on.way) (next ∷ []) e (Contains-append_left cycle on.way e here)) (take i needed) so_far.passes)
-            (Contains-push (cycle ++ on.way) next);
+        passes = All-push (Contains ((cycle ++ on.path_edges) ++ next ∷ [])) (take i needed) next
+            (All-weaker (Contains cycle) (Contains ((cycle ++ on.path_edges) ++ next ∷ []))
+            (λ e here. Contains-append_left (cycle ++ on.path_edges) (next ∷ []) e (Contains-append_left cycle on.path_edges e here)) (take i needed) so_far.passes)
+            (Contains-push (cycle ++ on.path_edges) next);
         goes_on = λ e here. joined next e next_inside here;
       }))
 
@@ -92,13 +92,14 @@ tours_all edges needed cycle new i first at some all so_far on =
     subst (IsTour edges needed) (sym on.added) (record {
       some = longer needed passes some;
       state = first;
-      closed = trail_then (Contains edges) first at first cycle on.way so_far.leads on.leads;
+      closed = trail_then (Contains edges) first at first cycle on.path_edges so_far.leads on.leads;
       passes = passes;
     })
   where
-    passes : All (Contains (cycle ++ on.way)) needed
-    passes = All-weaker (Contains cycle) (Contains (cycle ++ on.way)) (λ e here. Contains-append_left cycle on.way e here) needed (subst (All (Contains cycle)) (take_all i needed all) so_far.passes)
+    passes : All (Contains (cycle ++ on.path_edges)) needed
+    passes = All-weaker (Contains cycle) (Contains (cycle ++ on.path_edges)) (λ e here. Contains-append_left cycle on.path_edges e here) needed
+        (subst (All (Contains cycle)) (take_all i needed all) so_far.passes)
 
-    longer : (es : List EdgeRef) → All (Contains (cycle ++ on.way)) es → 0 < length es → 0 < length (cycle ++ on.way)
+    longer : (es : List EdgeRef) → All (Contains (cycle ++ on.path_edges)) es → 0 < length es → 0 < length (cycle ++ on.path_edges)
     longer [] passed some = absurd (omega arith)
-    longer (e ∷ es) passed some = let here = All-head (Contains (cycle ++ on.way)) e es passed in let below = here.1 in omega arith
+    longer (e ∷ es) passed some = let here = All-head (Contains (cycle ++ on.path_edges)) e es passed in let below = here.1 in omega arith

@@ -10,9 +10,9 @@ listed_edge edges place = slice_index_or edges place (record { from = 0; to = 0;
 
 -- a path was appended to the list
 pub record ExtendsPath (Kind : EdgeRef → Type 0) (p q : ℕ) (old new : List EdgeRef) : Type 0 where
-  pub way : List EdgeRef
-  pub added : new ≡ old ++ way
-  pub leads : IsTrail Kind p way q
+  pub path_edges : List EdgeRef
+  pub added : new ≡ old ++ path_edges
+  pub leads : IsTrail Kind p path_edges q
 
 -- a closed path along the edges that has all needed ones
 pub record IsTour (edges needed cycle : List EdgeRef) : Type 0 where

@@ -23,36 +23,36 @@ opposite : (cycle : List (List ℕ)) (f : FormulaTree) → met cycle f ≡ true 
 opposite cycle f one two = true≢false (sym one ∙ not-true (met cycle f) (sym (met-dual cycle f) ∙ two))
 
 -- two runs over one lasso word, taken to the same turns and rounds, have the same cycle
-one_cycle : (d : Automaton) → IsDeterministic d → (u v : List NameSet) (turns rounds : ℕ) (first second : LassoRun d u v turns rounds) → first.cycle ≡ second.cycle
-one_cycle d det u v turns rounds first second =
-    let w = u ++ copies turns v in
-    let c = copies rounds v in
+one_cycle : (d : Automaton) → IsDeterministic d → (u v : List NameSet) (stem_rounds cycle_rounds : ℕ) (first second : LassoRun d u v stem_rounds cycle_rounds) → first.cycle ≡ second.cycle
+one_cycle d det u v stem_rounds cycle_rounds first second =
+    let w = u ++ copies stem_rounds v in
+    let c = copies cycle_rounds v in
     let start : second.start ≡ first.start = one_start d det second.start first.start second.is_start first.is_start in
-    let leads : IsPath d first.start w second.way second.state = subst (λ s. IsPath d s w second.way second.state) start second.leads in
-    let ends = (same_path d det first.start first.state second.state w first.way second.way first.leads leads).ends in
+    let leads : IsPath d first.start w second.path_edges second.state = subst (λ s. IsPath d s w second.path_edges second.state) start second.leads in
+    let ends = (same_path d det first.start first.state second.state w first.path_edges second.path_edges first.leads leads).ends in
     let returns : IsPath d first.state c second.cycle second.state = subst (λ s. IsPath d s c second.cycle second.state) (sym ends) second.returns in
     (same_path d det first.state first.state second.state c first.cycle second.cycle first.returns returns).edges
 
 -- a run of the automaton with the dual condition is one of the automaton
-abbrev own_run : (d : Automaton) (u v : List NameSet) (a : Accepts (dualised d) u v) → LassoRun d u v a.turns a.rounds
-own_run d u v a = run_wider (dualised d) d u v refl (λ e there. there) a.turns a.rounds (run_of (dualised d) u v a) a.is_start
+abbrev own_run : (d : Automaton) (u v : List NameSet) (a : Accepts (dualised d) u v) → LassoRun d u v a.stem_rounds a.cycle_rounds
+own_run d u v a = run_wider (dualised d) d u v refl (λ e there. there) a.stem_rounds a.cycle_rounds (run_of (dualised d) u v a) a.is_start
 
 pub never_both : (d : Automaton) → IsDeterministic d → (u v : List NameSet) → Accepts d u v → Accepts (dualised d) u v → ⊥
 never_both d det u v one two =
-    let mine = later d u v one.turns one.rounds two.turns two.rounds (run_of d u v one) one.positive two.positive in
-    let other = later d u v two.turns two.rounds one.turns one.rounds (own_run d u v two) two.positive one.positive in
-    let turns : two.turns + one.turns ≡ one.turns + two.turns = omega arith in
-    let rounds : one.rounds * two.rounds ≡ two.rounds * one.rounds = mul_comm one.rounds two.rounds in
-    let k = one.turns + two.turns in
-    let m = two.rounds * one.rounds in
+    let mine = later d u v one.stem_rounds one.cycle_rounds two.stem_rounds two.cycle_rounds (run_of d u v one) one.positive two.positive in
+    let other = later d u v two.stem_rounds two.cycle_rounds one.stem_rounds one.cycle_rounds (own_run d u v two) two.positive one.positive in
+    let stem_rounds : two.stem_rounds + one.stem_rounds ≡ one.stem_rounds + two.stem_rounds = omega arith in
+    let cycle_rounds : one.cycle_rounds * two.cycle_rounds ≡ two.cycle_rounds * one.cycle_rounds = mul_comm one.cycle_rounds two.cycle_rounds in
+    let k = one.stem_rounds + two.stem_rounds in
+    let m = two.cycle_rounds * one.cycle_rounds in
     let second : LassoRun d u v k m = record {
       start = other.run.start;
       state = other.run.state;
-      way = other.run.way;
+      path_edges = other.run.path_edges;
       cycle = other.run.cycle;
       is_start = other.run.is_start;
-      leads = subst (λ i. IsPath d other.run.start (u ++ copies i v) other.run.way other.run.state) turns other.run.leads;
-      returns = subst (λ i. IsPath d other.run.state (copies i v) other.run.cycle other.run.state) rounds other.run.returns;
+      leads = subst (λ i. IsPath d other.run.start (u ++ copies i v) other.run.path_edges other.run.state) stem_rounds other.run.leads;
+      returns = subst (λ i. IsPath d other.run.state (copies i v) other.run.cycle other.run.state) cycle_rounds other.run.returns;
     } in
     let cycles : mine.run.cycle ≡ other.run.cycle = one_cycle d det u v k m mine.run second in
     let meets : met (marks_of mine.run.cycle) d.formula ≡ true = mine.alike d.formula ∙ one.meets in
@@ -62,14 +62,14 @@ pub one_of_the_two : (d : Automaton) (size start : ℕ) → IsClosed d size → 
 one_of_the_two d size start closed is_start below u v endless =
     let begun = run d size closed start below u in
     let c = closes d size closed begun.stop begun.below v in
-    let way = begun.way ++ c.way in
+    let path_edges = begun.path_edges ++ c.path_edges in
     let to : LassoRun d u v c.before c.more = record {
       start = start;
       state = c.state;
-      way = way;
+      path_edges = path_edges;
       cycle = c.cycle;
       is_start = is_start;
-      leads = path_join d start begun.stop c.state u (copies c.before v) begun.way c.way begun.leads c.leads;
+      leads = path_join d start begun.stop c.state u (copies c.before v) begun.path_edges c.path_edges begun.leads c.leads;
       returns = c.returns;
     } in
     elim (cases_Bool (met (marks_of c.cycle) d.formula)) [

@@ -43,22 +43,23 @@ pub to_trees : (b d : Automaton) (trees : List (List Node)) (most : ℕ) → IsB
 to_trees b d trees most buchi det u v a =
     let n = b.states in
     let is_closed = closed b d trees most det in
-    let stem = u ++ copies a.turns v in
-    let w = copies a.rounds v in
+    let stem = u ++ copies a.stem_rounds v in
+    let w = copies a.cycle_rounds v in
     let root = first_tree n b.starts in
     let begun = run d (length trees) is_closed 0 det.some stem in
     let c = closes d (length trees) is_closed begun.stop begun.below w in
     let prefix = stem ++ copies c.before w in
     let letters = map (moves_at b) prefix in
-    let way = a.way ++ copies c.before a.cycle in
-    let whole : IsPath d 0 prefix (begun.way ++ c.way) c.state = path_join d 0 begun.stop c.state stem (copies c.before w) begun.way c.way begun.leads c.leads in
-    let ran : IsPath b a.start prefix way a.state =
-    path_join b a.start a.state a.state stem (copies c.before w) a.way (copies c.before a.cycle) a.leads (path_copies b a.state c.before w a.cycle a.returns) in
-    let lead = follow b d trees most det 0 c.state prefix (begun.way ++ c.way) det.some whole in
+    let path_edges = a.path_edges ++ copies c.before a.cycle in
+    let whole : IsPath d 0 prefix (begun.path_edges ++ c.path_edges) c.state = path_join d 0 begun.stop c.state stem (copies c.before w) begun.path_edges c.path_edges begun.leads c.leads in
+    let ran : IsPath b a.start prefix path_edges a.state =
+    path_join b a.start a.state a.state stem (copies c.before w) a.path_edges (copies c.before a.cycle) a.leads (path_copies b a.state c.before w a.cycle a.returns) in
+    let lead = follow b d trees most det 0 c.state prefix (begun.path_edges ++ c.path_edges) det.some whole in
     let t = tree_at trees c.state in
     let reached : tree_after n root letters ≡ t = ap (λ s. tree_after n s letters) (sym det.first) ∙ lead.tree in
     let tree : IsTree t = subst IsTree reached (after_is_tree n root letters (first_is_tree n b.starts)) in
-    let found : IsReachedByWord b.starts letters a.state = record { start = a.start; path = map move_of way; is_start = a.is_start; leads = moves_of_path b a.start a.state prefix way ran } in
+    let found : IsReachedByWord b.starts letters a.state =
+    record { start = a.start; path = map move_of path_edges; is_start = a.is_start; leads = moves_of_path b a.start a.state prefix path_edges ran } in
     let rooted : holds t 0 a.state ≡ true = subst (λ s. holds s 0 a.state ≡ true) reached ((root_is_reached n b.starts letters a.state buchi.starts (goals_below b buchi prefix)).1 found) in
     let round = copies c.more w in
     let edges = copies c.more a.cycle in
@@ -70,14 +71,14 @@ to_trees b d trees most buchi det u v a =
       endless = a.endless;
       start = 0;
       state = c.state;
-      turns = a.turns + c.before * a.rounds;
-      rounds = c.more * a.rounds;
-      way = begun.way ++ c.way;
+      stem_rounds = a.stem_rounds + c.before * a.cycle_rounds;
+      cycle_rounds = c.more * a.cycle_rounds;
+      path_edges = begun.path_edges ++ c.path_edges;
       cycle = c.cycle;
       is_start = subst (λ xs. Contains xs 0) (sym det.starts) (first_there 0 []);
-      leads = subst (λ z. IsPath d 0 z (begun.way ++ c.way) c.state) (more_turns a.turns c.before a.rounds u v) whole;
+      leads = subst (λ z. IsPath d 0 z (begun.path_edges ++ c.path_edges) c.state) (more_turns a.stem_rounds c.before a.cycle_rounds u v) whole;
       positive = mul-pos c.positive a.positive;
-      returns = subst (λ z. IsPath d c.state z c.cycle c.state) (copies-copies c.more a.rounds v) c.returns;
+      returns = subst (λ z. IsPath d c.state z c.cycle c.state) (copies-copies c.more a.cycle_rounds v) c.returns;
       meets = ap (met (map (λ (e : LabelledEdge). e.marks) c.cycle)) det.formula
           ∙ (ap (λ ms. met ms (parity_min_odd (most + most + 1))) home.marks ∙ odd_met most (priorities n most t (map (moves_at b) round)) odd);
     }

@@ -16,15 +16,15 @@ module _ (d : Automaton) (size : ℕ) (closed : IsClosed d size) where
   pub record Run (i : ℕ) (xs : List NameSet) : Type 0 where
     pub stop : ℕ
     pub below : stop < size
-    pub way : List LabelledEdge
-    pub leads : IsPath d i xs way stop
+    pub path_edges : List LabelledEdge
+    pub leads : IsPath d i xs path_edges stop
 
   pub run : (i : ℕ) → i < size → (xs : List NameSet) → Run i xs
-  run i below [] = record { stop = i; below = below; way = []; leads = refl }
+  run i below [] = record { stop = i; below = below; path_edges = []; leads = refl }
   run i below (x ∷ xs) =
       let one = closed.total i x below in
       let rest = run one.edge.to (closed.within one.edge x one.is_edge one.meets) xs in
-      record { stop = rest.stop; below = rest.below; way = one.edge ∷ rest.way; leads = (sym one.from, one.is_edge, one.meets, rest.leads) }
+      record { stop = rest.stop; below = rest.below; path_edges = one.edge ∷ rest.path_edges; leads = (sym one.from, one.is_edge, one.meets, rest.leads) }
 
   pub record Within : Type 0 where
     pub state : ℕ
@@ -39,15 +39,19 @@ module _ (d : Automaton) (size : ℕ) (closed : IsClosed d size) where
   times v (suc k) a = times v k (next v a)
 
   record Gone (v : List NameSet) (k : ℕ) (a c : Within) : Type 0 where
-    way : List LabelledEdge
-    leads : IsPath d a.state (copies k v) way c.state
+    path_edges : List LabelledEdge
+    leads : IsPath d a.state (copies k v) path_edges c.state
 
   gone : (v : List NameSet) (k : ℕ) (a : Within) → Gone v k a (times v k a)
-  gone v zero a = record { way = []; leads = refl }
+  gone v zero a = record { path_edges = []; leads = refl }
   gone v (suc k) a =
       let first = run a.state a.below v in
       let rest = gone v k (next v a) in
-      record { way = first.way ++ rest.way; leads = path_join d a.state first.stop (times v k (next v a)).state v (copies k v) first.way rest.way first.leads rest.leads }
+      record {
+        path_edges = first.path_edges ++ rest.path_edges;
+        leads = path_join d a.state first.stop (times v k (next v a)).state v (copies k v) first.path_edges rest.path_edges
+            first.leads rest.leads;
+      }
 
   times_more : (v : List NameSet) (j k : ℕ) (a : Within) → times v k (times v j a) ≡ times v (j + k) a
   times_more v zero k a = let e : k ≡ 0 + k = omega arith in ap (λ i. times v i a) e
@@ -62,9 +66,9 @@ module _ (d : Automaton) (size : ℕ) (closed : IsClosed d size) where
     pub positive : 0 < more
     pub state : ℕ
     pub below : state < size
-    pub way : List LabelledEdge
+    pub path_edges : List LabelledEdge
     pub cycle : List LabelledEdge
-    pub leads : IsPath d i (copies before v) way state
+    pub leads : IsPath d i (copies before v) path_edges state
     pub returns : IsPath d state (copies more v) cycle state
 
   pub closes : (i : ℕ) → i < size → (v : List NameSet) → Closes i v
@@ -83,8 +87,8 @@ module _ (d : Automaton) (size : ℕ) (closed : IsClosed d size) where
         positive = omega (arith, again.later);
         state = c.state;
         below = c.below;
-        way = first.way;
-        cycle = second.way;
+        path_edges = first.path_edges;
+        cycle = second.path_edges;
         leads = first.leads;
-        returns = subst (λ r. IsPath d c.state (copies more v) second.way r) same second.leads;
+        returns = subst (λ r. IsPath d c.state (copies more v) second.path_edges r) same second.leads;
       }

@@ -64,11 +64,11 @@ module _ (a : Automaton) (below : LabelsBelow a) where
 
   -- the same indices make a run of both automata
   abbrev run_to : (u v : List NameSet) → AcceptingRun a u v → AcceptingRun (canonical a) u v
-  run_to u v r = accepting_too a (canonical a) u v r r.is_start (track_to r.start r.state _ r.way r.leads) (track_to r.state r.state _ r.cycle r.returns)
+  run_to u v r = accepting_too a (canonical a) u v r r.is_start (track_to r.start r.state _ r.path_edges r.leads) (track_to r.state r.state _ r.cycle r.returns)
       (ap (λ (ms : List (List ℕ)). met ms a.formula) (all_marks a r.cycle) ∙ r.meets)
 
   abbrev run_from : (u v : List NameSet) → AcceptingRun (canonical a) u v → AcceptingRun a u v
-  run_from u v r = accepting_too (canonical a) a u v r r.is_start (track_from r.start r.state _ r.way r.leads) (track_from r.state r.state _ r.cycle r.returns)
+  run_from u v r = accepting_too (canonical a) a u v r r.is_start (track_from r.start r.state _ r.path_edges r.leads) (track_from r.state r.state _ r.cycle r.returns)
       (sym (ap (λ (ms : List (List ℕ)). met ms a.formula) (all_marks a r.cycle)) ∙ r.meets)
 
   pub unambiguous_one : IsUnambiguous (canonical a) → IsUnambiguous a

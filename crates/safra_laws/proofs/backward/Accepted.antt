@@ -35,18 +35,18 @@ rotated_some : (starts : List ℕ) (stem z v : List (List Move)) (k q : ℕ) (es
     → IsReachedByWord starts (stem ++ z) q → IsMovePath q (copies (suc k) (v ++ z)) es q → list_any accepting_of es ≡ true → IsAccepted starts stem (z ++ v)
 rotated_some starts stem z v k q es begun cycle accepts =
     let split = path_split q q v (z ++ copies k (v ++ z)) es (subst (λ w. IsMovePath q w es q) (append_assoc v z (copies k (v ++ z))) cycle) in
-    let way = path_join begun.start q split.middle (stem ++ z) v begun.path split.front begun.leads split.first in
+    let path_edges = path_join begun.start q split.middle (stem ++ z) v begun.path split.front begun.leads split.first in
     let loop = path_join split.middle q split.middle (z ++ copies k (v ++ z)) v split.back split.front split.second split.first in
     let round : (z ++ copies k (v ++ z)) ++ v ≡ copies (suc k) (z ++ v) =
     append_assoc z (copies k (v ++ z)) v ∙ (ap (λ w. z ++ w) (copies_rotated k v z) ∙ sym (append_assoc z v (copies k (z ++ v)))) in
     record {
       start = begun.start;
       state = split.middle;
-      rounds = suc k;
-      way = begun.path ++ split.front;
+      cycle_rounds = suc k;
+      path_edges = begun.path ++ split.front;
       cycle = split.back ++ split.front;
       is_start = begun.is_start;
-      leads = subst (λ w. IsMovePath begun.start w (begun.path ++ split.front) split.middle) (append_assoc stem z v) way;
+      leads = subst (λ w. IsMovePath begun.start w (begun.path ++ split.front) split.middle) (append_assoc stem z v) path_edges;
       positive = omega arith;
       returns = subst (λ w. IsMovePath split.middle w (split.back ++ split.front) split.middle) round loop;
       accepts = rotated_accepts split.front split.back es split.parts accepts;
@@ -66,4 +66,4 @@ green_is_accepted n starts stem round returns green =
     let all = reached_along n starts stem z t (reached_along n starts [] stem first (first_reached n starts)) in
     let begun = all green.name cycle.state cycle.here in
     let whole : z ++ green.behind ≡ round = append_assoc green.before (green.letter ∷ []) green.behind ∙ sym green.parts in
-    subst (λ w. IsAccepted starts stem w) whole (rotated starts stem z green.behind cycle.rounds cycle.state cycle.path cycle.positive begun cycle.leads cycle.accepts)
+    subst (λ w. IsAccepted starts stem w) whole (rotated starts stem z green.behind cycle.cycle_rounds cycle.state cycle.path cycle.positive begun cycle.leads cycle.accepts)

@@ -163,7 +163,7 @@ module _ (set : ℕ → Bool) (round : List (List Move)) (back : (q : ℕ) → s
       let P : ℕ → Type 0 = λ p. IsMovePath p (copies d round) found.path b.state in
       record {
         state = b.state;
-        rounds = d;
+        cycle_rounds = d;
         path = found.path;
         here = ap (λ f. f b.state) (sym is) ∙ b.here;
         positive = positive;

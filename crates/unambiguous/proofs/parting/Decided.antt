@@ -96,7 +96,7 @@ module _ (a : SymbolicAutomaton) (s : Automaton) (core : IsWellFormedSymbolic a)
 
   led_there : (p q : ℕ) → AreLed x p q → Contains parted.pairs (p, q)
   led_there p q led =
-      let one = gone x led.first p led.letters led.way led.leads in
+      let one = gone x led.first p led.letters led.path_edges led.leads in
       let two = gone x led.second q led.letters led.other led.leads_too in
       (listed_exactly same_pair pair_tells (start_pairs x x) (next_pairs x x) parted.pairs parted.listed (p, q)).1
       ((reached_by_letters x x refl core.well_formed core.well_formed (p, q)).1 (record {
@@ -105,7 +105,7 @@ module _ (a : SymbolicAutomaton) (s : Automaton) (core : IsWellFormedSymbolic a)
         second = led.second;
         is_first = led.is_first;
         is_second = led.is_second;
-        way = one.edges;
+        path_edges = one.edges;
         other = two.edges;
         leads = one.path;
         leads_too = two.path;
@@ -115,7 +115,7 @@ module _ (a : SymbolicAutomaton) (s : Automaton) (core : IsWellFormedSymbolic a)
   there_led p q there =
       let led = (reached_by_letters x x refl core.well_formed core.well_formed (p, q)).0
       ((listed_exactly same_pair pair_tells (start_pairs x x) (next_pairs x x) parted.pairs parted.listed (p, q)).0 there) in
-      let one = placed x led.first p led.letters led.way led.leads in
+      let one = placed x led.first p led.letters led.path_edges led.leads in
       let two = placed x led.second q led.letters led.other led.leads_too in
       record {
         letters = led.letters;
@@ -123,7 +123,7 @@ module _ (a : SymbolicAutomaton) (s : Automaton) (core : IsWellFormedSymbolic a)
         second = led.second;
         is_first = led.is_first;
         is_second = led.is_second;
-        way = one.places;
+        path_edges = one.places;
         other = two.places;
         leads = one.track;
         leads_too = two.track;
@@ -173,7 +173,8 @@ module _ (a : SymbolicAutomaton) (s : Automaton) (core : IsWellFormedSymbolic a)
       let his : Tail x k.to u v = subst (λ p. Tail x p u v) (sym twins.to ∙ ends) t in
       let first = tail_before x l.from m letter (edge_of a.store l) u v (edge_at m l twins.at) refl hold.0 mine in
       let second = tail_before x l.from n letter (edge_of a.store k) u v (edge_at n k twins.other_at) (sym twins.from) hold.1 his in
-      let places : m ≡ n = same_Some m n (sym (nth_first m mine.way mine.cycle) ∙ (begin_alike x (letter ∷ u) v endless alone l.from l.from led first second ∙ nth_first n his.way his.cycle)) in
+      let places : m ≡ n = same_Some m n (sym (nth_first m mine.path_edges mine.cycle)
+      ∙ (begin_alike x (letter ∷ u) v endless alone l.from l.from led first second ∙ nth_first n his.path_edges his.cycle)) in
       omega (arith, places, twins.before)
 
   accepts_none : IsUnambiguous x → AcceptsNothing s
@@ -242,13 +243,13 @@ module _ (a : SymbolicAutomaton) (s : Automaton) (core : IsWellFormedSymbolic a)
 
   module _ (none : AcceptsNothing s) (u v : List NameSet) (endless : 0 < length v) where
     -- the rest of a run after a prefix of it
-    rest_of : (turns rounds p : ℕ) (ys : List NameSet) (back : List ℕ) (r : Run x u v turns rounds) → 0 < rounds → met (map (edge_marks x) r.cycle) x.formula ≡ true
+    rest_of : (stem_rounds cycle_rounds p : ℕ) (ys : List NameSet) (back : List ℕ) (r : Run x u v stem_rounds cycle_rounds) → 0 < cycle_rounds → met (map (edge_marks x) r.cycle) x.formula ≡ true
         → IsEdgePath x p ys back r.state → Tail x p ys v
-    rest_of turns rounds p ys back r positive meets track = record {
+    rest_of stem_rounds cycle_rounds p ys back r positive meets track = record {
       state = r.state;
-      turns = 0;
-      rounds = rounds;
-      way = back;
+      stem_rounds = 0;
+      cycle_rounds = cycle_rounds;
+      path_edges = back;
       cycle = r.cycle;
       leads = subst (λ w. IsEdgePath x p w back r.state) (sym (append-nil ys)) track;
       positive = positive;
@@ -257,37 +258,38 @@ module _ (a : SymbolicAutomaton) (s : Automaton) (core : IsWellFormedSymbolic a)
     }
 
     -- both have the same edge at the same position
-    one_place : (turns rounds n : ℕ) → 0 < rounds → n < turns → (r t : Run x u v turns rounds) → met (map (edge_marks x) r.cycle) x.formula ≡ true → met (map (edge_marks x) t.cycle) x.formula ≡ true
-        → nth r.way r.cycle n ≡ nth t.way t.cycle n
-    one_place turns rounds n positive soon r t meets meets_too =
-        let word : List NameSet = u ++ copies turns v in
-        let wide : turns ≤ turns * length v = le-mul_of_pos_right turns endless in
-        let within : n < length word = omega (arith, length-append u (copies turns v), length-copies turns v, wide, soon) in
+    one_place : (stem_rounds cycle_rounds n : ℕ) → 0 < cycle_rounds → n < stem_rounds → (r t : Run x u v stem_rounds cycle_rounds) → met (map (edge_marks x) r.cycle) x.formula ≡ true
+        → met (map (edge_marks x) t.cycle) x.formula ≡ true
+        → nth r.path_edges r.cycle n ≡ nth t.path_edges t.cycle n
+    one_place stem_rounds cycle_rounds n positive soon r t meets meets_too =
+        let word : List NameSet = u ++ copies stem_rounds v in
+        let wide : stem_rounds ≤ stem_rounds * length v = le-mul_of_pos_right stem_rounds endless in
+        let within : n < length word = omega (arith, length-append u (copies stem_rounds v), length-copies stem_rounds v, wide, soon) in
         let item = item_at word n within in
         let y = item.0 in
         let xs = take n word in
         let ys = drop (n + 1) word in
         let is : word ≡ xs ++ y ∷ ys = split-at word n y within (sym item.1) in
-        let mine = cut x r.start r.state xs y ys r.way (subst (λ w. IsEdgePath x r.start w r.way r.state) is r.leads) in
-        let his = cut x t.start t.state xs y ys t.way (subst (λ w. IsEdgePath x t.start w t.way t.state) is t.leads) in
+        let mine = cut x r.start r.state xs y ys r.path_edges (subst (λ w. IsEdgePath x r.start w r.path_edges r.state) is r.leads) in
+        let his = cut x t.start t.state xs y ys t.path_edges (subst (λ w. IsEdgePath x t.start w t.path_edges t.state) is t.leads) in
         let size : length xs ≡ n = omega (arith, within, length-take n word) in
         let long : n ≡ length mine.front + 0 = omega (arith, as_long x r.start xs mine.front mine.middle mine.first, size) in
         let long_too : n ≡ length his.front + 0 = omega (arith, as_long x t.start xs his.front his.middle his.first, size) in
-        let some = some_edges x u v endless r.state r.state rounds r.cycle positive r.returns in
-        let some_too = some_edges x u v endless t.state t.state rounds t.cycle positive t.returns in
-        let at : nth r.way r.cycle n ≡ Some mine.place =
+        let some = some_edges x u v endless r.state r.state cycle_rounds r.cycle positive r.returns in
+        let some_too = some_edges x u v endless t.state t.state cycle_rounds t.cycle positive t.returns in
+        let at : nth r.path_edges r.cycle n ≡ Some mine.place =
         (λ i. nth (mine.whole i) r.cycle (long i)) ∙ (nth_behind mine.front (mine.place ∷ mine.back) r.cycle 0 some ∙ nth_first mine.place mine.back r.cycle) in
-        let at_too : nth t.way t.cycle n ≡ Some his.place =
+        let at_too : nth t.path_edges t.cycle n ≡ Some his.place =
         (λ i. nth (his.whole i) t.cycle (long_too i)) ∙ (nth_behind his.front (his.place ∷ his.back) t.cycle 0 some_too ∙ nth_first his.place his.back t.cycle) in
-        let tail = rest_of turns rounds mine.edge.to ys mine.back r positive meets mine.rest in
-        let tail_too = rest_of turns rounds his.edge.to ys his.back t positive meets_too his.rest in
+        let tail = rest_of stem_rounds cycle_rounds mine.edge.to ys mine.back r positive meets mine.rest in
+        let tail_too = rest_of stem_rounds cycle_rounds his.edge.to ys his.back t positive meets_too his.rest in
         let led : AreLed x mine.middle his.middle = record {
           letters = xs;
           first = r.start;
           second = t.start;
           is_first = r.is_start;
           is_second = t.is_start;
-          way = mine.front;
+          path_edges = mine.front;
           other = his.front;
           leads = mine.first;
           leads_too = his.first;
@@ -298,7 +300,7 @@ module _ (a : SymbolicAutomaton) (s : Automaton) (core : IsWellFormedSymbolic a)
           second = t.start;
           is_first = r.is_start;
           is_second = t.is_start;
-          way = mine.front ++ mine.place ∷ [];
+          path_edges = mine.front ++ mine.place ∷ [];
           other = his.front ++ his.place ∷ [];
           leads = track_join x r.start mine.middle mine.edge.to xs (y ∷ []) mine.front (mine.place ∷ []) mine.first (mine.edge, mine.at, mine.from, mine.holds, refl);
           leads_too = track_join x t.start his.middle his.edge.to xs (y ∷ []) his.front (his.place ∷ []) his.first (his.edge, his.at, his.from, his.holds, refl);
@@ -314,15 +316,16 @@ module _ (a : SymbolicAutomaton) (s : Automaton) (core : IsWellFormedSymbolic a)
         ] in
         at ∙ (elim (cases_eq mine.place his.place) [ inl same ↦ ap Some same | inr other ↦ absurd (apart other) ] ∙ sym at_too)
 
-    same_edges : (r t : AcceptingRun x u v) (n : ℕ) → nth r.way r.cycle n ≡ nth t.way t.cycle n
+    same_edges : (r t : AcceptingRun x u v) (n : ℕ) → nth r.path_edges r.cycle n ≡ nth t.path_edges t.cycle n
     same_edges r t n =
-        let mine = later x u v endless r.turns r.rounds (t.turns + suc n) t.rounds (run_of x u v r) r.positive t.positive in
-        let his = later x u v endless t.turns t.rounds (r.turns + suc n) r.rounds (run_of x u v t) t.positive r.positive in
-        let turns : t.turns + (r.turns + suc n) ≡ r.turns + (t.turns + suc n) = omega arith in
-        let other = subst (λ k. Likewise x u v k (t.rounds * r.rounds) t.way t.cycle) turns
-        (subst (λ m. Likewise x u v (t.turns + (r.turns + suc n)) m t.way t.cycle) (mul_comm r.rounds t.rounds) his) in
-        let wide : t.rounds ≤ t.rounds * r.rounds = le-mul_of_pos_right t.rounds r.positive in
-        sym (mine.same n) ∙ (one_place (r.turns + (t.turns + suc n)) (t.rounds * r.rounds) n (omega (arith, wide, t.positive)) (omega arith) mine.run other.run (mine.alike x.formula ∙ r.meets)
+        let mine = later x u v endless r.stem_rounds r.cycle_rounds (t.stem_rounds + suc n) t.cycle_rounds (run_of x u v r) r.positive t.positive in
+        let his = later x u v endless t.stem_rounds t.cycle_rounds (r.stem_rounds + suc n) r.cycle_rounds (run_of x u v t) t.positive r.positive in
+        let stem_rounds : t.stem_rounds + (r.stem_rounds + suc n) ≡ r.stem_rounds + (t.stem_rounds + suc n) = omega arith in
+        let other = subst (λ k. Likewise x u v k (t.cycle_rounds * r.cycle_rounds) t.path_edges t.cycle) stem_rounds
+        (subst (λ m. Likewise x u v (t.stem_rounds + (r.stem_rounds + suc n)) m t.path_edges t.cycle) (mul_comm r.cycle_rounds t.cycle_rounds) his) in
+        let wide : t.cycle_rounds ≤ t.cycle_rounds * r.cycle_rounds = le-mul_of_pos_right t.cycle_rounds r.positive in
+        sym (mine.same n) ∙ (one_place (r.stem_rounds + (t.stem_rounds + suc n)) (t.cycle_rounds * r.cycle_rounds) n (omega (arith, wide, t.positive)) (omega arith) mine.run other.run
+        (mine.alike x.formula ∙ r.meets)
         (other.alike x.formula ∙ t.meets) ∙ other.same n)
 
 pub parted_decides : PartedDecides

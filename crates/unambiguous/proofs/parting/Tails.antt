@@ -20,41 +20,41 @@ use Rattle.unambiguous.proofs.tracks.Tracks.{as_long, some_edges, track_join}
 use Rattle.unambiguous.specs.Runs.{AcceptingRun, IsEdgePath, IsUnambiguous, edge_marks}
 
 -- after a prefix of its stem, a stem and cycle go on as without the prefix
-pub nth_behind : (front way cycle : List ℕ) (n : ℕ) → 0 < length cycle → nth (front ++ way) cycle (length front + n) ≡ nth way cycle n
-nth_behind front way cycle n some =
+pub nth_behind : (front path_edges cycle : List ℕ) (n : ℕ) → 0 < length cycle → nth (front ++ path_edges) cycle (length front + n) ≡ nth path_edges cycle n
+nth_behind front path_edges cycle n some =
     let i = suc n in
     let wide : suc n ≤ suc n * length cycle = le-mul_of_pos_right (suc n) some in
-    word_letter (front ++ way) cycle i (length front + n) some (omega (arith, length-append front way, wide))
-    ∙ (ap (λ (ms : List ℕ). slice_get ms (length front + n)) (append_assoc front way (copies i cycle))
-    ∙ (slice_get-append_right front (way ++ copies i cycle) n (length front + n) refl ∙ sym (word_letter way cycle i n some (omega (arith, wide)))))
+    word_letter (front ++ path_edges) cycle i (length front + n) some (omega (arith, length-append front path_edges, wide))
+    ∙ (ap (λ (ms : List ℕ). slice_get ms (length front + n)) (append_assoc front path_edges (copies i cycle))
+    ∙ (slice_get-append_right front (path_edges ++ copies i cycle) n (length front + n) refl ∙ sym (word_letter path_edges cycle i n some (omega (arith, wide)))))
 
 module _ (a : Automaton) where
   -- an accepting run from this state
   pub record Tail (p : ℕ) (u v : List NameSet) : Type 0 where
     pub state : ℕ
-    pub turns : ℕ
-    pub rounds : ℕ
-    pub way : List ℕ
+    pub stem_rounds : ℕ
+    pub cycle_rounds : ℕ
+    pub path_edges : List ℕ
     pub cycle : List ℕ
-    pub leads : IsEdgePath a p (u ++ copies turns v) way state
-    pub positive : 0 < rounds
-    pub returns : IsEdgePath a state (copies rounds v) cycle state
+    pub leads : IsEdgePath a p (u ++ copies stem_rounds v) path_edges state
+    pub positive : 0 < cycle_rounds
+    pub returns : IsEdgePath a state (copies cycle_rounds v) cycle state
     pub meets : met (map (edge_marks a) cycle) a.formula ≡ true
 
   pub to_tail : (p : ℕ) (u v : List NameSet) → Accepts (begun p a) u v → Tail p u v
   to_tail p u v r =
       let start : p ≡ r.start = elim (there_cases p [] r.start r.is_start) [ inl is ↦ is | inr none ↦ absurd (none_there r.start none) ] in
-      let leads = path_wider (begun p a) a refl (λ e there. there) r.start r.state (u ++ copies r.turns v) r.way r.leads in
-      let returns = path_wider (begun p a) a refl (λ e there. there) r.state r.state (copies r.rounds v) r.cycle r.returns in
-      let way = placed a r.start r.state (u ++ copies r.turns v) r.way leads in
-      let cycle = placed a r.state r.state (copies r.rounds v) r.cycle returns in
+      let leads = path_wider (begun p a) a refl (λ e there. there) r.start r.state (u ++ copies r.stem_rounds v) r.path_edges r.leads in
+      let returns = path_wider (begun p a) a refl (λ e there. there) r.state r.state (copies r.cycle_rounds v) r.cycle r.returns in
+      let path_edges = placed a r.start r.state (u ++ copies r.stem_rounds v) r.path_edges leads in
+      let cycle = placed a r.state r.state (copies r.cycle_rounds v) r.cycle returns in
       record {
         state = r.state;
-        turns = r.turns;
-        rounds = r.rounds;
-        way = way.places;
+        stem_rounds = r.stem_rounds;
+        cycle_rounds = r.cycle_rounds;
+        path_edges = path_edges.places;
         cycle = cycle.places;
-        leads = subst (λ s. IsEdgePath a s (u ++ copies r.turns v) way.places r.state) (sym start) way.track;
+        leads = subst (λ s. IsEdgePath a s (u ++ copies r.stem_rounds v) path_edges.places r.state) (sym start) path_edges.track;
         positive = r.positive;
         returns = cycle.track;
         meets = ap (λ cs. met cs a.formula) cycle.marks ∙ r.meets;
@@ -62,16 +62,16 @@ module _ (a : Automaton) where
 
   pub from_tail : (p : ℕ) (u v : List NameSet) → 0 < length v → Tail p u v → Accepts (begun p a) u v
   from_tail p u v endless t =
-      let way = gone a p t.state (u ++ copies t.turns v) t.way t.leads in
-      let cycle = gone a t.state t.state (copies t.rounds v) t.cycle t.returns in
-      accepts_of (begun p a) u v t.turns t.rounds (record {
+      let path_edges = gone a p t.state (u ++ copies t.stem_rounds v) t.path_edges t.leads in
+      let cycle = gone a t.state t.state (copies t.cycle_rounds v) t.cycle t.returns in
+      accepts_of (begun p a) u v t.stem_rounds t.cycle_rounds (record {
         start = p;
         state = t.state;
-        way = way.edges;
+        path_edges = path_edges.edges;
         cycle = cycle.edges;
         is_start = first_there p [];
-        leads = path_wider a (begun p a) refl (λ e there. there) p t.state (u ++ copies t.turns v) way.edges way.path;
-        returns = path_wider a (begun p a) refl (λ e there. there) t.state t.state (copies t.rounds v) cycle.edges cycle.path;
+        leads = path_wider a (begun p a) refl (λ e there. there) p t.state (u ++ copies t.stem_rounds v) path_edges.edges path_edges.path;
+        returns = path_wider a (begun p a) refl (λ e there. there) t.state t.state (copies t.cycle_rounds v) cycle.edges cycle.path;
       }) endless t.positive (ap (λ cs. met cs a.formula) cycle.marks ∙ t.meets)
 
   -- with one edge before it
@@ -79,9 +79,9 @@ module _ (a : Automaton) where
       → Tail e.to u v → Tail p (x ∷ u) v
   tail_before p m x e u v at from holds t = record {
     state = t.state;
-    turns = t.turns;
-    rounds = t.rounds;
-    way = m ∷ t.way;
+    stem_rounds = t.stem_rounds;
+    cycle_rounds = t.cycle_rounds;
+    path_edges = m ∷ t.path_edges;
     cycle = t.cycle;
     leads = (e, at, from, holds, t.leads);
     positive = t.positive;
@@ -94,12 +94,13 @@ module _ (a : Automaton) where
   run_before start p xs u v front is_start leads t = record {
     start = start;
     state = t.state;
-    turns = t.turns;
-    rounds = t.rounds;
-    way = front ++ t.way;
+    stem_rounds = t.stem_rounds;
+    cycle_rounds = t.cycle_rounds;
+    path_edges = front ++ t.path_edges;
     cycle = t.cycle;
     is_start = is_start;
-    leads = subst (λ w. IsEdgePath a start w (front ++ t.way) t.state) (sym (append_assoc xs u (copies t.turns v))) (track_join a start p t.state xs (u ++ copies t.turns v) front t.way leads t.leads);
+    leads = subst (λ w. IsEdgePath a start w (front ++ t.path_edges) t.state) (sym (append_assoc xs u (copies t.stem_rounds v)))
+        (track_join a start p t.state xs (u ++ copies t.stem_rounds v) front t.path_edges leads t.leads);
     positive = t.positive;
     returns = t.returns;
     meets = t.meets;
@@ -112,36 +113,36 @@ module _ (a : Automaton) where
     pub second : ℕ
     pub is_first : Contains a.starts first
     pub is_second : Contains a.starts second
-    pub way : List ℕ
+    pub path_edges : List ℕ
     pub other : List ℕ
-    pub leads : IsEdgePath a first letters way p
+    pub leads : IsEdgePath a first letters path_edges p
     pub leads_too : IsEdgePath a second letters other q
 
   module _ (u v : List NameSet) (endless : 0 < length v) where
     pub some_cycle : (p : ℕ) (t : Tail p u v) → 0 < length t.cycle
-    some_cycle p t = some_edges a u v endless t.state t.state t.rounds t.cycle t.positive t.returns
+    some_cycle p t = some_edges a u v endless t.state t.state t.cycle_rounds t.cycle t.positive t.returns
 
     -- in an unambiguous automaton both rests begin with the same edge
-    pub begin_alike : IsUnambiguous a → (p q : ℕ) → AreLed p q → (t : Tail p u v) (s : Tail q u v) → nth t.way t.cycle 0 ≡ nth s.way s.cycle 0
+    pub begin_alike : IsUnambiguous a → (p q : ℕ) → AreLed p q → (t : Tail p u v) (s : Tail q u v) → nth t.path_edges t.cycle 0 ≡ nth s.path_edges s.cycle 0
     begin_alike alone p q led t s =
-        let one = run_before led.first p led.letters u v led.way led.is_first led.leads t in
+        let one = run_before led.first p led.letters u v led.path_edges led.is_first led.leads t in
         let two = run_before led.second q led.letters u v led.other led.is_second led.leads_too s in
-        let long : length led.way ≡ length led.letters = as_long a led.first led.letters led.way p led.leads in
+        let long : length led.path_edges ≡ length led.letters = as_long a led.first led.letters led.path_edges p led.leads in
         let long_too : length led.other ≡ length led.letters = as_long a led.second led.letters led.other q led.leads_too in
-        let n : length led.way + 0 ≡ length led.other + 0 = omega (arith, long, long_too) in
-        sym (nth_behind led.way t.way t.cycle 0 (some_cycle p t))
-        ∙ (alone (led.letters ++ u) v endless one two (length led.way + 0)
-        ∙ (ap (nth (led.other ++ s.way) s.cycle) n ∙ nth_behind led.other s.way s.cycle 0 (some_cycle q s)))
+        let n : length led.path_edges + 0 ≡ length led.other + 0 = omega (arith, long, long_too) in
+        sym (nth_behind led.path_edges t.path_edges t.cycle 0 (some_cycle p t))
+        ∙ (alone (led.letters ++ u) v endless one two (length led.path_edges + 0)
+        ∙ (ap (nth (led.other ++ s.path_edges) s.cycle) n ∙ nth_behind led.other s.path_edges s.cycle 0 (some_cycle q s)))
 
     -- so they begin in the same state
-    pub from_one : (p q : ℕ) (t : Tail p u v) (s : Tail q u v) → nth t.way t.cycle 0 ≡ nth s.way s.cycle 0 → p ≡ q
+    pub from_one : (p q : ℕ) (t : Tail p u v) (s : Tail q u v) → nth t.path_edges t.cycle 0 ≡ nth s.path_edges s.cycle 0 → p ≡ q
     from_one p q t s same =
-        let mine : Begins a p t.way t.cycle = begins a p t.state t.state (u ++ copies t.turns v) (copies t.rounds v) t.way t.cycle t.leads t.returns (some_cycle p t) in
-        let his : Begins a q s.way s.cycle = begins a q s.state s.state (u ++ copies s.turns v) (copies s.rounds v) s.way s.cycle s.leads s.returns (some_cycle q s) in
+        let mine : Begins a p t.path_edges t.cycle = begins a p t.state t.state (u ++ copies t.stem_rounds v) (copies t.cycle_rounds v) t.path_edges t.cycle t.leads t.returns (some_cycle p t) in
+        let his : Begins a q s.path_edges s.cycle = begins a q s.state s.state (u ++ copies s.stem_rounds v) (copies s.cycle_rounds v) s.path_edges s.cycle s.leads s.returns (some_cycle q s) in
         let place : mine.place ≡ his.place = same_Some mine.place his.place (sym mine.is_first ∙ (same ∙ his.is_first)) in
         let edge : mine.edge ≡ his.edge = same_Some mine.edge his.edge (sym mine.at ∙ (ap (slice_get a.edges) place ∙ his.at)) in
         mine.from ∙ (ap (λ (e : LabelledEdge). e.from) edge ∙ sym his.from)
 
 -- the first item of a list that isn't empty
-pub nth_first : (m : ℕ) (way cycle : List ℕ) → nth (m ∷ way) cycle 0 ≡ Some m
-nth_first m way cycle = stem_letter (m ∷ way) cycle 0 (omega arith)
+pub nth_first : (m : ℕ) (path_edges cycle : List ℕ) → nth (m ∷ path_edges) cycle 0 ≡ Some m
+nth_first m path_edges cycle = stem_letter (m ∷ path_edges) cycle 0 (omega arith)

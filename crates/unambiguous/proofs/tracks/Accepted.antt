@@ -53,17 +53,17 @@ module _ (a : Automaton) where
 
   to_run : (u v : List NameSet) → Accepts a u v → AcceptingRun a u v
   to_run u v r =
-      let way = placed r.start r.state (u ++ copies r.turns v) r.way r.leads in
-      let cycle = placed r.state r.state (copies r.rounds v) r.cycle r.returns in
+      let path_edges = placed r.start r.state (u ++ copies r.stem_rounds v) r.path_edges r.leads in
+      let cycle = placed r.state r.state (copies r.cycle_rounds v) r.cycle r.returns in
       record {
         start = r.start;
         state = r.state;
-        turns = r.turns;
-        rounds = r.rounds;
-        way = way.places;
+        stem_rounds = r.stem_rounds;
+        cycle_rounds = r.cycle_rounds;
+        path_edges = path_edges.places;
         cycle = cycle.places;
         is_start = r.is_start;
-        leads = way.track;
+        leads = path_edges.track;
         positive = r.positive;
         returns = cycle.track;
         meets = ap (λ cs. met cs a.formula) cycle.marks ∙ r.meets;
@@ -71,10 +71,11 @@ module _ (a : Automaton) where
 
   from_run : (u v : List NameSet) → 0 < length v → AcceptingRun a u v → Accepts a u v
   from_run u v endless r =
-      let way = gone r.start r.state (u ++ copies r.turns v) r.way r.leads in
-      let cycle = gone r.state r.state (copies r.rounds v) r.cycle r.returns in
-      let run : LassoRun a u v r.turns r.rounds = record { start = r.start; state = r.state; way = way.edges; cycle = cycle.edges; is_start = r.is_start; leads = way.path; returns = cycle.path } in
-      accepts_of a u v r.turns r.rounds run endless r.positive (ap (λ cs. met cs a.formula) cycle.marks ∙ r.meets)
+      let path_edges = gone r.start r.state (u ++ copies r.stem_rounds v) r.path_edges r.leads in
+      let cycle = gone r.state r.state (copies r.cycle_rounds v) r.cycle r.returns in
+      let run : LassoRun a u v r.stem_rounds r.cycle_rounds =
+      record { start = r.start; state = r.state; path_edges = path_edges.edges; cycle = cycle.edges; is_start = r.is_start; leads = path_edges.path; returns = cycle.path } in
+      accepts_of a u v r.stem_rounds r.cycle_rounds run endless r.positive (ap (λ cs. met cs a.formula) cycle.marks ∙ r.meets)
 
 pub runs_are_acceptance : RunsAreAcceptance
 runs_are_acceptance a u v endless = (to_run a u v, from_run a u v endless)

@@ -57,20 +57,22 @@ module _ (a : Automaton) (det : IsDeterministic a) where
       let rest = same two.0.to q r xs ms ns (subst (λ (e : LabelledEdge). IsEdgePath a e.to xs ms q) edge one.4) two.4 in
       record { places = ap (λ k. k ∷ ms) place ∙ ap (λ ks. n ∷ ks) rest.places; ends = rest.ends }
 
-  unambiguous : (u v : List NameSet) → 0 < length v → (r t : AcceptingRun a u v) (n : ℕ) → nth r.way r.cycle n ≡ nth t.way t.cycle n
+  unambiguous : (u v : List NameSet) → 0 < length v → (r t : AcceptingRun a u v) (n : ℕ) → nth r.path_edges r.cycle n ≡ nth t.path_edges t.cycle n
   unambiguous u v endless r t n =
-      let mine = later a u v endless r.turns r.rounds t.turns t.rounds (run_of a u v r) r.positive t.positive in
-      let his = later a u v endless t.turns t.rounds r.turns r.rounds (run_of a u v t) t.positive r.positive in
-      let turns : t.turns + r.turns ≡ r.turns + t.turns = omega arith in
-      let rounds : r.rounds * t.rounds ≡ t.rounds * r.rounds = mul_comm r.rounds t.rounds in
+      let mine = later a u v endless r.stem_rounds r.cycle_rounds t.stem_rounds t.cycle_rounds (run_of a u v r) r.positive t.positive in
+      let his = later a u v endless t.stem_rounds t.cycle_rounds r.stem_rounds r.cycle_rounds (run_of a u v t) t.positive r.positive in
+      let stem_rounds : t.stem_rounds + r.stem_rounds ≡ r.stem_rounds + t.stem_rounds = omega arith in
+      let cycle_rounds : r.cycle_rounds * t.cycle_rounds ≡ t.cycle_rounds * r.cycle_rounds = mul_comm r.cycle_rounds t.cycle_rounds in
       let start : his.run.start ≡ mine.run.start = one_start his.run.start mine.run.start his.run.is_start mine.run.is_start in
-      let leads : IsEdgePath a mine.run.start (u ++ copies (r.turns + t.turns) v) his.run.way his.run.state = subst (λ p. IsEdgePath a p (u ++ copies (r.turns + t.turns) v) his.run.way his.run.state)
-      start (subst (λ k. IsEdgePath a his.run.start (u ++ copies k v) his.run.way his.run.state) turns his.run.leads) in
-      let ways = same mine.run.start mine.run.state his.run.state (u ++ copies (r.turns + t.turns) v) mine.run.way his.run.way mine.run.leads leads in
-      let returns : IsEdgePath a mine.run.state (copies (t.rounds * r.rounds) v) his.run.cycle his.run.state = subst (λ p. IsEdgePath a p (copies (t.rounds * r.rounds) v) his.run.cycle his.run.state)
-      (sym ways.ends) (subst (λ k. IsEdgePath a his.run.state (copies k v) his.run.cycle his.run.state) rounds his.run.returns) in
-      let cycles = same mine.run.state mine.run.state his.run.state (copies (t.rounds * r.rounds) v) mine.run.cycle his.run.cycle mine.run.returns returns in
-      sym (mine.same n) ∙ (ap (λ ws. nth ws mine.run.cycle n) ways.places ∙ (ap (λ cs. nth his.run.way cs n) cycles.places ∙ his.same n))
+      let leads : IsEdgePath a mine.run.start (u ++ copies (r.stem_rounds + t.stem_rounds) v) his.run.path_edges his.run.state =
+      subst (λ p. IsEdgePath a p (u ++ copies (r.stem_rounds + t.stem_rounds) v) his.run.path_edges his.run.state)
+      start (subst (λ k. IsEdgePath a his.run.start (u ++ copies k v) his.run.path_edges his.run.state) stem_rounds his.run.leads) in
+      let ways = same mine.run.start mine.run.state his.run.state (u ++ copies (r.stem_rounds + t.stem_rounds) v) mine.run.path_edges his.run.path_edges mine.run.leads leads in
+      let returns : IsEdgePath a mine.run.state (copies (t.cycle_rounds * r.cycle_rounds) v) his.run.cycle his.run.state =
+      subst (λ p. IsEdgePath a p (copies (t.cycle_rounds * r.cycle_rounds) v) his.run.cycle his.run.state)
+      (sym ways.ends) (subst (λ k. IsEdgePath a his.run.state (copies k v) his.run.cycle his.run.state) cycle_rounds his.run.returns) in
+      let cycles = same mine.run.state mine.run.state his.run.state (copies (t.cycle_rounds * r.cycle_rounds) v) mine.run.cycle his.run.cycle mine.run.returns returns in
+      sym (mine.same n) ∙ (ap (λ ws. nth ws mine.run.cycle n) ways.places ∙ (ap (λ cs. nth his.run.path_edges cs n) cycles.places ∙ his.same n))
 
 pub deterministic_is_unambiguous : DeterministicIsUnambiguous
 deterministic_is_unambiguous a det = unambiguous a det
@@ -79,9 +81,9 @@ abbrev round_at : (x : NameSet) (m : ℕ) → slice_get twice.edges m ≡ Some s
 round_at x m at = record {
   start = 0;
   state = 0;
-  turns = 0;
-  rounds = 1;
-  way = [];
+  stem_rounds = 0;
+  cycle_rounds = 1;
+  path_edges = [];
   cycle = m ∷ [];
   is_start = first_there 0 [];
   leads = refl;

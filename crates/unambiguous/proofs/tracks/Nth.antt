@@ -41,7 +41,7 @@ module _ {A : Type 0} where
       let more : 0 < k * length c = mul-lt 0 0 k (length c) times some in
       let some' : 0 < length (copies k c) = omega arith in
       let wide : suc n ≤ suc n * length (copies k c) = le-mul_of_pos_right (suc n) some' in
-      let rounds : suc n ≤ suc n * k = le-mul_of_pos_right (suc n) times in
+      let cycle_rounds : suc n ≤ suc n * k = le-mul_of_pos_right (suc n) times in
       let wider : suc n * k ≤ suc n * k * length c = le-mul_of_pos_right (suc n * k) some in
       word_letter u (copies k c) i n some' (omega arith)
       ∙ (ap (λ zs. slice_get (u ++ zs) n) (copies-copies i k c) ∙ sym (word_letter u c (i * k) n some (omega arith)))

@@ -6,14 +6,14 @@ use Rattle.aut_base.specs.Formula.{met}
 use Rattle.aut_base.specs.Word.{NameSet, copies}
 use Rattle.unambiguous.specs.Runs.{AcceptingRun, IsEdgePath, edge_marks}
 
-abbrev pub accepting_too : (a b : Automaton) (u v : List NameSet) (r : AcceptingRun a u v) → Contains b.starts r.start → IsEdgePath b r.start (u ++ copies r.turns v) r.way r.state
-    → IsEdgePath b r.state (copies r.rounds v) r.cycle r.state → met (map (edge_marks b) r.cycle) b.formula ≡ true → AcceptingRun b u v
+abbrev pub accepting_too : (a b : Automaton) (u v : List NameSet) (r : AcceptingRun a u v) → Contains b.starts r.start → IsEdgePath b r.start (u ++ copies r.stem_rounds v) r.path_edges r.state
+    → IsEdgePath b r.state (copies r.cycle_rounds v) r.cycle r.state → met (map (edge_marks b) r.cycle) b.formula ≡ true → AcceptingRun b u v
 accepting_too a b u v r is_start leads returns meets = record {
   start = r.start;
   state = r.state;
-  turns = r.turns;
-  rounds = r.rounds;
-  way = r.way;
+  stem_rounds = r.stem_rounds;
+  cycle_rounds = r.cycle_rounds;
+  path_edges = r.path_edges;
   cycle = r.cycle;
   is_start = is_start;
   leads = leads;

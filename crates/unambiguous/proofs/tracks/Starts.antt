@@ -24,9 +24,9 @@ module _ (a : Automaton) where
   begins p q r (x ∷ xs) (y ∷ ys) [] (n ∷ ns) one two some = absurd one
   begins p q r (x ∷ xs) (y ∷ ys) (m ∷ ms) (n ∷ ns) one two some = record { place = m; edge = one.0; at = one.1; from = one.2; is_first = word_letter (m ∷ ms) (n ∷ ns) 1 0 some (omega arith) }
 
-  begun : (u v : List NameSet) → 0 < length v → (r : AcceptingRun a u v) → Begins r.start r.way r.cycle
-  begun u v endless r = begins r.start r.state r.state (u ++ copies r.turns v) (copies r.rounds v) r.way r.cycle r.leads r.returns
-      (some_edges a u v endless r.state r.state r.rounds r.cycle r.positive r.returns)
+  begun : (u v : List NameSet) → 0 < length v → (r : AcceptingRun a u v) → Begins r.start r.path_edges r.cycle
+  begun u v endless r = begins r.start r.state r.state (u ++ copies r.stem_rounds v) (copies r.cycle_rounds v) r.path_edges r.cycle r.leads r.returns
+      (some_edges a u v endless r.state r.state r.cycle_rounds r.cycle r.positive r.returns)
 
 pub places_fix_start : PlacesFixStart
 places_fix_start a u v endless r t same =

@@ -53,23 +53,23 @@ module _ (a : Automaton) where
   track_copies q (suc k) xs ms track = track_join q q q xs (copies k xs) ms (copies k ms) track (track_copies q k xs ms track)
 
   -- a run, accepting or not
-  pub record Run (u v : List NameSet) (turns rounds : ℕ) : Type 0 where
+  pub record Run (u v : List NameSet) (stem_rounds cycle_rounds : ℕ) : Type 0 where
     pub start : ℕ
     pub state : ℕ
-    pub way : List ℕ
+    pub path_edges : List ℕ
     pub cycle : List ℕ
     pub is_start : Contains a.starts start
-    pub leads : IsEdgePath a start (u ++ copies turns v) way state
-    pub returns : IsEdgePath a state (copies rounds v) cycle state
+    pub leads : IsEdgePath a start (u ++ copies stem_rounds v) path_edges state
+    pub returns : IsEdgePath a state (copies cycle_rounds v) cycle state
 
-  abbrev pub run_of : (u v : List NameSet) (r : AcceptingRun a u v) → Run u v r.turns r.rounds
-  run_of u v r = record { start = r.start; state = r.state; way = r.way; cycle = r.cycle; is_start = r.is_start; leads = r.leads; returns = r.returns }
+  abbrev pub run_of : (u v : List NameSet) (r : AcceptingRun a u v) → Run u v r.stem_rounds r.cycle_rounds
+  run_of u v r = record { start = r.start; state = r.state; path_edges = r.path_edges; cycle = r.cycle; is_start = r.is_start; leads = r.leads; returns = r.returns }
 
   -- a run along the same edges, whose cycle meets the same conditions
-  pub record Likewise (u v : List NameSet) (turns rounds : ℕ) (way cycle : List ℕ) : Type 0 where
-    pub run : Run u v turns rounds
+  pub record Likewise (u v : List NameSet) (stem_rounds cycle_rounds : ℕ) (path_edges cycle : List ℕ) : Type 0 where
+    pub run : Run u v stem_rounds cycle_rounds
     pub alike : (f : FormulaTree) → met (map (edge_marks a) run.cycle) f ≡ met (map (edge_marks a) cycle) f
-    pub same : (n : ℕ) → nth run.way run.cycle n ≡ nth way cycle n
+    pub same : (n : ℕ) → nth run.path_edges run.cycle n ≡ nth path_edges cycle n
 
   swapped_alike : {A : Type 0} (xs ys : List A) → Alike (ys ++ xs) (xs ++ ys)
   swapped_alike xs ys = record {
@@ -88,60 +88,60 @@ module _ (a : Automaton) where
     some_edges p q k ms positive track = omega (arith, as_long p (copies k v) ms q track, length-copies k v, mul-lt 0 0 k (length v) positive endless)
 
     -- the cycle is read once more before the run closes
-    one_turn : (turns rounds : ℕ) (r : Run u v turns rounds) → 0 < rounds → Likewise u v (suc turns) rounds r.way r.cycle
-    one_turn turns zero r some = absurd (omega arith)
-    one_turn turns (suc k) r some =
+    one_turn : (stem_rounds cycle_rounds : ℕ) (r : Run u v stem_rounds cycle_rounds) → 0 < cycle_rounds → Likewise u v (suc stem_rounds) cycle_rounds r.path_edges r.cycle
+    one_turn stem_rounds zero r some = absurd (omega arith)
+    one_turn stem_rounds (suc k) r some =
         let parts = track_split r.state r.state v (copies k v) r.cycle r.returns in
-        let word : (u ++ copies turns v) ++ v ≡ u ++ copies (suc turns) v = append_assoc u (copies turns v) v ∙ ap (λ w. u ++ w) (copies-push turns v) in
-        let P : List NameSet → Type 0 = λ w. IsEdgePath a r.start w (r.way ++ parts.front) parts.middle in
+        let word : (u ++ copies stem_rounds v) ++ v ≡ u ++ copies (suc stem_rounds) v = append_assoc u (copies stem_rounds v) v ∙ ap (λ w. u ++ w) (copies-push stem_rounds v) in
+        let P : List NameSet → Type 0 = λ w. IsEdgePath a r.start w (r.path_edges ++ parts.front) parts.middle in
         let Q : List NameSet → Type 0 = λ w. IsEdgePath a parts.middle w (parts.back ++ parts.front) parts.middle in
         let long : 0 < length (parts.front ++ parts.back) = subst (λ (ms : List ℕ). 0 < length ms) parts.parts (some_edges r.state r.state (suc k) r.cycle some r.returns) in
         record {
           run = record {
             start = r.start;
             state = parts.middle;
-            way = r.way ++ parts.front;
+            path_edges = r.path_edges ++ parts.front;
             cycle = parts.back ++ parts.front;
             is_start = r.is_start;
-            leads = subst P word (track_join r.start r.state parts.middle (u ++ copies turns v) v r.way parts.front r.leads parts.first);
+            leads = subst P word (track_join r.start r.state parts.middle (u ++ copies stem_rounds v) v r.path_edges parts.front r.leads parts.first);
             returns = subst Q (copies-push k v) (track_join parts.middle r.state parts.middle (copies k v) v parts.back parts.front parts.second parts.first);
           };
           alike = swapped parts.front parts.back r.cycle parts.parts;
-          same = λ n. nth_turned r.way parts.front parts.back n long ∙ ap (λ ms. nth r.way ms n) (sym parts.parts);
+          same = λ n. nth_turned r.path_edges parts.front parts.back n long ∙ ap (λ ms. nth r.path_edges ms n) (sym parts.parts);
         }
 
-    some_turns : (turns rounds k : ℕ) (r : Run u v turns rounds) → 0 < rounds → Likewise u v (turns + k) rounds r.way r.cycle
-    some_turns turns rounds zero r some =
-        let e : turns ≡ turns + 0 = omega arith in
-        let P : ℕ → Type 0 = λ n. Likewise u v n rounds r.way r.cycle in
+    some_turns : (stem_rounds cycle_rounds k : ℕ) (r : Run u v stem_rounds cycle_rounds) → 0 < cycle_rounds → Likewise u v (stem_rounds + k) cycle_rounds r.path_edges r.cycle
+    some_turns stem_rounds cycle_rounds zero r some =
+        let e : stem_rounds ≡ stem_rounds + 0 = omega arith in
+        let P : ℕ → Type 0 = λ n. Likewise u v n cycle_rounds r.path_edges r.cycle in
         subst P e (record { run = r; alike = λ f. refl; same = λ n. refl })
-    some_turns turns rounds (suc k) r some =
-        let once = one_turn turns rounds r some in
-        let more = some_turns (suc turns) rounds k once.run some in
-        let e : suc turns + k ≡ turns + suc k = omega arith in
-        let P : ℕ → Type 0 = λ n. Likewise u v n rounds r.way r.cycle in
+    some_turns stem_rounds cycle_rounds (suc k) r some =
+        let once = one_turn stem_rounds cycle_rounds r some in
+        let more = some_turns (suc stem_rounds) cycle_rounds k once.run some in
+        let e : suc stem_rounds + k ≡ stem_rounds + suc k = omega arith in
+        let P : ℕ → Type 0 = λ n. Likewise u v n cycle_rounds r.path_edges r.cycle in
         subst P e (record { run = more.run; alike = λ f. more.alike f ∙ once.alike f; same = λ n. more.same n ∙ once.same n })
 
-    more_rounds : (turns rounds k : ℕ) (r : Run u v turns rounds) → 0 < rounds → 0 < k → Likewise u v turns (k * rounds) r.way r.cycle
-    more_rounds turns rounds k r positive some =
+    more_rounds : (stem_rounds cycle_rounds k : ℕ) (r : Run u v stem_rounds cycle_rounds) → 0 < cycle_rounds → 0 < k → Likewise u v stem_rounds (k * cycle_rounds) r.path_edges r.cycle
+    more_rounds stem_rounds cycle_rounds k r positive some =
         let P : List NameSet → Type 0 = λ w. IsEdgePath a r.state w (copies k r.cycle) r.state in
         record {
           run = record {
             start = r.start;
             state = r.state;
-            way = r.way;
+            path_edges = r.path_edges;
             cycle = copies k r.cycle;
             is_start = r.is_start;
             leads = r.leads;
-            returns = subst P (copies-copies k rounds v) (track_copies r.state k (copies rounds v) r.cycle r.returns);
+            returns = subst P (copies-copies k cycle_rounds v) (track_copies r.state k (copies cycle_rounds v) r.cycle r.returns);
           };
           alike = met_alike (map (edge_marks a) (copies k r.cycle)) (map (edge_marks a) r.cycle) (gone_alike (edge_marks a) k r.cycle some);
-          same = λ n. nth_copies r.way r.cycle k n some (some_edges r.state r.state rounds r.cycle positive r.returns);
+          same = λ n. nth_copies r.path_edges r.cycle k n some (some_edges r.state r.state cycle_rounds r.cycle positive r.returns);
         }
 
     -- k more turns before the run closes, and m times the rounds
-    pub later : (turns rounds k m : ℕ) (r : Run u v turns rounds) → 0 < rounds → 0 < m → Likewise u v (turns + k) (m * rounds) r.way r.cycle
-    later turns rounds k m r some times =
-        let first = some_turns turns rounds k r some in
-        let second = more_rounds (turns + k) rounds m first.run some times in
+    pub later : (stem_rounds cycle_rounds k m : ℕ) (r : Run u v stem_rounds cycle_rounds) → 0 < cycle_rounds → 0 < m → Likewise u v (stem_rounds + k) (m * cycle_rounds) r.path_edges r.cycle
+    later stem_rounds cycle_rounds k m r some times =
+        let first = some_turns stem_rounds cycle_rounds k r some in
+        let second = more_rounds (stem_rounds + k) cycle_rounds m first.run some times in
         record { run = second.run; alike = λ f. second.alike f ∙ first.alike f; same = λ n. second.same n ∙ first.same n }

@@ -22,11 +22,11 @@ slice_get-take (suc n) (x ∷ xs) zero within = refl
 slice_get-take (suc n) (x ∷ xs) (suc i) within = slice_get-take n xs i (omega arith)
 
 -- the remainder by a multiple of a number, and then by the number
-pub mod_of_multiple : (x whole turns size : ℕ) → whole ≡ turns * size → (x % whole) % size ≡ x % size
-mod_of_multiple x whole turns size e =
-    let product : turns * size * (x / whole) ≡ size * (turns * (x / whole)) = omega arith in
-    let split : x ≡ x % whole + size * (turns * (x / whole)) = sym (mod-add-div x whole) ∙ ap (λ (n : ℕ). x % whole + n) (ap (λ (w : ℕ). w * (x / whole)) e ∙ product) in
-    sym (ap (λ (n : ℕ). n % size) split ∙ add-mul-mod_self_left (x % whole) size (turns * (x / whole)))
+pub mod_of_multiple : (x whole stem_rounds size : ℕ) → whole ≡ stem_rounds * size → (x % whole) % size ≡ x % size
+mod_of_multiple x whole stem_rounds size e =
+    let product : stem_rounds * size * (x / whole) ≡ size * (stem_rounds * (x / whole)) = omega arith in
+    let split : x ≡ x % whole + size * (stem_rounds * (x / whole)) = sym (mod-add-div x whole) ∙ ap (λ (n : ℕ). x % whole + n) (ap (λ (w : ℕ). w * (x / whole)) e ∙ product) in
+    sym (ap (λ (n : ℕ). n % size) split ∙ add-mul-mod_self_left (x % whole) size (stem_rounds * (x / whole)))
 
 -- the list rotated to begin at this index
 pub turned_at : (root : List NameSet) (from x : ℕ) → from < length root → slice_get (drop from root ++ take from root) (x % length root) ≡ cyclic root (from + x)
@@ -61,10 +61,10 @@ copies_at k w i within =
     positive k zero i h = absurd (omega arith)
     positive k (suc l) i h = omega arith
 
-pub cyclic_again : (root : List NameSet) (x y turns : ℕ) → x ≡ turns * length root + y → cyclic root x ≡ cyclic root y
-cyclic_again root x y turns e =
-    let split : x ≡ y + length root * turns = omega arith in
-    ap (slice_get root) (ap (λ (n : ℕ). n % length root) split ∙ add-mul-mod_self_left y (length root) turns)
+pub cyclic_again : (root : List NameSet) (x y stem_rounds : ℕ) → x ≡ stem_rounds * length root + y → cyclic root x ≡ cyclic root y
+cyclic_again root x y stem_rounds e =
+    let split : x ≡ y + length root * stem_rounds = omega arith in
+    ap (slice_get root) (ap (λ (n : ℕ). n % length root) split ∙ add-mul-mod_self_left y (length root) stem_rounds)
 
 pub at_cycle : (u v : List NameSet) (n : ℕ) → length u ≤ n → letter_at u v n ≡ cyclic v (n - length u)
 at_cycle u v n past = ap (λ b. if b then slice_get u n else slice_get v ((n - length u) % length v)) (le-ltb n (length u) past)

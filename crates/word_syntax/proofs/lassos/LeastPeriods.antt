@@ -95,7 +95,7 @@ root_shorter v p some l whole =
     record {
       some = l.some;
       within = least_within v (length v) p some l;
-      turns = length v / p;
+      stem_rounds = length v / p;
       whole = omega (arith, div-add-mod' (length v) p, whole);
       same = same;
       least = λ e k pos more is turn. (let shorter : p ≤ e = l.least e pos (turn_period v p e same turn) in let two = twice e k p more is in omega arith);
@@ -108,7 +108,7 @@ root_whole v p some l uneven =
     record {
       some = some;
       within = omega arith;
-      turns = 1;
+      stem_rounds = 1;
       whole = omega arith;
       same = same;
       least = λ e k pos more is turn. (

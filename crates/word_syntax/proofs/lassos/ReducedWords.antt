@@ -31,7 +31,7 @@ shared_more stem root kept from some begun m same = record {
         at_same stem n (kept - 1) at ∙ (same ∙ (sym (cyclic_within root (from - 1) (omega (arith, m.inside))) ∙ cyclic_same root (from - 1) (from - 1 + (n - (kept - 1))) (sym zeros))))
     | inr past ↦ (let e : from + (n - kept) ≡ from - 1 + (n - (kept - 1)) = omega arith in m.same n past k ∙ cyclic_same root (from + (n - kept)) (from - 1 + (n - (kept - 1))) e)
   ];
-  turns = m.turns;
+  stem_rounds = m.stem_rounds;
   whole = omega (arith, m.whole, m.within);
 }
 
@@ -48,7 +48,7 @@ shared_around stem root kept some m same = record {
     | inr past ↦ (let e : length root - 1 + (n - (kept - 1)) ≡ 1 * length root + (0 + (n - kept)) = omega (arith, m.inside) in
         m.same n past k ∙ sym (cyclic_again root (length root - 1 + (n - (kept - 1))) (0 + (n - kept)) 1 e))
   ];
-  turns = m.turns + 1;
+  stem_rounds = m.stem_rounds + 1;
   whole = omega (arith, m.whole, m.within, m.inside);
 }
 
@@ -65,7 +65,7 @@ last_around root some = let e : 0 + (length root - 1) ≡ length root - 1 = omeg
 -- the cycle repeated for ever is its root repeated for ever
 root_cyclic : (cycle : List NameSet) (size x : ℕ) → (r : IsRoot cycle size) → cyclic cycle x ≡ slice_get cycle (x % size)
 root_cyclic cycle size x r =
-    r.same (x % length cycle) (mod_below_some x (length cycle) (omega (arith, r.some, r.within))) ∙ ap (slice_get cycle) (mod_of_multiple x (length cycle) r.turns size r.whole)
+    r.same (x % length cycle) (mod_below_some x (length cycle) (omega (arith, r.some, r.within))) ∙ ap (slice_get cycle) (mod_of_multiple x (length cycle) r.stem_rounds size r.whole)
   where
     mod_below_some : (x n : ℕ) → 0 < n → x % n < n
     mod_below_some x n h = omega arith
@@ -111,8 +111,8 @@ made_same stem cycle u v m n =
           at_cycle u v n (omega arith) ∙ (cyclic_same v (n - length u) (n - m.kept) (ap (λ (k : ℕ). n - k) long) ∙ turned_cyclic stem cycle u v m (n - m.kept)) in
           elim (cases_lt n (length stem)) [
             | inl shared ↦ here ∙ (sym (s.same n past shared) ∙ sym (stem_letter stem cycle n shared))
-            | inr behind ↦ (let e : m.from + (n - m.kept) ≡ s.turns * length (take m.size cycle) + (n - length stem) = omega (arith, s.whole) in
-                here ∙ (cyclic_again (take m.size cycle) (m.from + (n - m.kept)) (n - length stem) s.turns e
+            | inr behind ↦ (let e : m.from + (n - m.kept) ≡ s.stem_rounds * length (take m.size cycle) + (n - length stem) = omega (arith, s.whole) in
+                here ∙ (cyclic_again (take m.size cycle) (m.from + (n - m.kept)) (n - length stem) s.stem_rounds e
                 ∙ (front_cyclic cycle m.size (n - length stem) m.root ∙ (sym (root_cyclic cycle m.size (n - length stem) m.root) ∙ sym (at_cycle stem cycle n behind)))))
           ])
     ]

@@ -131,8 +131,8 @@ walked p some k q (x ∷ xs) (e ∷ es) path =
 
 -- and letters that satisfy the formulas are read by a path
 pub record Walk (p : WordPattern) (k : ℕ) (xs : List NameSet) : Type 0 where
-  pub way : List LabelledEdge
-  pub path : IsPath (word_automaton p) (state_at p k) xs way (state_at p (k + length xs))
+  pub path_edges : List LabelledEdge
+  pub path : IsPath (word_automaton p) (state_at p k) xs path_edges (state_at p (k + length xs))
 
 label_there : (ts : List LabelTree) (i : ℕ) → i < length ts → (t : LabelTree) × (slice_get ts i ≡ Some t)
 label_there [] i h = absurd (omega arith)
@@ -140,7 +140,7 @@ label_there (t ∷ ts) zero h = (t, refl)
 label_there (t ∷ ts) (suc i) h = label_there ts i (omega arith)
 
 pub walk : (p : WordPattern) → 0 < length p.cycle → (k : ℕ) (xs : List NameSet) → MeetsFrom p k xs → Walk p k xs
-walk p some k [] meets = let z : k ≡ k + 0 = omega arith in record { way = []; path = ap (state_at p) z }
+walk p some k [] meets = let z : k ≡ k + 0 = omega arith in record { path_edges = []; path = ap (state_at p) z }
 walk p some k (x ∷ xs) meets =
     let label = label_there (labels p) (state_at p k) (state_within p some k) in
     let rest = walk p some (k + 1) xs meets.1 in
@@ -149,9 +149,9 @@ walk p some k (x ∷ xs) meets =
     let has : slice_get (word_automaton p).edges (state_at p k) ≡ Some e = edges_has (length p.stem) (length (labels p)) 0 (labels p) (state_at p k) label.0 label.1
     ∙ ap (λ (n : ℕ). Some (edge_at (length p.stem) (length (labels p)) n label.0)) z in
     let far : k + 1 + length xs ≡ k + length (x ∷ xs) = omega arith in
-    let P : ℕ → Type 0 = λ n. IsPath (word_automaton p) n xs rest.way (state_at p (k + length (x ∷ xs))) in
-    let Q : ℕ → Type 0 = λ n. IsPath (word_automaton p) (state_at p (k + 1)) xs rest.way (state_at p n) in
+    let P : ℕ → Type 0 = λ n. IsPath (word_automaton p) n xs rest.path_edges (state_at p (k + length (x ∷ xs))) in
+    let Q : ℕ → Type 0 = λ n. IsPath (word_automaton p) (state_at p (k + 1)) xs rest.path_edges (state_at p n) in
     record {
-      way = e ∷ rest.way;
+      path_edges = e ∷ rest.path_edges;
       path = (refl, get_contains (word_automaton p).edges (state_at p k) e has, meets.0 label.0 label.1, subst P (sym (state_next p some k)) (subst Q far rest.path));
     }

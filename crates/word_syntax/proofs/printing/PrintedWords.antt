@@ -270,20 +270,22 @@ map-copies f zero v = refl
 map-copies f (suc k) v = map-append f v (copies k v) ∙ ap (λ (ts : List LabelTree). map f v ++ ts) (map-copies f k v)
 
 -- an unrolled lasso is one of the same infinite word
-unrolled_same : (u v : List NameSet) (turns rounds : ℕ) → 0 < length v → 0 < rounds → SpellsSame (u ++ copies turns v) (copies rounds v) u v
-unrolled_same u v turns rounds some more n =
-    let long : length (u ++ copies turns v) ≡ length u + turns * length v = length-append u (copies turns v) ∙ ap (λ (k : ℕ). length u + k) (length-copies turns v) in
-    let size : length (copies rounds v) ≡ rounds * length v = length-copies rounds v in
-    elim (cases_lt n (length u + turns * length v)) [
-      | inl inside ↦ stem_letter (u ++ copies turns v) (copies rounds v) n (omega arith) ∙ sym (word_letter u v turns n some inside)
-      | inr past ↦ (let positive : 0 < rounds * length v = times rounds (length v) more some in
-          let below : (n - (length u + turns * length v)) % (rounds * length v) < rounds * length v = omega arith in
-          let split : n - length u ≡ n - (length u + turns * length v) + length v * turns = omega arith in
-          at_cycle (u ++ copies turns v) (copies rounds v) n (omega arith)
-          ∙ (ap (λ (k : ℕ). slice_get (copies rounds v) ((n - k) % length (copies rounds v))) long ∙ (ap (λ (k : ℕ). slice_get (copies rounds v) ((n - (length u + turns * length v)) % k)) size
-          ∙ (copies_at rounds v ((n - (length u + turns * length v)) % (rounds * length v)) below
-          ∙ (ap (slice_get v) (mod_of_multiple (n - (length u + turns * length v)) (rounds * length v) rounds (length v) refl)
-          ∙ (ap (slice_get v) (sym (add-mul-mod_self_left (n - (length u + turns * length v)) (length v) turns) ∙ ap (λ (k : ℕ). k % length v) (sym split)) ∙ sym (at_cycle u v n (omega arith))))))))
+unrolled_same : (u v : List NameSet) (stem_rounds cycle_rounds : ℕ) → 0 < length v → 0 < cycle_rounds → SpellsSame (u ++ copies stem_rounds v) (copies cycle_rounds v) u v
+unrolled_same u v stem_rounds cycle_rounds some more n =
+    let long : length (u ++ copies stem_rounds v) ≡ length u + stem_rounds * length v = length-append u (copies stem_rounds v) ∙ ap (λ (k : ℕ). length u + k) (length-copies stem_rounds v) in
+    let size : length (copies cycle_rounds v) ≡ cycle_rounds * length v = length-copies cycle_rounds v in
+    elim (cases_lt n (length u + stem_rounds * length v)) [
+      | inl inside ↦ stem_letter (u ++ copies stem_rounds v) (copies cycle_rounds v) n (omega arith) ∙ sym (word_letter u v stem_rounds n some inside)
+      | inr past ↦ (let positive : 0 < cycle_rounds * length v = times cycle_rounds (length v) more some in
+          let below : (n - (length u + stem_rounds * length v)) % (cycle_rounds * length v) < cycle_rounds * length v = omega arith in
+          let split : n - length u ≡ n - (length u + stem_rounds * length v) + length v * stem_rounds = omega arith in
+          at_cycle (u ++ copies stem_rounds v) (copies cycle_rounds v) n (omega arith)
+          ∙ (ap (λ (k : ℕ). slice_get (copies cycle_rounds v) ((n - k) % length (copies cycle_rounds v))) long
+          ∙ (ap (λ (k : ℕ). slice_get (copies cycle_rounds v) ((n - (length u + stem_rounds * length v)) % k)) size
+          ∙ (copies_at cycle_rounds v ((n - (length u + stem_rounds * length v)) % (cycle_rounds * length v)) below
+          ∙ (ap (slice_get v) (mod_of_multiple (n - (length u + stem_rounds * length v)) (cycle_rounds * length v) cycle_rounds (length v) refl)
+          ∙ (ap (slice_get v) (sym (add-mul-mod_self_left (n - (length u + stem_rounds * length v)) (length v) stem_rounds) ∙ ap (λ (k : ℕ). k % length v) (sym split))
+          ∙ sym (at_cycle u v n (omega arith))))))))
     ]
   where
     times : (k l : ℕ) → 0 < k → 0 < l → 0 < k * l
@@ -292,24 +294,24 @@ unrolled_same u v turns rounds some more n =
 
 printed_matches : (names : List (List ℕ)) (u v : List NameSet) → 0 < length v → (x y : List NameSet) → Matches (printed_pattern names u v) x y ↔ AgreesUnrolled names u v x y
 printed_matches names u v some x y = (
-  (λ m. (let stem : map (letter_tree names) u ++ copies m.turns (map (letter_tree names) v) ≡ map (letter_tree names) (u ++ copies m.turns v) =
-      sym (map-append (letter_tree names) u (copies m.turns v) ∙ ap (λ (ts : List LabelTree). map (letter_tree names) u ++ ts) (map-copies (letter_tree names) m.turns v)) in
+  (λ m. (let stem : map (letter_tree names) u ++ copies m.stem_rounds (map (letter_tree names) v) ≡ map (letter_tree names) (u ++ copies m.stem_rounds v) =
+      sym (map-append (letter_tree names) u (copies m.stem_rounds v) ∙ ap (λ (ts : List LabelTree). map (letter_tree names) u ++ ts) (map-copies (letter_tree names) m.stem_rounds v)) in
       record {
-        turns = m.turns;
-        rounds = m.rounds;
+        stem_rounds = m.stem_rounds;
+        cycle_rounds = m.cycle_rounds;
         some = m.some;
-        same = unrolled_same u v m.turns m.rounds some m.some;
-        stem = (all_meet_agree names x (u ++ copies m.turns v)).0 (subst (λ (ts : List LabelTree). AllMeet names x ts) stem m.stem);
-        cycle = (all_meet_agree names y (copies m.rounds v)).0 (subst (λ (ts : List LabelTree). AllMeet names y ts) (sym (map-copies (letter_tree names) m.rounds v)) m.cycle);
+        same = unrolled_same u v m.stem_rounds m.cycle_rounds some m.some;
+        stem = (all_meet_agree names x (u ++ copies m.stem_rounds v)).0 (subst (λ (ts : List LabelTree). AllMeet names x ts) stem m.stem);
+        cycle = (all_meet_agree names y (copies m.cycle_rounds v)).0 (subst (λ (ts : List LabelTree). AllMeet names y ts) (sym (map-copies (letter_tree names) m.cycle_rounds v)) m.cycle);
       })),
-  λ a. (let stem : map (letter_tree names) (u ++ copies a.turns v) ≡ map (letter_tree names) u ++ copies a.turns (map (letter_tree names) v) =
-      map-append (letter_tree names) u (copies a.turns v) ∙ ap (λ (ts : List LabelTree). map (letter_tree names) u ++ ts) (map-copies (letter_tree names) a.turns v) in
+  λ a. (let stem : map (letter_tree names) (u ++ copies a.stem_rounds v) ≡ map (letter_tree names) u ++ copies a.stem_rounds (map (letter_tree names) v) =
+      map-append (letter_tree names) u (copies a.stem_rounds v) ∙ ap (λ (ts : List LabelTree). map (letter_tree names) u ++ ts) (map-copies (letter_tree names) a.stem_rounds v) in
       record {
-        turns = a.turns;
-        rounds = a.rounds;
+        stem_rounds = a.stem_rounds;
+        cycle_rounds = a.cycle_rounds;
         some = a.some;
-        stem = subst (λ (ts : List LabelTree). AllMeet names x ts) stem ((all_meet_agree names x (u ++ copies a.turns v)).1 a.stem);
-        cycle = subst (λ (ts : List LabelTree). AllMeet names y ts) (map-copies (letter_tree names) a.rounds v) ((all_meet_agree names y (copies a.rounds v)).1 a.cycle);
+        stem = subst (λ (ts : List LabelTree). AllMeet names x ts) stem ((all_meet_agree names x (u ++ copies a.stem_rounds v)).1 a.stem);
+        cycle = subst (λ (ts : List LabelTree). AllMeet names y ts) (map-copies (letter_tree names) a.cycle_rounds v) ((all_meet_agree names y (copies a.cycle_rounds v)).1 a.cycle);
       }),
 )
 

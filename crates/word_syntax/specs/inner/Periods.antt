@@ -32,8 +32,8 @@ cyclic v i = slice_get v (i % length v)
 pub record IsRoot (v : List NameSet) (size : ℕ) : Type 0 where
   pub some : 0 < size
   pub within : size ≤ length v
-  pub turns : ℕ
-  pub whole : length v ≡ turns * size
+  pub stem_rounds : ℕ
+  pub whole : length v ≡ stem_rounds * size
   pub same : (i : ℕ) → i < length v → slice_get v i ≡ slice_get v (i % size)
   pub least : (e k : ℕ) → 0 < e → 2 ≤ k → size ≡ k * e → ((i : ℕ) → slice_get v ((i + e) % size) ≡ slice_get v (i % size)) → ⊥
 
@@ -42,8 +42,8 @@ pub record IsMidShared (stem root : List NameSet) (kept from : ℕ) : Type 0 whe
   pub within : kept ≤ length stem
   pub inside : from < length root
   pub same : (n : ℕ) → kept ≤ n → n < length stem → slice_get stem n ≡ cyclic root (from + (n - kept))
-  pub turns : ℕ
-  pub whole : from + (length stem - kept) ≡ turns * length root
+  pub stem_rounds : ℕ
+  pub whole : from + (length stem - kept) ≡ stem_rounds * length root
 
 -- and the last letter that is kept is not the last of the rotated cycle
 pub record IsShared (stem root : List NameSet) (kept from : ℕ) : Type 0 where

@@ -58,7 +58,7 @@ from_parts-requires c =
     let at = (goal.at.from_parts-requires c).After-sets in
     let names = c.in_ok-names.ensures.others ∙ ap (names_without c.args.name.now) c.names.ensures in
     others_parts c.args.how c.args.name.now c.args.a.now (core at) c.well_formedness.ensures (same at)
-        (c.in_ok-links.ensures.names ∙ (c.in_ok-guards.ensures.names ∙ (c.len.ensures ∙ ap length names)))
+    (c.in_ok-links.ensures.names ∙ (c.in_ok-guards.ensures.names ∙ (c.len.ensures ∙ ap length names)))
     c.in_ok-links.ensures.has
 
 pub returns : goal.returns

@@ -38,7 +38,7 @@ pairs-preserved c =
     c.pair_at-p.result.1 c.sets.result c.links_of.result.now c.links_of-in-pairs.result.now c.pairs.invariant.first c.pairs.invariant.second c.sets.ensures c.links_of.ensures
     c.links_of-in-pairs.ensures in
     explored_more MOST_PAIRS c.args.a.now c.args.b.now c.well_formedness.ensures c.well_formedness-2.ensures c.requires.names c.requires.sets c.args.pairing.now c.pairs.pairing
-        c.spread.new.self c.pairs.done
+    c.spread.new.self c.pairs.done
     c.pair_at-p.result.0 c.pair_at-p.result.1 _ c.pairs.invariant c.pair_at-p.ensures c.in_ok-spread.ensures.adds same c.in_ok-spread.ensures.few
 
 pub returns-clause-pairs : goal.returns-clause-pairs

@@ -46,4 +46,4 @@ returns-clause-deterministic c is =
     let a = automaton_of c.args.a.now in
     let other = completed_other a c.well_formedness.ensures.well_formed (λ whole. false≢true (sym c.if-is_complete.false ∙ c.is_complete.ensures.1 whole)) in
     IfOk-weaker c.complete_with_sink.result _ _ (λ core e. subst IsDeterministic (sym (e ∙ sym other)) (completed_deterministic a c.well_formedness.ensures.well_formed is))
-        c.complete_with_sink.ensures
+    c.complete_with_sink.ensures

@@ -14,7 +14,7 @@ from_parts-requires c =
     (c.in_ok-names.ensures ∙ c.names.ensures) c.starts.ensures c.in_ok-starts.ensures c.filled_links.ensures.names c.in_ok-links.ensures.links c.always.ensures
     c.in_ok-marks.ensures.marks c.in_ok-push.ensures.ok c.in_ok-marks.ensures.sets c.in_ok-marks.ensures.formula in
     parts_for _ (with_sink (automaton_of c.args.a.now)) made.is (with_sink_formed (automaton_of c.args.a.now) c.well_formedness.ensures.well_formed) c.well_formedness.ensures.parts.few
-        made.names made.has
+    made.names made.has
 
 pub returns : goal.returns
 returns c =

@@ -13,9 +13,9 @@ path-requires-clause-nodes c = has_nodes _ _ _ c.args.edges.now refl c.requires.
 
 pub returns-in-Some : goal.returns-in-Some
 returns-in-Some c =
-    ok_weaker c.add_places.result (c.add_places.new.way ≡ c.args.way.now ++ map (listed_edge c.args.edges.now) c.as_slice.result.now)
-    (ExtendsPath (Contains c.args.edges.now) c.args.from c.args.to c.args.way.now c.add_places.new.way)
-    (way_added c.args.edges.now c.args.graph.now.arcs _ c.as_slice.result.now c.args.from c.args.to c.args.way.now c.add_places.new.way c.requires.arcs c.as_slice.ensures
+    ok_weaker c.add_places.result (c.add_places.new.path_edges ≡ c.args.path_edges.now ++ map (listed_edge c.args.edges.now) c.as_slice.result.now)
+    (ExtendsPath (Contains c.args.edges.now) c.args.from c.args.to c.args.path_edges.now c.add_places.new.path_edges)
+    (way_added c.args.edges.now c.args.graph.now.arcs _ c.as_slice.result.now c.args.from c.args.to c.args.path_edges.now c.add_places.new.path_edges c.requires.arcs c.as_slice.ensures
     (some_said (¬ Reaches c.args.graph.now.arcs c.args.from c.args.to) (IsShortest c.args.graph.now.arcs c.args.from c.args.to) c.in_ok-places.field-0 c.in-Some.places c.in-Some.is
     c.in_ok-places.ensures))
     c.add_places.ensures

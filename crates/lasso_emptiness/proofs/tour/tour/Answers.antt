@@ -35,7 +35,7 @@ needed-preserved c =
     let inside = All-get_or (Contains c.args.edges.now) c.args.needed.now c.needed.edge-index _ c.needed-test.true c.requires.inside in
     record {
       within = (All-contains (λ (e : EdgeRef). (e.from < c.args.states) × (e.to < c.args.states)) c.args.edges.now next c.requires.ends inside).1;
-      so_far = tours_more c.args.edges.now c.args.needed.now c.requires.joined c.requires.inside c.needed.edge-index c.needed-test.true c.needed.cycle c.add_way.new.way c.push.new.self _
+      so_far = tours_more c.args.edges.now c.args.needed.now c.requires.joined c.requires.inside c.needed.edge-index c.needed-test.true c.needed.cycle c.add_way.new.path_edges c.push.new.self _
           c.needed.at c.needed.invariant.so_far c.in_ok-add_way.ensures c.in_ok-push.ensures.ok;
     }
 
@@ -55,5 +55,5 @@ add_way-requires-2 c =
 
 pub returns : goal.returns
 returns c =
-    tours_all c.args.edges.now c.args.needed.now c.needed.cycle c.add_way-2.new.way c.needed.edge-index _ c.needed.at c.requires.some c.needed-test.false c.needed.invariant.so_far
+    tours_all c.args.edges.now c.args.needed.now c.needed.cycle c.add_way-2.new.path_edges c.needed.edge-index _ c.needed.at c.requires.some c.needed-test.false c.needed.invariant.so_far
     c.in_ok-add_way-2.ensures
