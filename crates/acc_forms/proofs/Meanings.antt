@@ -1,4 +1,4 @@
--- Laws of trees, said of the conditions in memory whose trees they are.
+-- Laws of trees, for the conditions in memory whose trees they are.
 use Rattle.std.proofs.Common.{◌≡◌, Result, sym, subst}
 use Rattle.std.specs.Prelude.{IfOk}
 use Rattle.std.proofs.lemmas.Result.{IfOk-weaker}

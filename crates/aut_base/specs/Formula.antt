@@ -12,7 +12,7 @@ mutual
   pub data FormulaTree : Type 0 where
     True : FormulaTree
     False : FormulaTree
-    -- the set, and whether `!` stands before it
+    -- the set, and whether `!` is before it
     Inf : ℕ → Bool → FormulaTree
     Fin : ℕ → Bool → FormulaTree
     And : FormulaTree → FormulaTree → FormulaTrees → FormulaTree
@@ -22,7 +22,7 @@ mutual
     none : FormulaTrees
     more : FormulaTree → FormulaTrees → FormulaTrees
 
--- Whether a run meets the condition whose edges that occur infinitely often are those of a cycle, given by the
+-- Whether a condition is met by a run whose edges that occur infinitely often are those of a cycle, given by the
 -- marks of each. `Inf(n)`: some edge is in n. `Inf(!n)`: some edge isn't. `Fin(n)`: none is. `Fin(!n)`: all are.
 abbrev mutual
   pub met : List (List ℕ) → FormulaTree → Bool
@@ -57,7 +57,7 @@ abbrev mutual
   EachSetsBelow n none = Unit {0}
   EachSetsBelow n (more f fs) = SetsBelow n f × EachSetsBelow n fs
 
--- The number of signs in a condition, by which a recursion over its parts ends.
+-- The number of nodes of a condition's tree, a measure for recursion over its parts.
 abbrev mutual
   pub formula_size : FormulaTree → ℕ
   formula_size True = 1

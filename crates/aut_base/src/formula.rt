@@ -54,7 +54,8 @@ impl Formula {
 }
 
 impl Formula {
-    /// Whether a run meets the condition whose edges that occur infinitely often are those of this cycle, given by the marks of each.
+    /// Whether the condition is met by a run whose edges that occur infinitely often are those of this cycle, given by the marks of
+    /// each.
     #[cycle(formula_met)]
     #[tactic(auto, using(crate::proofs::trees::FormulaTrees::formula_trees))]
     pub fn met_by(&self, cycle: &[Marks]) -> bool
@@ -102,7 +103,7 @@ impl Formula {
     }
 }
 
-// Whether every acceptance set of these is below the number.
+// Whether every acceptance set of these parts is below the number.
 #[cycle(formula_below)]
 fn all_below(parts: &[Formula], sets: u32) -> bool
     ensures { IsTrue result ↔ EachSetsBelow sets (trees (map formula_tree parts.now)) }
@@ -172,7 +173,7 @@ impl Formulas {
     }
 }
 
-// Copies of these, in order.
+// Copies of these parts, in order.
 #[cycle(formula_copy)]
 fn copy_all(alloc: Global, parts: &[Formula]) -> Result<Vec<Formula>, Memory>
     ensures { IfOk result (λ new. map formula_tree new.items ≡ map formula_tree parts.now) }
@@ -185,7 +186,7 @@ fn copy_all(alloc: Global, parts: &[Formula]) -> Result<Vec<Formula>, Memory>
     Ok(copies)
 }
 
-// Whether each of these is met by the cycle.
+// Whether the cycle meets each of these parts.
 #[cycle(formula_met)]
 fn all_met(parts: &[Formula], cycle: &[Marks]) -> bool
     requires { 0 < length cycle.now }
@@ -199,7 +200,7 @@ fn all_met(parts: &[Formula], cycle: &[Marks]) -> bool
     true
 }
 
-// Whether one of these is met by the cycle.
+// Whether the cycle meets one of these parts.
 #[cycle(formula_met)]
 fn some_met(parts: &[Formula], cycle: &[Marks]) -> bool
     requires { 0 < length cycle.now }

@@ -120,7 +120,7 @@ impl Label {
     }
 }
 
-// Whether every proposition of these is below the number.
+// Whether every proposition of these parts is below the number.
 #[cycle(label_below)]
 fn all_below(parts: &[Label], names: usize) -> bool
     ensures { IsTrue result ↔ EachBelow names (trees (map label_tree parts.now)) }
@@ -188,7 +188,7 @@ impl Labels {
     }
 }
 
-// Copies of these, in order.
+// Copies of these parts, in order.
 #[cycle(label_copy)]
 fn copy_all(alloc: Global, parts: &[Label]) -> Result<Vec<Label>, Memory>
     ensures { IfOk result (λ new. map label_tree new.items ≡ map label_tree parts.now) }
@@ -201,7 +201,7 @@ fn copy_all(alloc: Global, parts: &[Label]) -> Result<Vec<Label>, Memory>
     Ok(copies)
 }
 
-// Whether each of these is true.
+// Whether each of these parts is true.
 #[cycle(label_truth)]
 fn all_true(parts: &[Label], on: &[bool]) -> bool
     requires { EachBelow (length on.now) (trees (map label_tree parts.now)) }
@@ -215,7 +215,7 @@ fn all_true(parts: &[Label], on: &[bool]) -> bool
     true
 }
 
-// Whether one of these is true.
+// Whether one of these parts is true.
 #[cycle(label_truth)]
 fn some_true(parts: &[Label], on: &[bool]) -> bool
     requires { EachBelow (length on.now) (trees (map label_tree parts.now)) }
@@ -229,7 +229,7 @@ fn some_true(parts: &[Label], on: &[bool]) -> bool
     false
 }
 
-// Whether each of these holds of the letter.
+// Whether each of these parts holds of the letter.
 #[cycle(label_holds)]
 fn all_hold(parts: &[Label], names: &Names, letter: &Letter) -> bool
     requires { EachBelow (length names.now) (trees (map label_tree parts.now)) }
@@ -243,7 +243,7 @@ fn all_hold(parts: &[Label], names: &Names, letter: &Letter) -> bool
     true
 }
 
-// Whether one of these holds of the letter.
+// Whether one of these parts holds of the letter.
 #[cycle(label_holds)]
 fn some_hold(parts: &[Label], names: &Names, letter: &Letter) -> bool
     requires { EachBelow (length names.now) (trees (map label_tree parts.now)) }

@@ -1,4 +1,4 @@
-//! What holds of acceptance and of canonical labels, and small automata and labels that show what they mean.
+//! Laws of acceptance and of canonical labels, and examples of small automata and labels.
 
 ghost use Rattle.aut_base.specs.Acceptance.{SameWordSameVerdict};
 ghost use Rattle.aut_base.specs.Automaton.{Automaton};

@@ -43,7 +43,7 @@ pub record AreSymbolicParts (c : SymbolicAutomaton) : Type 0 where
   pub links : All (IsLinkOf c) c.links
   pub formula : SetsBelow c.sets c.formula
 
--- What holds of each automaton. Its labels are canonical.
+-- The invariant of each automaton: its parts fit together, it is well formed, and its labels are canonical.
 pub record IsWellFormedSymbolic (c : SymbolicAutomaton) : Type 0 where
   pub parts : AreSymbolicParts c
   pub well_formed : IsWellFormed (automaton_of c)

@@ -1,6 +1,5 @@
-//! Input and output: sources of texts and sinks of bytes. Whenever a call fails, a count of failures rises, so that a contract can
-//! say that a program reports a failure only where one occurred. Calls of `open` are counted too, so that a contract can say how many
-//! there were.
+//! Input and output: sources of texts and sinks of bytes. Failed calls are counted, so that a contract can say that a program reports
+//! a failure only where one occurred. Calls of `open` are counted too, so that a contract can say how many there were.
 //!
 //! A caller sees the traits `Inputs` and `Sink`, and sources and sinks in memory. What calls of the traits do is defined in
 //! `specs/Seen`, and the states of those in memory in `specs/InMemory`.

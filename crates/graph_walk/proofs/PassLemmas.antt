@@ -32,7 +32,7 @@ same_frame : (f : Frame) (n : ℕ) → f.place ≡ n → f.low ≡ n → record 
 same_frame f n place low =
     ap (λ (k : ℕ). let g : Frame = record { place = k; low = n; next = f.next } in g) (sym place) ∙ ap (λ (k : ℕ). let g : Frame = record { place = f.place; low = k; next = f.next } in g) (sym low)
 
--- the same, said of lists that are equal
+-- the same, for equal lists
 hold_same : (arcs : List (ℕ × ℕ)) (marks marks' : List Mark) (order order' : List ℕ) (n n' : ℕ) (f : Frame) (fs fs' : List Frame) → marks' ≡ marks → order' ≡ order → n' ≡ n → fs' ≡ fs
     → Hold arcs order (IsClosed marks) n (f ∷ fs) → Hold arcs order' (IsClosed marks') n' (f ∷ fs')
 hold_same arcs marks marks' order order' n n' f fs fs' em eo en ef h =

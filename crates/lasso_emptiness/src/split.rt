@@ -1,4 +1,4 @@
-//! Components divided by a `Fin`: the edges that meet it, and the components with an edge that violates it.
+//! Components divided by a `Fin`: the edges that don't violate it, and the components with an edge that does.
 
 ghost use Rattle.std.specs.Prelude.{◌≡◌, ◌<◌, ℕ, List, All, IfOk, OnOk, length};
 ghost use Rattle.lasso_emptiness.specs.declared.live.EdgeRef.{EdgeRef};

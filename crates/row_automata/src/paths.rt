@@ -258,8 +258,8 @@ impl Node {
         }
     }
 
-    /// Whether a cycle with this union and intersection of marks meets the condition: it does exactly where a cycle of two edges does that
-    /// have these two as marks.
+    /// Whether a cycle with this union and intersection of marks meets the condition: it does exactly where a cycle of two edges with
+    /// these two as their marks does.
     fn meets(self, alloc: Global, formula: &Formula) -> Result<bool, Memory> {
         let edges = [marks(alloc, self.some)?, marks(alloc, self.each)?];
         Ok(formula.met_by(&edges))

@@ -1,4 +1,4 @@
--- How a pattern is written as tokens:
+-- The grammar of patterns, over tokens:
 --
 --     word        = (letter ";")* "cycle" "{" (letter ";")* letter "}"
 --     letter      = (conjunction "|")* conjunction

@@ -51,7 +51,7 @@ IsBadAt text k = ((2 ^ 32 ≤ length text) × (k ≡ 0)) ⊎ ((length text < 2 ^
 abbrev pub WritesNothing : List ℕ → Type 0
 WritesNothing text = (p : WordPattern) → WritesWord text p → ⊥
 
--- What each answer to a text says of it.
+-- The answer to a text is right.
 abbrev pub AnswersWord : Result Pattern WordFault → List ℕ → Type 0
 AnswersWord (Ok p) text = WritesWord text (word_pattern p)
 AnswersWord (Err (BadWord k)) text = IsBadAt text k × WritesNothing text

@@ -62,7 +62,7 @@ swapped xs ys es parts f =
     ∙ (met_alike (marks_of ys ++ marks_of xs) (marks_of xs ++ marks_of ys) (swapped_alike (marks_of xs) (marks_of ys)) f
     ∙ ap (λ cs. met cs f) (sym (map-append (λ (e : LabelledEdge). e.marks) xs ys) ∙ ap marks_of (sym parts)))
 
--- the cycle is read once more before the run closes
+-- the run closes one turn of the cycle later
 one_turn : (a : Automaton) (u v : List NameSet) (stem_rounds cycle_rounds : ℕ) (r : LassoRun a u v stem_rounds cycle_rounds) → 0 < cycle_rounds → Likewise a u v (suc stem_rounds) cycle_rounds r.cycle
 one_turn a u v stem_rounds zero r some = absurd (omega arith)
 one_turn a u v stem_rounds (suc k) r some =

@@ -1,5 +1,5 @@
--- A condition is larger than its parts, so a recursion over them ends. Where one function goes down a condition and
--- another over the parts of a conjunction or disjunction, measures that serve are 2 * formula_size (formula_tree f) for
+-- A condition is larger than its parts, so a recursion over them ends. For two mutually recursive functions, one over conditions and
+-- one over the parts of a conjunction or disjunction, the measures are 2 * formula_size (formula_tree f) for
 -- the first and 2 * formulas_size (trees (formula_list fs)) + 1 for the second.
 use Rattle.std.proofs.Common.{◌≡◌, ℕ, zero, suc, ◌+◌, ◌≤◌, List, [], ◌∷◌, Some, slice_get, ap, arith}
 use Rattle.std.proofs.lemmas.Option.{same_Some, none-some}

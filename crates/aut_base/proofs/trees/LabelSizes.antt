@@ -1,5 +1,5 @@
--- A label is larger than its parts, so a recursion over them ends. Where one function goes down a label and another
--- over the parts of a conjunction or disjunction, measures that serve are 2 * label_size (label_tree l) for the first
+-- A label is larger than its parts, so a recursion over them ends. For two mutually recursive functions, one over labels and one
+-- over the parts of a conjunction or disjunction, the measures are 2 * label_size (label_tree l) for the first
 -- and 2 * labels_size (trees (label_list ls)) + 1 for the second.
 use Rattle.std.proofs.Common.{◌≡◌, ℕ, zero, suc, ◌≤◌, List, [], ◌∷◌, Some, slice_get, ap, arith}
 use Rattle.std.proofs.lemmas.Option.{same_Some, none-some}

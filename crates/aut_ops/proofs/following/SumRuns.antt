@@ -59,7 +59,7 @@ module _ (a b : Automaton) (names : b.names ≡ a.names) (first : IsWellFormed a
       let rest = none_fresh cs (All-tail (λ marks. All (λ m. m < a.sets) marks) c cs within) in
       (and_from (not (is_in fresh c)) (list_all (λ marks. not (is_in fresh marks)) cs) (ap not here) rest.0, ap (λ t. t || list_any (is_in fresh) cs) here ∙ rest.1)
 
-  -- on a cycle of the first's edges the first's condition counts
+  -- on a cycle of the first's edges, the condition of the sum has the truth of the first's
   met_first : (cs : List (List ℕ)) → All (λ marks. All (λ m. m < a.sets) marks) cs → met cs both.formula ≡ met cs a.formula
   met_first cs within =
       let none = none_fresh cs within in
@@ -97,7 +97,7 @@ module _ (a b : Automaton) (names : b.names ≡ a.names) (first : IsWellFormed a
       let here = moved_fresh c d zip.0 in
       (ap (λ t. not t && list_all (λ marks. not (is_in fresh marks)) cs) here, ap (λ t. t || list_any (is_in fresh) cs) here)
 
-  -- on a cycle of moved edges the second's condition counts
+  -- on a cycle of moved edges, the condition of the sum has the truth of the second's
   met_second : (cs ds : List (List ℕ)) → 0 < length cs → AllZip Moved cs ds → met cs both.formula ≡ met ds b.formula
   met_second cs ds some zip =
       let fresh_there = some_fresh cs ds some zip in
@@ -108,7 +108,7 @@ module _ (a b : Automaton) (names : b.names ≡ a.names) (first : IsWellFormed a
       ∙ (ap (λ t. met cs (shift a.sets b.formula) && t) fresh_there.1
       ∙ (and-true (met cs (shift a.sets b.formula)) ∙ met_raised a.sets b.sets cs ds (zip_agrees cs ds zip) b.formula second.formula))))
 
-  -- each of the two and the sum follow each other
+  -- the sum simulates each of the two automata, and each of the two the sum, on its own states
 
   first_in_sum : Simulates a both (λ p q. p ≡ q) (λ c d. d ≡ c)
   first_in_sum = record {

@@ -60,7 +60,7 @@ accepting_tour links edges needed cycle f are tour = record {
 -- The groups that are left open, while no other has an accepting path, divided by a `Fin`.
 module _ (links : List Link) (set : ℕ) (neg : Bool) (f : FormulaTree) (groups left crossed : List (List EdgeRef)) (off : List EdgeRef) (are : AreLeft links groups f left)
     (split : AreGroupsSplit links set neg left off crossed) where
-  -- a component of edges that meet the `Fin`, accepting with the `Fin` taken as true, is accepting
+  -- a component of edges that don't violate the `Fin`, accepting with the `Fin` taken as true, is accepting
   pub found_off : (group : List EdgeRef) → IsAcceptingComponent links (Contains off) (substituted set neg true f) group → IsAcceptingComponent links (InSome groups) f group
   found_off group carrier = record {
     some = carrier.some;

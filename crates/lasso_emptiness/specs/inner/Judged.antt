@@ -48,13 +48,13 @@ IsJudged cycle f Met = met cycle f ≡ true
 IsJudged cycle f Never = IsNever cycle f
 IsJudged cycle f (Open side) = (has_side side.set side.neg f ≡ true) × (met cycle f ≡ false)
 
--- the same of a conjunction of these
+-- the verdict on a conjunction of these
 abbrev pub AreAllJudged : List (List ℕ) → List FormulaTree → Verdict → Type 0
 AreAllJudged cycle fs Met = list_all (met cycle) fs ≡ true
 AreAllJudged cycle fs Never = (some : List (List ℕ)) → All (Contains cycle) some → list_all (met some) fs ≡ false
 AreAllJudged cycle fs (Open side) = (list_any (has_side side.set side.neg) fs ≡ true) × (list_all (met cycle) fs ≡ false)
 
--- the same of a disjunction of these
+-- the verdict on a disjunction of these
 abbrev pub IsOneJudged : List (List ℕ) → List FormulaTree → Verdict → Type 0
 IsOneJudged cycle fs Met = list_any (met cycle) fs ≡ true
 IsOneJudged cycle fs Never = (some : List (List ℕ)) → All (Contains cycle) some → list_any (met some) fs ≡ false

@@ -20,7 +20,7 @@ pub record IsPassable (c : SymbolicAutomaton) (e : EdgeRef) : Type 0 where
   pub at : IsEdgeAt c e link
   pub some : IsNeverMet c.store link.guard → ⊥
 
--- these are all such edges
+-- these are exactly such edges
 pub record ArePassable (c : SymbolicAutomaton) (edges : List EdgeRef) : Type 0 where
   pub each : (e : EdgeRef) → Contains edges e → IsPassable c e
   pub whole : (e : EdgeRef) → IsPassable c e → Contains edges e

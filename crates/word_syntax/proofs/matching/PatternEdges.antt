@@ -141,7 +141,7 @@ made_automaton names names' starts states edges f stem cycle a b c d e =
       formula = x;
     }) e)))
 
--- what accepts the same, accepts the same together with another automaton
+-- automata that accept the same words have the same common words with another automaton
 pub together : (p : WordPattern) (a c b : Automaton) → 0 < length p.cycle → AcceptTheSame a c → c ≡ word_automaton p → AcceptTogether a b ↔ AcceptsPattern p b
 together p a c b some same is =
     let P : Automaton → Type 0 = λ x. AcceptTheSame a x in

@@ -36,7 +36,7 @@ pub record IsThrough (text : List ℕ) (r : WordReader) : Type 0 where
   pub read : HasReadTokens tokens (word_state r)
   pub few_letters : length r.stem + length r.cycle ≤ length text
 
--- What each answer to a text's tokens says of it.
+-- The answer of the loop over a text's tokens is right.
 abbrev pub StopsOrGoes : List ℕ → Result WordReader WordFault → Type 0
 StopsOrGoes text (Ok r) = IsThrough text r
 StopsOrGoes text (Err (BadWord k)) = IsStoppedAt text k
