@@ -1,5 +1,5 @@
 -- Valuations by their numbers, where labels are implicit (HOA v1, implicit labels).
-use Rattle.std.specs.Prelude.{ℕ, zero, suc, ◌-◌, ◌/◌, ◌%◌, ◌^◌, ◌==◌, Bool, true, ◌&&◌}
+use Rattle.std.specs.Prelude.{ℕ, zero, suc, ◌-◌, ◌/◌, ◌%◌, ◌^◌, ◌==◌, Bool, true, not, ◌&&◌, ◌||◌}
 use Rattle.std.specs.Bool.{beq}
 
 -- bit k of the number
@@ -15,3 +15,12 @@ is_at number (suc n) on = is_at number n on && beq (on n) (is_set number n)
 abbrev pub last_at : ℕ → ℕ → ℕ → (ℕ → Bool) → Bool
 last_at number n zero on = true
 last_at number n (suc count) on = beq (on (n - suc count)) (is_set number (n - suc count)) && last_at number n count on
+
+-- whether proposition k is as its bit of `values` says, where its bit of `names` asks for it
+abbrev pub is_as_asked : ℕ → ℕ → ℕ → (ℕ → Bool) → Bool
+is_as_asked names values k on = not (is_set names k) || beq (on k) (is_set values k)
+
+-- whether each of the first n propositions is as it is asked for
+abbrev pub is_in_cube : ℕ → ℕ → ℕ → (ℕ → Bool) → Bool
+is_in_cube names values zero on = true
+is_in_cube names values (suc n) on = is_in_cube names values n on && is_as_asked names values n on

@@ -133,6 +133,7 @@ impl Guards {
         requires later { prop < level self.old place }
         ensures grows { Grows self.old self.new }
         ensures has { IfOk result (HasPlace self.new) }
+        ensures later { IfOk result (λ made. prop ≤ level self.new made) }
         ensures truth { IfOk result (λ made. (on : ℕ → Bool) → outcome self.new.nodes on made ≡ (beq (on prop) holds && outcome self.old.nodes on place)) }
     {
         self.reduced();
@@ -161,7 +162,7 @@ fn differing(a: u64, b: u64, most: u32) -> u32
 }
 
 /// Whether the bit of this place is set.
-fn is_set(number: u64, place: u32) -> bool
+pub(crate) fn is_set(number: u64, place: u32) -> bool
     requires { place < MOST_NAMES }
     ensures { result ≡ is_set number place }
 {

@@ -4,6 +4,7 @@
 mod boolean;
 mod bring;
 mod classes;
+mod conjunctions;
 mod cubes;
 mod draft;
 mod fix;
