@@ -231,7 +231,7 @@ pub one_way : (w : Written) → AreImplicit (width w) (state_count w) w.states �
 one_way w are =
     let each : (q : ℕ) → q < state_count w → GoesOneWayFrom w q = λ q l. one_state w q are l in
     record {
-      apart = pairs_map (λ (d e : LabelledEdge). d.from ≡ e.from → AreApart (written_names w) d e) (settled (width w)) (edges_of w) (below_apart w (state_count w) each);
+      disjoint = pairs_map (λ (d e : LabelledEdge). d.from ≡ e.from → AreApart (written_names w) d e) (settled (width w)) (edges_of w) (below_apart w (state_count w) each);
       on = λ q l letter.
           let met = below_met w (state_count w) q letter each l ((each q l).met letter) in
           record { edge = settled (width w) met.edge; is_edge = settled_there (width w) (edges_of w) met.edge met.there; from = met.from; meets = met.meets };
