@@ -17,6 +17,7 @@ fn show_label(alloc: Global, line: &mut Text, label: &RawLabel) -> Result<(), Me
             line.push(b'!')?;
             show_number(alloc, line, u64::from(*place))
         }
+        RawLabel::Cube { names, values } => show_cube(alloc, line, *names, *values),
         RawLabel::Alias(name) => {
             line.push(b'@')?;
             line.extend(name.as_bytes())
@@ -28,6 +29,21 @@ fn show_label(alloc: Global, line: &mut Text, label: &RawLabel) -> Result<(), Me
         RawLabel::And(parts) => show_labels(alloc, line, b"(&", parts),
         RawLabel::Or(parts) => show_labels(alloc, line, b"(|", parts),
     }
+}
+
+/// Adds a conjunction of literals that are given by their bits.
+fn show_cube(alloc: Global, line: &mut Text, names: u32, values: u32) -> Result<(), Memory> {
+    line.extend(b"(&")?;
+    for place in 0..32_u32 {
+        if (names >> place) % 2 == 1 {
+            line.push(b' ')?;
+            if (values >> place) % 2 == 0 {
+                line.push(b'!')?;
+            }
+            show_number(alloc, line, u64::from(place))?;
+        }
+    }
+    line.push(b')')
 }
 
 /// Adds the parts of a label.

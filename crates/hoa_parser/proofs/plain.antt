@@ -1,3 +1,4 @@
+pub mod Cubes
 pub mod Edges
 pub mod Going
 pub mod Here

@@ -1,5 +1,5 @@
 -- What a `Raw` says, apart from how it lies in memory.
-use Rattle.std.specs.Prelude.{ℕ, List, [], ◌∷◌, map, Option}
+use Rattle.std.specs.Prelude.{ℕ, zero, suc, ◌/◌, ◌%◌, ◌^◌, ◌==◌, Bool, true, false, List, [], ◌∷◌, ◌++◌, map, Option}
 use Rattle.std.specs.Option.{option_map}
 use Rattle.aut_base.specs.Formula.{FormulaTree, formula_tree}
 use Rattle.hoa_parser.specs.declared.raw.Item.{Item}
@@ -31,6 +31,35 @@ abbrev pub raw_trees : List RawTree → RawTrees
 raw_trees [] = none
 raw_trees (t ∷ ts) = more t (raw_trees ts)
 
+-- bit k of a number
+abbrev pub has_bit : ℕ → ℕ → Bool
+has_bit number k = (number / (2 ^ k)) % 2 == 1
+
+-- a proposition that holds, or one that doesn't
+abbrev pub raw_literal : ℕ → Bool → RawTree
+raw_literal k true = Prop k
+raw_literal k false = Not (Prop k)
+
+-- that literal alone, if it is asked for
+abbrev pub maybe_literal : Bool → ℕ → Bool → List RawTree
+maybe_literal false k holds = []
+maybe_literal true k holds = raw_literal k holds ∷ []
+
+-- of the first n propositions those whose bits are set in `names`, each as its bit of `values` says
+abbrev pub cube_literals : ℕ → ℕ → ℕ → List RawTree
+cube_literals names values zero = []
+cube_literals names values (suc n) = cube_literals names values n ++ maybe_literal (has_bit names n) n (has_bit values n)
+
+-- of all that have bits
+unfoldable pub all_literals : ℕ → ℕ → List RawTree
+all_literals names values = cube_literals names values 32
+
+-- the conjunction of a list
+abbrev pub raw_all : List RawTree → RawTree
+raw_all [] = True
+raw_all (t ∷ []) = t
+raw_all (t ∷ u ∷ us) = And t u (raw_trees us)
+
 -- the parts of a conjunction or disjunction
 pub record RawParts : Type 0 where
   pub first : RawTree
@@ -43,6 +72,7 @@ raw_step RawLabel-F.True = True
 raw_step RawLabel-F.False = False
 raw_step (RawLabel-F.Prop i) = Prop i
 raw_step (RawLabel-F.Negated i) = Not (Prop i)
+raw_step (RawLabel-F.Cube names values) = raw_all (all_literals names values)
 raw_step (RawLabel-F.Alias name) = Alias name.value
 raw_step (RawLabel-F.Not t) = Not t.value
 raw_step (RawLabel-F.And p) = And p.value.first p.value.second (raw_trees p.value.others)

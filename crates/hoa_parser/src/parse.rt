@@ -11,6 +11,7 @@ ghost use Rattle.hoa_parser.specs.inner.RuleReads.{IsAutomaton};
 
 mod body;
 mod condition;
+mod cube;
 mod item;
 mod label;
 mod lists;

@@ -18,6 +18,9 @@ pub enum RawLabel {
     Prop(u32),
     /// A proposition behind `!`: most negations are of one, and this takes no box.
     Negated(u32),
+    /// A conjunction of two or more literals whose propositions rise and have bits: those whose bits are set in `names`, each
+    /// negated where its bit isn't set in `values`. Most conjunctions are so, and this takes no box.
+    Cube { names: u32, values: u32 },
     /// Its name lies in memory of its own, so that a label without aliases is small.
     Alias(Box<Name>),
     Not(Box<RawLabel>),

@@ -1,5 +1,7 @@
 -- Labels, aliases, states and marks, one after the other.
 pub mod AliasNames
+pub mod CubeLabels
+pub mod CubeShapes
 pub mod ExpandedLabels
 pub mod LetterTruth
 pub mod LettersApart

@@ -1,5 +1,6 @@
 -- Definitions that only inner functions speak in.
 pub mod Built
+pub mod Cubes
 pub mod Examined
 pub mod Gathered
 pub mod Growing

@@ -12,6 +12,7 @@ mod aliases;
 mod body;
 mod broken;
 mod counts;
+mod cube;
 mod edges;
 mod examined;
 mod frame;

@@ -2,10 +2,10 @@
 use Rattle.std.proofs.Common.{◌≡◌, ℕ, ◌∙◌, sym, ap, map, List, ◌∷◌}
 use Rattle.std.specs.Global.{Global}
 use Rattle.std.specs.declared.boxed.Box.{Box}
-use Rattle.hoa_parser.specs.Raw.{RawTree, RawParts, raw_step, raw_tree, raw_parts, raw_list, raw_trees}
+use Rattle.hoa_parser.specs.Raw.{RawTree, RawParts, all_literals, raw_all, raw_step, raw_tree, raw_parts, raw_list, raw_trees}
 use Rattle.hoa_parser.specs.declared.raw.RawLabel.{RawLabel}
-use Rattle.hoa_parser.specs.declared.raw.RawLabel.TheVariants.{True, False, Prop, Negated, Alias, Not, And, Or, rolls-True, rolls-False, rolls-Prop}
-use Rattle.hoa_parser.specs.declared.raw.RawLabel.TheVariants.{rolls-Negated, rolls-Alias, rolls-Not, rolls-And, rolls-Or}
+use Rattle.hoa_parser.specs.declared.raw.RawLabel.TheVariants.{True, False, Prop, Negated, Cube, Alias, Not, And, Or, rolls-True, rolls-False, rolls-Prop}
+use Rattle.hoa_parser.specs.declared.raw.RawLabel.TheVariants.{rolls-Negated, rolls-Cube, rolls-Alias, rolls-Not, rolls-And, rolls-Or}
 use Rattle.hoa_parser.specs.declared.raw.RawLabel.TheOpen.{RawLabel-F, RawLabels-F}
 use Rattle.hoa_parser.specs.declared.raw.RawLabel.TheFolds.{fold-roll-RawLabel, fold_out-RawLabels}
 use Rattle.hoa_parser.specs.declared.raw.RawLabels.{RawLabels}
@@ -25,6 +25,9 @@ raw_tree-Prop i = ap raw_tree (sym (rolls-Prop i)) ∙ fold-roll-RawLabel RawTre
 
 pub raw_tree-Negated : (i : ℕ) → raw_tree (Negated i) ≡ RawTree.Not (RawTree.Prop i)
 raw_tree-Negated i = ap raw_tree (sym (rolls-Negated i)) ∙ fold-roll-RawLabel RawTree RawParts raw_step parts_step (RawLabel-F.Negated i)
+
+pub raw_tree-Cube : (names values : ℕ) → raw_tree (Cube names values) ≡ raw_all (all_literals names values)
+raw_tree-Cube names values = ap raw_tree (sym (rolls-Cube names values)) ∙ fold-roll-RawLabel RawTree RawParts raw_step parts_step (RawLabel-F.Cube names values)
 
 pub raw_tree-Alias : (name : Box (List ℕ) Global) → raw_tree (Alias name) ≡ RawTree.Alias name.value
 raw_tree-Alias name = ap raw_tree (sym (rolls-Alias name)) ∙ fold-roll-RawLabel RawTree RawParts raw_step parts_step (RawLabel-F.Alias name)
@@ -54,4 +57,4 @@ pub raw_tree-Or-fields : (p : Box RawLabels Global) → raw_tree (Or p) ≡ RawT
 raw_tree-Or-fields p = raw_tree-Or p ∙ ap (λ parts. RawTree.Or parts.first parts.second (raw_trees parts.others)) (raw_parts-fields p.value)
 
 -- All of them under one name, for tactics.
-pub ruleset raw_tree_rules = (raw_tree-True, raw_tree-False, raw_tree-Prop, raw_tree-Negated, raw_tree-Alias, raw_tree-Not, raw_tree-And-fields, raw_tree-Or-fields)
+pub ruleset raw_tree_rules = (raw_tree-True, raw_tree-False, raw_tree-Prop, raw_tree-Negated, raw_tree-Cube, raw_tree-Alias, raw_tree-Not, raw_tree-And-fields, raw_tree-Or-fields)

@@ -13,12 +13,12 @@ use Rattle.hoa_parser.specs.Grammar.{Label, Lands, Lnot, Lnots, LabelWithin, Lan
 use Rattle.hoa_parser.specs.Grammar.{lands_meaning, lands_tokens, lnot_meaning, lnot_tokens, lnots_meaning, lnots_tokens, negated, no_land, no_lnot, or_land, proposition, true_label}
 use Rattle.hoa_parser.specs.inner.RuleReads.{LandPhrase, LandWithin, land_meaning, land_tokens}
 use Rattle.hoa_parser.specs.Raw as raw
-use Rattle.hoa_parser.specs.Raw.{RawTree, raw_list, raw_parts, raw_tree, raw_trees}
+use Rattle.hoa_parser.specs.Raw.{RawTree, all_literals, raw_all, raw_list, raw_parts, raw_tree, raw_trees}
 use Rattle.hoa_parser.specs.Standing.{most_depth}
 use Rattle.hoa_parser.specs.declared.raw.RawLabel.{RawLabel}
 use Rattle.hoa_parser.specs.declared.raw.RawLabels.{RawLabels}
 use Rattle.hoa_parser.specs.inner.AtHand.{AreFactors, AreLiterals, AreMoreFactors, AreMoreLiterals, IsConjunctionText, IsFactor, IsGrouped, IsLabel, IsLiteral, IsIntText, IsSigned, Spelled}
-use Rattle.hoa_parser.specs.inner.AtHand.{factors_meaning, literals_meaning}
+use Rattle.hoa_parser.specs.inner.AtHand.{AreLiteralsBehind, IsLiteralOf, ShallowLnots, factors_meaning, literals_meaning}
 use Rattle.hoa_parser.proofs.plain.Passing.{spelled_then}
 use Rattle.hoa_parser.proofs.plain.Signs.{same_tokens, sign_alone, sign_then, spelled_length}
 
@@ -264,3 +264,53 @@ literal_length l x y s = spelled_length (lnot_tokens s.phrase) x y s.spelled
 
 pub factor_length : (l : RawLabel) (x y : List ℕ) → IsFactor l x y → length y ≤ length x
 factor_length l x y s = spelled_length (land_tokens s.phrase) x y s.spelled
+
+-- the literals of a cube, which are some and those that are written behind them
+pub record Cubed (before : List RawTree) (names values : ℕ) (x y : List ℕ) : Type 0 where
+  pub phrase : Lnots
+  pub within : ShallowLnots phrase
+  pub spelled : Spelled x (lnots_tokens phrase) y
+  pub list : all_literals names values ≡ before ++ lnots_meaning phrase
+
+pub cube_none : (before : List RawTree) (names values : ℕ) (x : List ℕ) → before ≡ all_literals names values → Cubed before names values x x
+cube_none before names values x is = record { phrase = no_lnot; within = λ d m. tt; spelled = skips_none x; list = sym is ∙ sym (append-nil before) }
+
+pub cube_push : (before : List RawTree) (n v m w : ℕ) (t : RawTree) (x y z u : List ℕ) → all_literals m w ≡ all_literals n v ++ t ∷ [] → Cubed before n v x y
+    → IsSigned 38 y z → IsLiteralOf t z u → Cubed before m w x u
+cube_push before n v m w t x y z u is s sign k = record {
+  phrase = lnots_and s.phrase k.phrase;
+  within = λ d m. lnots_and_within d s.phrase k.phrase (s.within d m) (k.within d m);
+  spelled = same_tokens (lnots_tokens s.phrase ++ (token.Amp ∷ lnot_tokens k.phrase)) (lnots_tokens (lnots_and s.phrase k.phrase)) x u (lnots_and_tokens s.phrase k.phrase)
+      (spelled_then (lnots_tokens s.phrase) (token.Amp ∷ lnot_tokens k.phrase) x y u s.spelled (sign_then token.Amp 38 (lnot_tokens k.phrase) y z u refl sign k.spelled));
+  list = is ∙ (ap (λ ts. ts ++ t ∷ []) s.list ∙ (append_assoc before (lnots_meaning s.phrase) (t ∷ [])
+      ∙ ap (λ ts. before ++ ts) (ap (λ a. lnots_meaning s.phrase ++ a ∷ []) k.means ∙ lnots_and_meaning s.phrase k.phrase)));
+}
+
+pub cube_whole : (before : List RawTree) (n v : ℕ) (l : RawLabel) (x y : List ℕ) → raw_tree l ≡ raw_all (all_literals n v) → Cubed before n v x y → AreLiteralsBehind before l x y
+cube_whole before n v l x y is s = record { phrase = s.phrase; within = s.within; spelled = s.spelled; means = is ∙ ap raw_all s.list }
+
+-- a first literal, a second one, and those behind them
+pub cube_more : (first one two : RawTree) (none ones twos : List RawTree) (l : RawLabel) (x y z : List ℕ) → first ≡ one → none ≡ [] → ones ≡ none ++ one ∷ [] → twos ≡ ones ++ two ∷ []
+    → IsLiteralOf two x y → AreLiteralsBehind twos l y z → AreMoreLiterals first l x z
+cube_more first one two none ones twos l x y z is zero_of one_of two_of k s = record {
+  phrase = record { first = k.phrase; others = s.phrase };
+  within = λ d m. (k.within d m, s.within d m);
+  spelled = spelled_then (lnot_tokens k.phrase) (lnots_tokens s.phrase) x y z k.spelled s.spelled;
+  means = s.means ∙ (ap (λ ts. raw_all (ts ++ lnots_meaning s.phrase)) (two_of ∙ ap (λ ts. ts ++ two ∷ []) (one_of ∙ ap (λ ts. ts ++ one ∷ []) zero_of))
+      ∙ (ap (λ t. raw_all (t ∷ two ∷ lnots_meaning s.phrase)) (sym is) ∙ ap (λ t. raw_all (first ∷ t ∷ lnots_meaning s.phrase)) k.means));
+}
+
+-- a literal by its proposition
+pub number_literal : (n : ℕ) (x y : List ℕ) → IsIntText n x y → IsLiteralOf (raw.Prop n) x y
+number_literal n x y s = record { phrase = proposition n; within = λ d m. tt; spelled = s; means = refl }
+
+pub negated_literal : (n : ℕ) (x y z : List ℕ) → IsSigned 33 x y → IsIntText n y z → IsLiteralOf (raw.Not (raw.Prop n)) x z
+negated_literal n x y z sign s = record {
+  phrase = negated (proposition n);
+  within = λ d m. (m, tt);
+  spelled = sign_then token.Bang 33 (token.Int n ∷ []) x y z refl sign s;
+  means = refl;
+}
+
+pub literal_of_length : (t : RawTree) (x y : List ℕ) → IsLiteralOf t x y → length y ≤ length x
+literal_of_length t x y s = spelled_length (lnot_tokens s.phrase) x y s.spelled

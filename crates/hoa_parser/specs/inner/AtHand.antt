@@ -4,13 +4,13 @@ use Rattle.hoa_lexer.specs.Text.{IsFront}
 use Rattle.hoa_lexer.specs.inner.Steps.{PassesBlanks}
 use Rattle.hoa_lexer.specs.declared.token.Token.{Token}
 use Rattle.hoa_lexer.specs.declared.token.Token.TheVariants as token
-use Rattle.hoa_parser.specs.Grammar.{Label, Lnot, LabelWithin, LnotWithin, raw_conjunction, disjunction, edge_meaning, label, label_meaning, label_tokens}
-use Rattle.hoa_parser.specs.Grammar.{lands_meaning, lnot_meaning, lnot_tokens, lnots_meaning, marks_meaning, optional_marks}
+use Rattle.hoa_parser.specs.Grammar.{Label, Lnot, Lnots, LabelWithin, LnotWithin, LnotsWithin, raw_conjunction, disjunction, edge_meaning, label, label_meaning, label_tokens}
+use Rattle.hoa_parser.specs.Grammar.{lands_meaning, lnot_meaning, lnot_tokens, lnots_meaning, lnots_tokens, marks_meaning, optional_marks}
 use Rattle.hoa_parser.specs.declared.parse.body.StateHead.{StateHead}
 use Rattle.hoa_parser.specs.declared.parse.plain.Next.{Next}
 use Rattle.hoa_parser.specs.declared.parse.plain.Next.TheVariants as next
 use Rattle.hoa_parser.specs.inner.RuleReads.{LandPhrase, LandWithin, head_meaning, land_meaning, land_tokens, written_head}
-use Rattle.hoa_parser.specs.Raw.{RawTree, raw_tree, written_edge}
+use Rattle.hoa_parser.specs.Raw.{RawTree, raw_all, raw_tree, written_edge}
 use Rattle.hoa_parser.specs.Standing.{most_depth}
 use Rattle.hoa_parser.specs.declared.raw.RawEdge.{RawEdge}
 use Rattle.hoa_parser.specs.declared.raw.RawLabel.{RawLabel}
@@ -44,9 +44,19 @@ Shallow f = Anywhere (λ d. LnotWithin most_depth d f)
 abbrev pub ShallowLand : LandPhrase → Type 0
 ShallowLand p = Anywhere (λ d. LandWithin d p)
 
+abbrev pub ShallowLnots : Lnots → Type 0
+ShallowLnots fs = Anywhere (λ d. LnotsWithin most_depth d fs)
+
 -- "t" | "f" | "!"? INT
+abbrev pub IsLiteralOf : RawTree → List ℕ → List ℕ → Type 0
+IsLiteralOf = IsSpelled Shallow lnot_tokens lnot_meaning
+
 abbrev pub IsLiteral : RawLabel → List ℕ → List ℕ → Type 0
-IsLiteral l = IsSpelled Shallow lnot_tokens lnot_meaning (raw_tree l)
+IsLiteral l = IsLiteralOf (raw_tree l)
+
+-- ("&" literal)*, behind these parts
+abbrev pub AreLiteralsBehind : List RawTree → RawLabel → List ℕ → List ℕ → Type 0
+AreLiteralsBehind before l = IsSpelled ShallowLnots lnots_tokens (λ fs. raw_all (before ++ lnots_meaning fs)) (raw_tree l)
 
 -- literal ("&" literal)*, as parts, behind a first part, as a label of its own, and before ")"
 abbrev pub literals_meaning : LandPhrase → List RawTree

@@ -1,16 +1,17 @@
 //! Edges, and states up to their edges, that are at hand as a whole: read from a slice, with no tokens in between.
 
-ghost use Rattle.std.specs.Prelude.{◌≡◌, ◌-◌, ◌<◌, ◌∷◌, ◌++◌, ℕ, List, [], true, codes, length, MatchOption};
+ghost use Rattle.std.specs.Prelude.{◌≡◌, ◌-◌, ◌<◌, ◌≤◌, ◌∷◌, ◌++◌, ℕ, List, [], true, codes, length, MatchOption};
 ghost use Rattle.hoa_lexer.specs.Bytes as kinds;
 ghost use Rattle.hoa_lexer.specs.Spelling.{IsDelimited};
 ghost use Rattle.hoa_lexer.specs.Text.{IsFront};
 ghost use Rattle.hoa_lexer.specs.inner.Steps.{PassesBlanks};
 ghost use Rattle.hoa_lexer.specs.declared.token.Token.TheVariants as token;
-ghost use Rattle.hoa_parser.specs.Raw.{raw_tree};
-ghost use Rattle.hoa_parser.specs.inner.AtHand.{AreMarks, AreMaybeMarks, AreMoreFactors, AreMoreLiterals, IsConjunctionText, IsFactor, IsGrouped, IsLabel};
-ghost use Rattle.hoa_parser.specs.inner.AtHand.{IsLiteral, IsIntText, IsPlain, IsPlainHead, IsSigned, next_word};
+ghost use Rattle.hoa_parser.specs.Raw.{all_literals, raw_literal, raw_tree};
+ghost use Rattle.hoa_parser.specs.inner.AtHand.{AreLiteralsBehind, AreMarks, AreMaybeMarks, AreMoreFactors, AreMoreLiterals, IsConjunctionText, IsFactor, IsGrouped, IsLabel};
+ghost use Rattle.hoa_parser.specs.inner.AtHand.{IsLiteral, IsLiteralOf, IsIntText, IsPlain, IsPlainHead, IsSigned, next_word};
 
 use super::body::StateHead;
+use super::cube::{Cube, literal_of, no_literal, with_literal};
 use crate::{RawEdge, RawLabel, RawLabels};
 use aut_base::FewNumbers;
 use std::alloc::Global;
@@ -197,8 +198,69 @@ fn conjunction(alloc: Global, bytes: &[u8]) -> Option<(RawLabel, &[u8])>
 }
 
 /// literal ("&" literal)*, behind a first one and `&`.
-#[tactic(auto, using(crate::proofs::grammar::RawTrees::raw_tree_rules))]
+#[inline(always)]
 fn more_literals(alloc: Global, first: RawLabel, bytes: &[u8]) -> Option<(RawLabel, &[u8])>
+    ensures { MatchOption result (Unit {0}) (λ found. AreMoreLiterals (raw_tree first) found.0 bytes.now found.1.now) }
+{
+    match rising_literals(&first, bytes) {
+        Some(found) => Some(found),
+        None => listed_literals(alloc, first, bytes),
+    }
+}
+
+/// The same as a cube, if the propositions rise and have bits.
+fn rising_literals<'a>(first: &RawLabel, bytes: &'a [u8]) -> Option<(RawLabel, &'a [u8])>
+    ensures { MatchOption result (Unit {0}) (λ found. AreMoreLiterals (raw_tree first.now) found.0 bytes.now found.1.now) }
+{
+    let (place, holds) = literal_of(first)?;
+    let cube = with_literal(no_literal(), place, holds)?;
+    let (place, holds, left) = signed(bytes)?;
+    rising_behind(with_literal(cube, place, holds)?, left)
+}
+
+/// The same behind the literals of this cube.
+#[tactic(auto, using(crate::proofs::grammar::RawTrees::raw_tree_rules))]
+fn rising_behind(first: Cube, bytes: &[u8]) -> Option<(RawLabel, &[u8])>
+    requires { first.values ≤ first.names }
+    ensures { MatchOption result (Unit {0}) (λ found. AreLiteralsBehind (all_literals first.names first.values) found.0 bytes.now found.1.now) }
+{
+    let mut cube = first;
+    let mut left = bytes;
+    'literals: loop {
+        match behind_sign(b'&', left) {
+            Some(behind) => {
+                let (place, holds, rest) = signed(behind)?;
+                cube = with_literal(cube, place, holds)?;
+                left = rest;
+            }
+            None => {
+                let Cube { names, values } = cube;
+                return Some((RawLabel::Cube { names, values }, left));
+            }
+        }
+    }
+}
+
+/// "!"? INT: the proposition, whether it is to hold, and what stands behind it and blanks.
+#[inline(always)]
+fn signed(bytes: &[u8]) -> Option<(u32, bool, &[u8])>
+    ensures { MatchOption result (Unit {0}) (λ found. IsLiteralOf (raw_literal found.0 found.1) bytes.now found.2.now) }
+{
+    match behind_sign(b'!', bytes) {
+        Some(left) => {
+            let (place, rest) = next_number(left)?;
+            Some((place, false, rest))
+        }
+        None => {
+            let (place, rest) = next_number(bytes)?;
+            Some((place, true, rest))
+        }
+    }
+}
+
+/// The same as a list.
+#[tactic(auto, using(crate::proofs::grammar::RawTrees::raw_tree_rules))]
+fn listed_literals(alloc: Global, first: RawLabel, bytes: &[u8]) -> Option<(RawLabel, &[u8])>
     ensures { MatchOption result (Unit {0}) (λ found. AreMoreLiterals (raw_tree first) found.0 bytes.now found.1.now) }
 {
     let (second, rest) = literal(bytes)?;

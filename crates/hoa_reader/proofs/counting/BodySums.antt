@@ -131,7 +131,7 @@ one_passes : (i n : ℕ) → nat_lt i n ≡ nat_le (i + 1) n
 one_passes i n = grind (arith, nat_tests)
 
 mutual
-  props_tree : (n : ℕ) (t : RawTree) → props_below n t ≡ nat_le (props_after t) n
+  pub props_tree : (n : ℕ) (t : RawTree) → props_below n t ≡ nat_le (props_after t) n
   props_tree n raw.True = none_passes n
   props_tree n raw.False = none_passes n
   props_tree n (raw.Prop i) = one_passes i n

@@ -6,7 +6,7 @@ use Rattle.aut_base.specs.Label.{LabelTree, all_true, trees, truth}
 use Rattle.hoa_reader.specs.Described.{below, conjunction, letter_label, literal}
 use Rattle.label_guards.specs.Numbers.{is_at, is_set}
 
-with_nothing : (b : Bool) → (b && true) ≡ b
+pub with_nothing : (b : Bool) → (b && true) ≡ b
 with_nothing true = refl
 with_nothing false = refl
 
@@ -14,12 +14,12 @@ together : (a b c : Bool) → (a && (b && c)) ≡ ((a && b) && c)
 together true b c = refl
 together false b c = refl
 
-conjunction_truth : (on : ℕ → Bool) (ts : List LabelTree) → truth on (conjunction ts) ≡ all_true on (trees ts)
+pub conjunction_truth : (on : ℕ → Bool) (ts : List LabelTree) → truth on (conjunction ts) ≡ all_true on (trees ts)
 conjunction_truth on [] = refl
 conjunction_truth on (t ∷ []) = sym (with_nothing (truth on t))
 conjunction_truth on (t ∷ u ∷ ts) = refl
 
-all_true_push : (on : ℕ → Bool) (ts : List LabelTree) (t : LabelTree) → all_true on (trees (ts ++ t ∷ [])) ≡ (all_true on (trees ts) && truth on t)
+pub all_true_push : (on : ℕ → Bool) (ts : List LabelTree) (t : LabelTree) → all_true on (trees (ts ++ t ∷ [])) ≡ (all_true on (trees ts) && truth on t)
 all_true_push on [] t = with_nothing (truth on t)
 all_true_push on (u ∷ us) t = ap (λ b. truth on u && b) (all_true_push on us t) ∙ together (truth on u) (all_true on (trees us)) (truth on t)
 

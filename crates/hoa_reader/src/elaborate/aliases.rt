@@ -1,15 +1,16 @@
 //! What aliases stand for.
 
-ghost use Rattle.std.specs.Prelude.{◌≡◌, ◌+◌, max, List, map, true, is_some, slice_get, Some, IfOk};
+ghost use Rattle.std.specs.Prelude.{◌≡◌, ◌+◌, ℕ, max, List, map, true, is_some, slice_get, Some, IfOk};
 ghost use Rattle.std.specs.Option.{option_map};
 ghost use Rattle.hoa_reader.specs.Described.{Meaning, expanded};
 ghost use Rattle.hoa_reader.specs.inner.Growing.{AreAliasesKnown, IsKnownAs, alias_name, cap, capped_height, capped_heights, capped_size, capped_sizes, heights_in, meaning_names, meanings_by, sizes_in};
 ghost use Rattle.hoa_reader.specs.inner.PickedOut.{alias_def, are_defined};
 ghost use Rattle.hoa_reader.specs.inner.Places.{place_in};
-ghost use Rattle.hoa_parser.specs.Raw.{raw_tree, raw_trees};
+ghost use Rattle.hoa_parser.specs.Raw.{all_literals, raw_all, raw_tree, raw_trees};
 ghost use Rattle.hoa_reader.specs.declared.elaborate.parts.AliasDef.{AliasDef};
 ghost use Rattle.hoa_reader.specs.Validity.{aliases_among, leaves_pass};
 
+use crate::elaborate::cube::cube_shape;
 use crate::elaborate::parts::AliasDef;
 use crate::elaborate::places::Places;
 use aut_base::Memory;
@@ -46,6 +47,7 @@ pub(crate) fn growth_of<'a>(label: &'a RawLabel, known: &Places<'a, Known>) -> G
         RawLabel::False => Growth { height: 1, size: 1 },
         RawLabel::Prop(_) => Growth { height: 1, size: 1 },
         RawLabel::Negated(_) => one_more(Growth { height: 1, size: 1 }),
+        RawLabel::Cube { names, values } => cube_growth(*names, *values),
         RawLabel::Alias(name) => match known.find(name) {
             Some(known) => Growth {
                 height: known.height,
@@ -84,6 +86,18 @@ fn all_growth<'a>(labels: &'a [RawLabel], known: &Places<'a, Known>) -> Growth
     all
 }
 
+/// What a conjunction of literals grows to: it has no alias.
+fn cube_growth(names: u32, values: u32) -> Growth
+    ensures height { (known : List ℕ → ℕ) → result.height ≡ capped_height known (raw_all (all_literals names values)) }
+    ensures size { (known : List ℕ → ℕ) → result.size ≡ capped_size known (raw_all (all_literals names values)) }
+{
+    let shape = cube_shape(names, values);
+    Growth {
+        height: shape.height,
+        size: shape.size,
+    }
+}
+
 /// The height of the taller, and the size of both together.
 fn both(one: Growth, other: Growth) -> Growth
     ensures height { result.height ≡ max one.height other.height }
@@ -117,6 +131,7 @@ fn alias_in(label: &RawLabel) -> Option<&Name>
         RawLabel::False => None,
         RawLabel::Prop(_) => None,
         RawLabel::Negated(_) => None,
+        RawLabel::Cube { .. } => None,
         RawLabel::Not(_) => None,
         RawLabel::And(_) => None,
         RawLabel::Or(_) => None,

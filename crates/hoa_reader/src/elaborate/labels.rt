@@ -7,6 +7,7 @@ ghost use Rattle.hoa_reader.specs.inner.Growing.{AreAliasesKnown, meanings_by};
 ghost use Rattle.hoa_parser.specs.Raw.{raw_tree};
 
 use crate::elaborate::aliases::Known;
+use crate::elaborate::cube::cube_label;
 use crate::elaborate::parts::AliasDef;
 use crate::elaborate::places::Places;
 use aut_base::{Label, Labels, Memory};
@@ -30,6 +31,7 @@ pub(crate) fn expand<'a>(
         RawLabel::False => Ok(Label::False),
         RawLabel::Prop(place) => Ok(Label::Prop(*place)),
         RawLabel::Negated(place) => Ok(Label::Negated(*place)),
+        RawLabel::Cube { names, values } => cube_label(alloc, *names, *values),
         RawLabel::Alias(name) => match known.find(name) {
             Some(alias) => expand(alloc, defs[alias.place].label, defs, known),
             None => Ok(Label::False),
@@ -72,7 +74,7 @@ fn expand_parts<'a>(
 
 /// The proposition, where the bit of its place is set in the letter's number, else its negation.
 #[tactic(auto, using(aut_base::proofs::trees::LabelTrees::label_trees))]
-fn literal(letter: u64, place: u32) -> Label
+pub(crate) fn literal(letter: u64, place: u32) -> Label
     ensures { label_tree result ≡ literal letter place }
 {
     if is_set(letter, place) {
@@ -82,7 +84,7 @@ fn literal(letter: u64, place: u32) -> Label
 }
 
 /// Whether the bit of this place is set.
-fn is_set(number: u64, place: u32) -> bool
+pub(crate) fn is_set(number: u64, place: u32) -> bool
     ensures { result ≡ ((number / (2 ^ place)) % 2 == 1) }
 {
     if place >= 64 {

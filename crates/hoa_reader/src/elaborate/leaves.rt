@@ -8,6 +8,7 @@ ghost use Rattle.hoa_reader.specs.inner.Places.{place_in};
 ghost use Rattle.hoa_parser.specs.Raw.{raw_tree, raw_trees};
 ghost use Rattle.hoa_reader.specs.Validity.{aliases_among, all_leaves_pass, all_sets_below, is_listed, leaves_pass, props_below, sets_below};
 
+use crate::elaborate::cube::cube_shape;
 use crate::elaborate::parts::AliasDef;
 use crate::elaborate::places::Places;
 use aut_base::{Formula, Formulas, Memory};
@@ -53,6 +54,7 @@ pub(crate) fn props_below(label: &RawLabel, names: usize) -> bool
         RawLabel::True => true,
         RawLabel::False => true,
         RawLabel::Prop(place) | RawLabel::Negated(place) => (*place as usize) < names,
+        RawLabel::Cube { names: own, values } => cube_shape(*own, *values).props <= names as u64,
         RawLabel::Alias(_) => true,
         RawLabel::Not(inner) => props_below(inner, names),
         RawLabel::And(parts) => props_below(&parts.first, names)
@@ -86,6 +88,7 @@ pub(crate) fn aliases_among<'a>(label: &'a RawLabel, names: &Places<'a, ()>) -> 
         RawLabel::False => true,
         RawLabel::Prop(_) => true,
         RawLabel::Negated(_) => true,
+        RawLabel::Cube { .. } => true,
         RawLabel::Alias(name) => names.find(name).is_some(),
         RawLabel::Not(inner) => aliases_among(inner, names),
         RawLabel::And(parts) => aliases_among(&parts.first, names)
@@ -119,6 +122,7 @@ pub(crate) fn has_no_alias(label: &RawLabel) -> bool
         RawLabel::False => true,
         RawLabel::Prop(_) => true,
         RawLabel::Negated(_) => true,
+        RawLabel::Cube { .. } => true,
         RawLabel::Alias(_) => false,
         RawLabel::Not(inner) => has_no_alias(inner),
         RawLabel::And(parts) => has_no_alias(&parts.first)

@@ -7,6 +7,7 @@ ghost use Rattle.hoa_reader.specs.Validity.{aliases_among, all_leaves_pass, is_l
 ghost use Rattle.hoa_reader.specs.inner.Growing.{cap, capped_height, capped_heights, capped_size, capped_sizes};
 ghost use Rattle.hoa_reader.specs.inner.Sums.{all_props_after, one_sign, option_height, option_plain, option_props, option_size, props_after};
 
+use crate::elaborate::cube::cube_shape;
 use hoa_parser::RawLabel;
 
 /// What one visit of a label tells of it as it is written.
@@ -36,6 +37,7 @@ fn shape_of(label: &RawLabel) -> Shape
         RawLabel::False => one_sign(0, true),
         RawLabel::Prop(place) => one_sign(u64::from(*place) + 1, true),
         RawLabel::Negated(place) => one_more(one_sign(u64::from(*place) + 1, true)),
+        RawLabel::Cube { names, values } => cube_shape(*names, *values),
         RawLabel::Alias(_) => one_sign(0, false),
         RawLabel::Not(inner) => one_more(shape_of(inner)),
         RawLabel::And(parts) => one_more(both(
@@ -66,7 +68,7 @@ fn shape_of_all(labels: &[RawLabel]) -> Shape
 
 /// What a label of one sign tells.
 #[inline]
-fn one_sign(props: u64, plain: bool) -> Shape
+pub(crate) fn one_sign(props: u64, plain: bool) -> Shape
     ensures props { result.props ≡ props }
     ensures plain { result.plain ≡ plain }
     ensures height { result.height ≡ 1 }
@@ -82,7 +84,7 @@ fn one_sign(props: u64, plain: bool) -> Shape
 
 /// What no label at all tells.
 #[inline]
-fn none() -> Shape
+pub(crate) fn none() -> Shape
     ensures props { result.props ≡ 0 }
     ensures plain { result.plain ≡ true }
     ensures height { result.height ≡ 0 }
@@ -98,7 +100,7 @@ fn none() -> Shape
 
 /// What two labels tell together, with the height of the taller and the size of both.
 #[inline]
-fn both(one: Shape, other: Shape) -> Shape
+pub(crate) fn both(one: Shape, other: Shape) -> Shape
     ensures props { result.props ≡ max one.props other.props }
     ensures plain { result.plain ≡ (one.plain && other.plain) }
     ensures height { result.height ≡ max one.height other.height }
@@ -114,7 +116,7 @@ fn both(one: Shape, other: Shape) -> Shape
 
 /// One sign more around it.
 #[inline]
-fn one_more(inner: Shape) -> Shape
+pub(crate) fn one_more(inner: Shape) -> Shape
     ensures props { result.props ≡ inner.props }
     ensures plain { result.plain ≡ inner.plain }
     ensures height { result.height ≡ cap (inner.height + 1) }

@@ -7,6 +7,7 @@ ghost use Rattle.hoa_reader.specs.inner.TreeEdges.{HasKnown, parts_replaced, rep
 ghost use Rattle.label_guards.specs.Guards.{IsGuardOf, literal_truth, truth_in};
 ghost use Rattle.label_guards.specs.Store.{Has, Keeps};
 
+use crate::elaborate::cube::cube_guard;
 use crate::elaborate::edges::Shared;
 use aut_base::Memory;
 use hoa_parser::{RawLabel, RawLabels};
@@ -31,6 +32,7 @@ pub(crate) fn guard_written<'a>(
         RawLabel::False => Ok(guards.never()),
         RawLabel::Prop(prop) => literal(guards, *prop, true),
         RawLabel::Negated(prop) => literal(guards, *prop, false),
+        RawLabel::Cube { names, values } => cube_guard(guards, *names, *values),
         RawLabel::Alias(name) => match shared.known.find(name) {
             Some(alias) => guard_written(guards, shared, shared.defs[alias.place].label),
             None => Ok(guards.never()),

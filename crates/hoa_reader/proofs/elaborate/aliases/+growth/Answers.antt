@@ -1,9 +1,10 @@
 use Rattle.std.proofs.Common.{◌≡◌, ◌+◌, map, drop, List, ℕ, arith, ap}
 use Rattle.std.proofs.lemmas.List.{drop_all}
 use Rattle.hoa_reader.proofs.labels.Meanings.{sizes_fit}
-use Rattle.hoa_reader.specs.inner.Growing.{cap, capped_sizes, sizes_in}
+use Rattle.hoa_reader.specs.inner.Growing.{cap, capped_height, capped_size, capped_sizes, heights_in, sizes_in}
 use Rattle.hoa_parser.specs.Raw.{raw_tree, raw_trees}
 use Rattle.hoa_parser.specs.declared.raw.RawLabel.{RawLabel}
+use Rattle.hoa_reader.proofs.labels.CubeShapes.{cube_said}
 use Rattle.hoa_reader.proofs.elaborate.aliases.+growth.Goals as goal
 
 pub all_growth-labels-init : goal.all_growth-labels-init
@@ -17,3 +18,11 @@ all_growth-returns-clause-size t c =
     let gone : S (drop c.labels.label-index c.args.labels.now) ≡ 0 = ap S (drop_all c.labels.label-index c.args.labels.now c.labels-test.false) in
     let all : cap (c.labels.all.size + S (drop c.labels.label-index c.args.labels.now)) ≡ S c.args.labels.now = c.labels.invariant.size in
     omega (arith, gone, all, c.labels.invariant.fits)
+
+pub growth_of-returns-in-Cube-clause-height : goal.growth_of-returns-in-Cube-clause-height
+growth_of-returns-in-Cube-clause-height t c =
+    cube_said (capped_height (heights_in c.args.known.now)) c.args.label.now _ _ _ c.in-Cube.is (c.cube_growth.ensures.height (heights_in c.args.known.now))
+
+pub growth_of-returns-in-Cube-clause-size : goal.growth_of-returns-in-Cube-clause-size
+growth_of-returns-in-Cube-clause-size t c =
+    cube_said (capped_size (sizes_in c.args.known.now)) c.args.label.now _ _ _ c.in-Cube.is (c.cube_growth.ensures.size (sizes_in c.args.known.now))

@@ -3,6 +3,8 @@ use Rattle.std.specs.Global.{Global}
 use Rattle.std.specs.declared.boxed.Box.{Box}
 use Rattle.aut_base.proofs.trees.LabelTrees.{label_tree-False}
 use Rattle.aut_base.specs.Label.{LabelTree, label_list, label_size, label_tree, labels_size}
+use Rattle.std.proofs.lemmas.Result.{IfOk-weaker}
+use Rattle.hoa_reader.proofs.labels.CubeShapes.{cube_said}
 use Rattle.hoa_reader.proofs.labels.ExpandedLabels.{and_of, bit_small, expanded_node, or_of, part_size, size_pos}
 use Rattle.hoa_parser.proofs.grammar.RawTrees.{raw_tree-Alias, raw_tree-And-fields, raw_tree-Or-fields}
 use Rattle.hoa_reader.proofs.labels.Meanings.{meaning_missing}
@@ -77,3 +79,8 @@ expand_parts-expand-requires-in-others t c =
     let bit = bit_small (alias_name (raw_tree c.part-item.result)) in
     let less : expansion_steps c.args.defs.now (raw_tree c.part-item.result) < t = omega (arith, small, pos, bit, c.decreases) in
     (less, c.requires)
+
+pub expand-returns-in-Cube : goal.expand-returns-in-Cube
+expand-returns-in-Cube t c =
+    let ms = meanings_by c.args.defs.now in
+    IfOk-weaker c.cube_label.result _ _ (λ new is. cube_said (expanded ms) c.args.label.now _ _ _ c.in-Cube.is (is ms)) c.cube_label.ensures

@@ -4,6 +4,7 @@ use Rattle.aut_base.proofs.lists.Lists.{drop-at}
 use Rattle.hoa_parser.specs.Raw.{RawTrees, raw_tree, raw_trees}
 use Rattle.hoa_parser.specs.declared.raw.RawLabel.{RawLabel}
 use Rattle.hoa_reader.proofs.counting.BodySums.{and_in_turn, and_true}
+use Rattle.hoa_reader.proofs.labels.CubeShapes.{cube_leaves, cube_said}
 use Rattle.hoa_reader.proofs.labels.Meanings.{sizes_fit}
 use Rattle.hoa_reader.specs.Validity.{aliases_among, all_leaves_pass, is_listed}
 use Rattle.hoa_reader.specs.inner.Growing.{cap, capped_height, capped_heights, capped_size, capped_sizes}
@@ -75,3 +76,15 @@ shape_of_all-returns-clause-size t c =
     let gone : capped_sizes one_sign (trees_of (drop c.labels.label-index c.args.labels.now)) ≡ 0 =
     ap (λ ls. capped_sizes one_sign (trees_of ls)) (drop_all c.labels.label-index c.args.labels.now c.labels-test.false) in
     omega (arith, gone, c.labels.invariant.size, c.labels.invariant.fits)
+
+pub shape_of-returns-in-Cube-clause-props : goal.shape_of-returns-in-Cube-clause-props
+shape_of-returns-in-Cube-clause-props t c = cube_said props_after c.args.label.now _ _ _ c.in-Cube.is c.cube_shape.ensures.props
+
+pub shape_of-returns-in-Cube-clause-plain : goal.shape_of-returns-in-Cube-clause-plain
+shape_of-returns-in-Cube-clause-plain t c = cube_said (aliases_among []) c.args.label.now _ _ _ c.in-Cube.is (c.cube_shape.ensures.plain ∙ sym (cube_leaves (is_listed []) _ _))
+
+pub shape_of-returns-in-Cube-clause-height : goal.shape_of-returns-in-Cube-clause-height
+shape_of-returns-in-Cube-clause-height t c = cube_said (capped_height one_sign) c.args.label.now _ _ _ c.in-Cube.is (c.cube_shape.ensures.height one_sign)
+
+pub shape_of-returns-in-Cube-clause-size : goal.shape_of-returns-in-Cube-clause-size
+shape_of-returns-in-Cube-clause-size t c = cube_said (capped_size one_sign) c.args.label.now _ _ _ c.in-Cube.is (c.cube_shape.ensures.size one_sign)

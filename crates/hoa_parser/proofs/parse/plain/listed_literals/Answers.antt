@@ -2,7 +2,7 @@ use Rattle.std.proofs.Common.{arith}
 use Rattle.hoa_parser.specs.Raw.{raw_tree}
 use Rattle.hoa_parser.proofs.plain.Labels.{literal_length, literals_pair, literals_push}
 use Rattle.hoa_parser.proofs.plain.Signs.{sign_length}
-use Rattle.hoa_parser.proofs.parse.plain.more_literals.Goals as goal
+use Rattle.hoa_parser.proofs.parse.plain.listed_literals.Goals as goal
 
 pub literals-init : goal.literals-init
 literals-init c = literals_pair (raw_tree c.args.first) _ _ _ _ c.pair-parts.ensures c.in_ok-second.ensures
