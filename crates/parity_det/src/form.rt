@@ -19,20 +19,20 @@ ghost use Rattle.parity_det.specs.inner.Systems.{IsClassEvent, MeetsFirst};
 ghost use Rattle.parity_det.specs.declared.fault.CompFault.{CompFault};
 ghost use Rattle.parity_det.specs.declared.fault.DetFault.{DetFault};
 ghost use Rattle.safra_trees.specs.Trees.{root_states};
-ghost use Rattle.safra_trees.specs.View.{tree_of};
+ghost use Rattle.safra_trees.specs.View.{packed_tree};
 
 use crate::fault::{CompFault, DetFault};
 use crate::marks::{EventMarks, width};
 use crate::trees::Trees;
 use acc_forms::parity_min_odd;
-use aut_base::{MOST_CLASSES, MOST_TREES, Memory};
+use aut_base::{MOST_CLASSES, MOST_TREES, Memory, Numbers};
 use aut_core::Automaton;
 use aut_ops::prune;
 use degeneralise::to_buchi;
 use exploration::{Explored, Limits, explore};
 use label_guards::{Guard, Guards};
 use letter_classes::{ClassStore, class_form};
-use safra_trees::{Event, Moves, SafraTree, Scratch, start};
+use safra_trees::{Event, Moves, PackedTree, Scratch, start};
 use std::alloc::Global;
 
 /// Determinises a Büchi automaton. The states are the compact Safra trees that are reached from the starts of the
@@ -96,12 +96,14 @@ fn tree_form(alloc: Global, b: &Automaton) -> Result<Automaton, DetFault>
     ensures classes { result ≡ Err DetFault.Classes → MeetsFirst (automaton_of b.now) Fault.Classes }
 {
     b.well_formedness();
-    let first = start(alloc, b.starts())?;
+    let begun = start(alloc, b.starts())?;
+    let first = PackedTree::of(alloc, &begun)?;
     let store = ClassStore::new(alloc, b.guards().copy(alloc)?);
     let mut system = Trees {
         automaton: b,
         guards: store,
         moves: Moves::new(alloc),
+        set: Numbers::new(alloc),
         room: Scratch::new(alloc),
     };
     let limits = Limits {
@@ -117,14 +119,14 @@ fn built(
     alloc: Global,
     b: &Automaton,
     guards: Guards,
-    found: &Explored<SafraTree, Guard, Event>,
+    found: &Explored<PackedTree, Guard, Event>,
 ) -> Result<Automaton, Memory>
     requires keeps { Keeps b.now.store guards }
-    requires explored { IsExplored same_nodes (tree_moves (automaton_of b.now)) (start_tree (automaton_of b.now)) (map tree_of found.now.states.keys) (map transition_of found.now.edges.items) }
+    requires explored { IsExplored same_nodes (tree_moves (automaton_of b.now)) (start_tree (automaton_of b.now)) (map packed_tree found.now.states.keys) (map transition_of found.now.edges.items) }
     requires sound { IsSound (λ t. FitsStore b.now guards (root_states t)) (λ t k g. IsClassGuard b.now guards (root_states t) k g)
-        (λ t k event. IsClassEvent b.now t k event) MOST_TREES (map tree_of found.now.states.keys) found.now.edges.items }
+        (λ t k event. IsClassEvent b.now t k event) MOST_TREES (map packed_tree found.now.states.keys) found.now.edges.items }
     ensures few { IfOk result (λ made. made.sets ≤ 2 * MOST_NODES + 1) }
-    ensures is { IfOk result (λ made. automaton_of made ≡ parity_on (map tree_of found.now.states.keys) (map transition_of found.now.edges.items) (automaton_of b.now)) }
+    ensures is { IfOk result (λ made. automaton_of made ≡ parity_on (map packed_tree found.now.states.keys) (map transition_of found.now.edges.items) (automaton_of b.now)) }
 {
     b.well_formedness();
     let most = width(found.states.as_slice());

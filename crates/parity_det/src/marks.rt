@@ -3,16 +3,16 @@
 ghost use Rattle.std.specs.Prelude.{◌≡◌, ◌+◌, ◌<◌, ◌^◌, map};
 ghost use Rattle.parity_det.specs.Determinisation.{width};
 ghost use Rattle.parity_det.specs.inner.Systems.{mark_of};
-ghost use Rattle.safra_trees.specs.View.{tree_of};
+ghost use Rattle.safra_trees.specs.View.{packed_tree};
 
 use aut_base::{Marks, Memory};
 use letter_classes::Marking;
-use safra_trees::{Event, SafraTree};
+use safra_trees::{Event, PackedTree};
 use std::alloc::Global;
 
 /// The greatest number of nodes of these trees, and at least 1.
-pub(crate) fn width(trees: &[SafraTree]) -> u32
-    ensures { result ≡ width (map tree_of trees.now) }
+pub(crate) fn width(trees: &[PackedTree]) -> u32
+    ensures { result ≡ width (map packed_tree trees.now) }
 {
     let mut most = 1;
     'trees: for tree in trees {

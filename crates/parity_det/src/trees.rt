@@ -4,12 +4,12 @@ ghost use Rattle.std.specs.Prelude.{◌≡◌};
 
 use crate::fault::step_fault;
 use crate::moves::moves_at;
-use aut_base::Memory;
+use aut_base::{Memory, Numbers};
 use aut_core::Automaton;
 use exploration::{StepFault, TransitionSystem};
 use label_guards::Guard;
 use letter_classes::{ClassStore, classes_of_set};
-use safra_trees::{Event, Moves, SafraTree, Scratch};
+use safra_trees::{Event, Moves, PackedTree, Scratch, step_packed};
 use std::alloc::Global;
 use std::mem;
 
@@ -20,6 +20,8 @@ pub(crate) struct Trees<'a> {
     pub(crate) guards: ClassStore,
     /// A list for the moves of a step, which the next one uses again.
     pub(crate) moves: Moves,
+    /// A list for the states of a tree's root, which the next tree uses again.
+    pub(crate) set: Numbers,
     /// What each step fills.
     pub(crate) room: Scratch,
 }
@@ -31,10 +33,10 @@ impl<'a> TransitionSystem for Trees<'a> {
     ghost use Rattle.parity_det.specs.inner.Systems.{IsClassEvent};
     ghost use Rattle.safra_trees.specs.Same as lists;
     ghost use Rattle.safra_trees.specs.Trees.{Node, root_states};
-    ghost use Rattle.safra_trees.specs.View.{tree_of};
+    ghost use Rattle.safra_trees.specs.View.{packed_tree};
     ghost use Rattle.std.specs.Prelude.{List};
 
-    type State = SafraTree;
+    type State = PackedTree;
 
     type Class = Guard;
 
@@ -43,7 +45,7 @@ impl<'a> TransitionSystem for Trees<'a> {
 
     ghost Seen = { List Node };
 
-    ghost seen = { tree_of };
+    ghost seen = { packed_tree };
 
     ghost same = { lists.same_nodes };
 
@@ -59,40 +61,39 @@ impl<'a> TransitionSystem for Trees<'a> {
 
     ghost is_output = { λ c t k event. IsClassEvent c t k event };
 
-    ghost tells = { λ a b. lists.same_tells (tree_of a) (tree_of b) };
+    ghost tells = { λ a b. lists.same_tells (packed_tree a) (packed_tree b) };
 
     ghost same_tells = { lists.same_tells };
 
     fn classes(
         &mut self,
         alloc: Global,
-        state: &SafraTree,
+        state: &PackedTree,
         most: u32,
     ) -> Result<Option<Vec<Guard>>, Memory> {
-        let set = state.root_states();
+        let list = mem::replace(&mut self.set, Numbers::new(alloc));
+        self.set = state.root_states(list)?;
+        let set = self.set.as_slice();
         classes_of_set(alloc, self.automaton, &mut self.guards, set, most)
     }
 
     fn step(
         &mut self,
         alloc: Global,
-        state: &SafraTree,
+        state: &PackedTree,
         _number: u32,
         class: Guard,
-    ) -> Result<Option<(SafraTree, Event)>, StepFault> {
+    ) -> Result<Option<(PackedTree, Event)>, StepFault> {
         self.automaton.well_formedness();
         let Some(number) = self.guards.guards().meeting(class) else {
             unreachable!()
         };
+        let list = mem::replace(&mut self.set, Numbers::new(alloc));
+        self.set = state.root_states(list)?;
         let list = mem::replace(&mut self.moves, Moves::new(alloc));
-        let moves = moves_at(list, self.automaton, state.root_states(), number)?;
-        match safra_trees::step_in_room(
-            alloc,
-            self.automaton.states(),
-            state,
-            &moves,
-            &mut self.room,
-        ) {
+        let moves = moves_at(list, self.automaton, self.set.as_slice(), number)?;
+        let states = self.automaton.states();
+        match step_packed(alloc, states, state, &moves, &mut self.room) {
             Ok(made) => {
                 self.moves = moves;
                 Ok(Some(made))

@@ -12,4 +12,5 @@ pub mod OrderSteps
 pub mod Orders
 pub mod Placed
 pub mod Sight
+pub mod Splits
 pub mod Survey

@@ -1,6 +1,6 @@
 -- How a tree is stored: the parent of each name, the states of the root in their order, and for each of them its place,
 -- the deepest node that holds it.
-use Rattle.std.specs.Prelude.{◌≡◌, ◌<◌, ◌≤◌, ℕ, Bool, true, List, [], ◌∷◌, All, AllPairs, cond, length, map, slice_index_or}
+use Rattle.std.specs.Prelude.{◌≡◌, ◌<◌, ◌≤◌, ℕ, Bool, true, List, [], ◌∷◌, ◌++◌, All, AllPairs, cond, filter, length, map, nat_lt, not, slice_index_or}
 use Rattle.std.specs.List.{range_with_len}
 use Rattle.aut_base.specs.declared.limit.TheConstants.{MOST_NODES}
 use Rattle.safra_trees.specs.Step.{above}
@@ -37,3 +37,15 @@ pub record IsStored (parents states places : List ℕ) : Type 0 where
   pub each : length places ≡ length states
   pub below : All (λ x. x < length parents) places
   pub own : (x : ℕ) → x < length parents → has places x ≡ true
+
+-- whether a state is below k, or not
+abbrev pub is_low : ℕ → ℕ → Bool
+is_low k s = nat_lt s k
+
+abbrev pub is_high : ℕ → ℕ → Bool
+is_high k s = not (nat_lt s k)
+
+-- the states are in two lists, first those below k and then the others
+pub record IsSplit (k : ℕ) (low rest : List ℕ) : Type 0 where
+  pub low_are : low ≡ filter (is_low k) (low ++ rest)
+  pub rest_are : rest ≡ filter (is_high k) (low ++ rest)

@@ -1,11 +1,12 @@
 -- Equality of trees as lists of nodes, and what is hashed of a tree.
-use Rattle.std.proofs.Common.{◌≡◌, ◌↔◌, ◌∙◌, ◌==◌, ◌&&◌, ◌++◌, ℕ, zero, suc, Bool, IsTrue, true, List, [], ◌∷◌, ap, cond, inl, inr, length, map, nat_eq, refl, sym}
+use Rattle.std.proofs.Common.{◌≡◌, ◌↔◌, ◌∙◌, ◌==◌, ◌&&◌, ◌++◌, ◌^◌, ℕ, zero, suc, Bool, IsTrue, true, List, [], ◌∷◌, ap, cond, filter, inl, inr, length, map, nat_eq, refl, sym}
 use Rattle.std.proofs.lemmas.Bool.{and_from, and_parts, cases_Bool, eq-eqb, eqb-true, true≢false}
 use Rattle.std.proofs.lemmas.Cmp.{and_equiv, lists_equiv, nat_eq_equiv, nat_list_eq_equiv, on_equiv}
 use Rattle.std.specs.Cmp.{IsEquivalence}
 use Rattle.std.specs.Cmp.Lexicographic.{pointwise}
 use Rattle.std.specs.Hash as fed
 use Rattle.aut_base.proofs.words.Texts.{other_text, same_text}
+use Rattle.safra_trees.specs.Flat.{is_high, is_low}
 use Rattle.safra_trees.specs.Trees.{Node, holds, root_states}
 
 abbrev pub same_node : Node → Node → Bool
@@ -59,7 +60,15 @@ deepest t = map (λ s. last_of (λ x. holds t x s) (length t)) (root_states t)
 
 -- what is hashed: the parents, the states of the root and their deepest nodes
 abbrev pub hashed : List Node → List (List ℕ)
-hashed t = fed.slice fed.u32 (map (λ (m : Node). m.parent) t) ++ (fed.slice fed.u32 (root_states t) ++ fed.slice fed.u32 (deepest t))
+hashed t = fed.slice fed.u8 (map (λ (m : Node). m.parent) t) ++ (fed.slice fed.u32 (root_states t) ++ fed.slice fed.u8 (deepest t))
 
 pub same_hashed : (x y : List Node) → IsTrue (same_nodes x y) → hashed x ≡ hashed y
 same_hashed x y is = ap hashed (told x y is)
+
+-- the same of a tree whose states below 2^16 stand in a list of their own
+abbrev pub packed_hashed : List Node → List (List ℕ)
+packed_hashed t = (map (λ (m : Node). m.parent) t ∷ []) ++ (fed.slice fed.u16 (filter (is_low (2 ^ 16)) (root_states t))
+    ++ (fed.slice fed.u32 (filter (is_high (2 ^ 16)) (root_states t)) ++ (deepest t ∷ [])))
+
+pub same_packed_hashed : (x y : List Node) → IsTrue (same_nodes x y) → packed_hashed x ≡ packed_hashed y
+same_packed_hashed x y is = ap packed_hashed (told x y is)

@@ -4,3 +4,4 @@ pub mod Free
 pub mod Order
 pub mod Passes
 pub mod Sight
+pub mod Slices

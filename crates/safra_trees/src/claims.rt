@@ -1,12 +1,13 @@
 //! Which nodes claim which states.
 
-ghost use Rattle.std.specs.Prelude.{◌≡◌, ◌+◌, ◌<◌, ◌≤◌, ℕ, All, IfOk, length};
+ghost use Rattle.std.specs.Prelude.{◌≡◌, ◌+◌, ◌++◌, ◌<◌, ◌≤◌, ℕ, All, IfOk, length};
 ghost use Rattle.aut_base.specs.declared.limit.TheConstants.{MOST_NODES};
 ghost use Rattle.safra_trees.specs.Events.{IsMoveInRange};
 ghost use Rattle.safra_trees.specs.Flat.{at};
 ghost use Rattle.safra_trees.specs.inner.Claims.{claim, claimant, first_of, key, owner_in};
 
 use crate::Move;
+use crate::lists::TreeSlices;
 use std::alloc::AllocError;
 
 /// For each of `count` states its place, the deepest node that holds it; `none` where no node does.
@@ -14,21 +15,20 @@ pub(crate) fn places_by_state(
     room: Vec<u32>,
     count: usize,
     none: u32,
-    states: &[u32],
-    places: &[u32],
+    tree: &TreeSlices<'_>,
 ) -> Result<Vec<u32>, AllocError>
-    requires each { length places.now ≡ length states.now }
-    requires states { All (λ s. s < count) states.now }
-    requires places { All (λ x. x < none) places.now }
+    requires each { length tree.now.places.now ≡ length (tree.now.low.now ++ tree.now.rest.now) }
+    requires states { All (λ s. s < count) (tree.now.low.now ++ tree.now.rest.now) }
+    requires places { All (λ x. x < none) tree.now.places.now }
     ensures size { IfOk result (λ found. length found.items ≡ count) }
     ensures below { IfOk result (λ found. All (λ x. x ≤ none) found.items) }
-    ensures places { IfOk result (λ found. (s : ℕ) → s < count → at found.items s ≡ owner_in none states.now places.now s) }
+    ensures places { IfOk result (λ found. (s : ℕ) → s < count → at found.items s ≡ owner_in none (tree.now.low.now ++ tree.now.rest.now) tree.now.places.now s) }
 {
     let mut found = room;
     found.clear();
     found.resize(count, none)?;
-    'states: for place in 0..states.len() {
-        found[states[place] as usize] = places[place];
+    'states: for place in 0..tree.places.len() {
+        found[tree.state(place) as usize] = u32::from(tree.places[place]);
     }
     Ok(found)
 }

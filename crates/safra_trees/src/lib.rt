@@ -8,8 +8,10 @@ mod claims;
 mod event;
 mod fault;
 mod law;
+mod lists;
 mod moves;
 mod order;
+mod packed;
 mod passes;
 mod room;
 mod sight;
@@ -23,7 +25,8 @@ pub use law::{
     equal_trees_are_one_list, same_list_same_tree, stored_trees_are_trees, worked_steps,
 };
 pub use moves::{Move, Moves};
+pub use packed::PackedTree;
 pub use room::Scratch;
 pub use starting::start;
-pub use stepping::{step, step_in_room};
+pub use stepping::{step, step_in_room, step_packed};
 pub use tree::SafraTree;

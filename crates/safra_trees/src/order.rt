@@ -9,7 +9,7 @@ use std::alloc::AllocError;
 
 /// For each name its number in the order: children before their parents, and an older sibling with its descendants before a
 /// younger one.
-pub(crate) fn claiming_order(room: Vec<u32>, parents: &[u32]) -> Result<Vec<u32>, AllocError>
+pub(crate) fn claiming_order(room: Vec<u32>, parents: &[u8]) -> Result<Vec<u32>, AllocError>
     requires few { length parents.now ≤ MOST_NODES }
     requires lower { (x : ℕ) → 0 < x → x < length parents.now → at parents.now x < x }
     ensures size { IfOk result (λ order. length order.items ≡ length parents.now) }

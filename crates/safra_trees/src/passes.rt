@@ -1,9 +1,9 @@
 //! Passes over the old and the fresh names: which survive, and which nodes own the states of the others.
 
-ghost use Rattle.std.specs.Prelude.{◌≡◌, ◌+◌, ◌^◌, ◌<◌, ◌≤◌, ◌&&◌, ℕ, All, IfOk, cond, length, map, nat_lt, not};
+ghost use Rattle.std.specs.Prelude.{◌≡◌, ◌+◌, ◌++◌, ◌∷◌, ◌^◌, ◌<◌, ◌≤◌, ◌&&◌, ℕ, [], All, IfOk, OnOk, cond, filter, length, map, nat_lt, not};
 ghost use Rattle.std.specs.List.{list_any, range_with_len};
 ghost use Rattle.aut_base.specs.declared.limit.TheConstants.{MOST_NODES};
-ghost use Rattle.safra_trees.specs.Flat.{at};
+ghost use Rattle.safra_trees.specs.Flat.{at, is_high, is_low};
 ghost use Rattle.safra_trees.specs.Step.{names_where, rank};
 ghost use Rattle.safra_trees.specs.Trees.{has};
 ghost use Rattle.safra_trees.specs.inner.Claims.{grown_parent};
@@ -13,14 +13,14 @@ ghost use Rattle.safra_trees.specs.Events.{least};
 use std::alloc::{AllocError, Global};
 
 /// The parent of an old name, or of a fresh one.
-pub(crate) fn grown_parent(parents: &[u32], name: u32) -> u32
+pub(crate) fn grown_parent(parents: &[u8], name: u32) -> u32
     requires few { length parents.now ≤ MOST_NODES }
     requires name { name < length parents.now + length parents.now }
     ensures { result ≡ grown_parent parents.now name }
 {
     let nodes = parents.len() as u32;
     if name < nodes {
-        parents[name as usize]
+        u32::from(parents[name as usize])
     } else {
         name - nodes
     }
@@ -45,7 +45,7 @@ pub(crate) fn claiming(room: Vec<bool>, size: u32, claims: &[u32]) -> Result<Vec
 
 /// For each name the node that owns its states: the name itself, or the ancestor into which it is merged since that one is
 /// covered by its children.
-pub(crate) fn owners(room: Vec<u32>, parents: &[u32], own: &[bool]) -> Result<Vec<u32>, AllocError>
+pub(crate) fn owners(room: Vec<u32>, parents: &[u8], own: &[bool]) -> Result<Vec<u32>, AllocError>
     requires few { length parents.now ≤ MOST_NODES }
     requires lower { (x : ℕ) → 0 < x → x < length parents.now → at parents.now x < x }
     requires size { length own.now ≡ length parents.now + length parents.now }
@@ -63,7 +63,7 @@ pub(crate) fn owners(room: Vec<u32>, parents: &[u32], own: &[bool]) -> Result<Ve
 }
 
 /// The owner of a name, from the owners of lower names.
-fn owner_of(parents: &[u32], own: &[bool], owners: &[u32], name: u32) -> u32
+fn owner_of(parents: &[u8], own: &[bool], owners: &[u32], name: u32) -> u32
     requires few { length parents.now ≤ MOST_NODES }
     requires lower { (x : ℕ) → 0 < x → x < length parents.now → at parents.now x < x }
     requires size { length own.now ≡ length parents.now + length parents.now }
@@ -112,14 +112,14 @@ pub(crate) fn surviving(
 #[derive(Drop)]
 pub(crate) struct NewNames {
     /// For each name the number of surviving names below it.
-    pub(crate) ranks: Vec<u32>,
+    pub(crate) ranks: Vec<u8>,
     /// The number of surviving names.
     pub(crate) count: u32,
 }
 
 /// Renumbers the surviving names, without gaps.
-pub(crate) fn new_names(room: Vec<u32>, stay: &[bool]) -> Result<NewNames, AllocError>
-    requires { length stay.now < 2 ^ 32 }
+pub(crate) fn new_names(room: Vec<u8>, stay: &[bool]) -> Result<NewNames, AllocError>
+    requires { length stay.now < 2 ^ 8 }
     ensures ranks { IfOk result (λ made. made.ranks.items ≡ map (rank (flag stay.now)) (range_with_len 0 (length stay.now))) }
     ensures count { IfOk result (λ made. made.count ≡ rank (flag stay.now) (length stay.now)) }
 {
@@ -127,7 +127,7 @@ pub(crate) fn new_names(room: Vec<u32>, stay: &[bool]) -> Result<NewNames, Alloc
     ranks.clear();
     let mut count = 0;
     'names: for name in 0..stay.len() {
-        ranks.push(count)?;
+        ranks.push(count as u8)?;
         if !stay[name] {
             continue;
         }
@@ -139,11 +139,11 @@ pub(crate) fn new_names(room: Vec<u32>, stay: &[bool]) -> Result<NewNames, Alloc
 /// The parents of the surviving nodes, by new names. The list has capacity for all `count` of them from the start.
 pub(crate) fn new_parents(
     alloc: Global,
-    parents: &[u32],
+    parents: &[u8],
     stay: &[bool],
-    ranks: &[u32],
+    ranks: &[u8],
     count: u32,
-) -> Result<Vec<u32>, AllocError>
+) -> Result<Vec<u8>, AllocError>
     requires few { length parents.now ≤ MOST_NODES }
     requires lower { (x : ℕ) → x < length parents.now → at parents.now x ≤ x }
     requires size { length stay.now ≡ length parents.now + length parents.now }
@@ -190,35 +190,65 @@ pub(crate) fn least_covered(stay: &[bool], own: &[bool]) -> Option<u32>
 /// The states that some node holds, and their places by new names.
 #[derive(Drop)]
 pub(crate) struct NewPlaces {
-    pub(crate) states: Vec<u32>,
-    pub(crate) places: Vec<u32>,
+    /// The states that are stored as two bytes.
+    pub(crate) low: Vec<u16>,
+    /// The others.
+    pub(crate) rest: Vec<u32>,
+    /// The places of all, of those in two bytes first.
+    pub(crate) places: Vec<u8>,
 }
 
-/// The states that some name claims, each with the new name of the node that owns the claim.
+/// The states that some name claims, each with the new name of the node that owns the claim. Those below `narrow` are stored as two
+/// bytes.
 pub(crate) fn new_places(
     alloc: Global,
+    narrow: u32,
     claims: &[u32],
     owners: &[u32],
-    ranks: &[u32],
+    ranks: &[u8],
 ) -> Result<NewPlaces, AllocError>
+    requires narrow { narrow ≤ 2 ^ 16 }
     requires few { length claims.now ≤ 2 ^ 32 }
     requires size { length ranks.now ≡ length owners.now }
     requires low { (x : ℕ) → x < length owners.now → at owners.now x ≤ x }
-    ensures states { IfOk result (λ made. made.states.items ≡ names_where (λ s. nat_lt (at claims.now s) (length owners.now)) (length claims.now)) }
+    ensures low { IfOk result (λ made. made.low.items ≡ filter (is_low narrow) (names_where (λ s. nat_lt (at claims.now s) (length owners.now)) (length claims.now))) }
+    ensures rest { IfOk result (λ made. made.rest.items ≡ filter (is_high narrow) (names_where (λ s. nat_lt (at claims.now s) (length owners.now)) (length claims.now))) }
     ensures places { IfOk result (λ made. made.places.items ≡ map (λ s. at ranks.now (at owners.now (at claims.now s))) (names_where (λ s. nat_lt (at claims.now s) (length owners.now)) (length claims.now))) }
 {
-    let room = claimed(claims, owners.len());
-    let mut states = Vec::with_capacity(alloc, room)?;
-    let mut places = Vec::with_capacity(alloc, room)?;
+    let cut = claims.len().min(narrow as usize);
+    let few = claimed(&claims[..cut], owners.len());
+    let others = claimed(&claims[cut..], owners.len());
+    let mut low = Vec::with_capacity(alloc, few)?;
+    let mut rest = Vec::with_capacity(alloc, others)?;
+    let mut places = Vec::with_capacity(alloc, few.saturating_add(others))?;
     'states: for state in 0..claims.len() {
         let claim = claims[state] as usize;
         if claim >= owners.len() {
             continue;
         }
-        states.push(state as u32)?;
+        list_state(&mut low, &mut rest, state as u32, narrow)?;
         places.push(ranks[owners[claim] as usize])?;
     }
-    Ok(NewPlaces { states, places })
+    Ok(NewPlaces { low, rest, places })
+}
+
+/// Adds a state to the list that it belongs to.
+pub(crate) fn list_state(
+    low: &mut Vec<u16>,
+    rest: &mut Vec<u32>,
+    state: u32,
+    narrow: u32,
+) -> Result<(), AllocError>
+    requires { narrow ≤ 2 ^ 16 }
+    ensures low { OnOk result (low.new.items ≡ low.old.items ++ filter (is_low narrow) (state ∷ [])) }
+    ensures rest { OnOk result (rest.new.items ≡ rest.old.items ++ filter (is_high narrow) (state ∷ [])) }
+{
+    if state < narrow {
+        low.push(state as u16)?;
+    } else {
+        rest.push(state)?;
+    }
+    Ok(())
 }
 
 /// How many states some name claims, which is the capacity of their lists.

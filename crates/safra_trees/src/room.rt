@@ -20,7 +20,7 @@ pub struct Scratch {
     /// For each name whether it survives.
     pub(crate) stay: Vec<bool>,
     /// For each name the number of surviving names below it.
-    pub(crate) ranks: Vec<u32>,
+    pub(crate) ranks: Vec<u8>,
 }
 
 impl Scratch {

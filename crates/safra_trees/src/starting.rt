@@ -5,7 +5,7 @@ ghost use Rattle.safra_trees.specs.Trees.{first_tree, root_states};
 ghost use Rattle.safra_trees.specs.View.{tree_of};
 
 use crate::SafraTree;
-use aut_base::{Memory, Numbers, in_order};
+use aut_base::{Memory, Numbers, Text, in_order};
 use std::alloc::Global;
 
 /// The tree of an automaton before a word: one node with the starts, or none where there are none. It depends on the starts
@@ -16,11 +16,11 @@ pub fn start(alloc: Global, starts: &Numbers) -> Result<SafraTree, Memory>
 {
     let listed = Vec::from_slice(alloc, starts.as_slice())?;
     let states = in_order(Numbers::from_vec(listed));
-    let parents = vec![in alloc; 0u32; states.len().min(1)]?;
-    let places = vec![in alloc; 0u32; states.len()]?;
+    let parents = vec![in alloc; 0u8; states.len().min(1)]?;
+    let places = vec![in alloc; 0u8; states.len()]?;
     Ok(SafraTree {
-        parents: Numbers::from_vec(parents),
+        parents: Text::from_vec(parents),
         states,
-        places: Numbers::from_vec(places),
+        places: Text::from_vec(places),
     })
 }

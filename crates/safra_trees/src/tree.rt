@@ -3,7 +3,7 @@
 ghost use Rattle.std.proofs.Props.{props};
 ghost use Rattle.safra_trees.specs.Flat.{IsStored};
 
-use aut_base::Numbers;
+use aut_base::{Numbers, Text};
 use std::hash::{Hash, Hasher};
 
 // Why so: 'Safra trees' in docs/DECISIONS.md.
@@ -14,11 +14,11 @@ use std::hash::{Hash, Hasher};
 #[derive(Debug, Drop)]
 pub struct SafraTree {
     /// For each name that of the parent; the root, whose name is 0, is its own.
-    pub(crate) parents: Numbers,
+    pub(crate) parents: Text,
     /// The states of the root in their order.
     pub(crate) states: Numbers,
     /// For each of these states the deepest node that holds it.
-    pub(crate) places: Numbers,
+    pub(crate) places: Text,
     ghost stored: { IsStored parents states places } by { Prim.hlevel props },
 }
 

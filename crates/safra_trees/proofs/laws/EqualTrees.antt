@@ -21,12 +21,12 @@ use Rattle.safra_trees.specs.inner.Claims.{owner_in}
 
 -- ---- what is compared
 
-same_bools : (a b : Bool) → (a ≡ true → b ≡ true) → (b ≡ true → a ≡ true) → a ≡ b
+pub same_bools : (a b : Bool) → (a ≡ true → b ≡ true) → (b ≡ true → a ≡ true) → a ≡ b
 same_bools true b there back = sym (there refl)
 same_bools false true there back = back refl
 same_bools false false there back = refl
 
-list_text : (xs ys : List ℕ) → xs ≡ ys → pointwise nat_eq xs ys ≡ true
+pub list_text : (xs ys : List ℕ) → xs ≡ ys → pointwise nat_eq xs ys ≡ true
 list_text xs ys same = elim (cases_Bool (pointwise nat_eq xs ys)) [ inl is ↦ is | inr isnt ↦ absurd (other_text xs ys isnt same) ]
 
 -- the lists of two trees are the same
@@ -85,7 +85,7 @@ last_place parents states places is p there =
     last_is (λ x. holds t x p) y (length t) (omega (arith, y_in, many)) (stored_there parents states places is y p y_in (record { below = y_in; passes = over_self (at parents) y }))
     (λ x less held. over_low (at parents) m is.lower x y y_in (stored_found parents states places is x p held).passes)
 
-places_read : (parents states places : List ℕ) → IsStored parents states places → deepest (nodes_of parents states places) ≡ places
+pub places_read : (parents states places : List ℕ) → IsStored parents states places → deepest (nodes_of parents states places) ≡ places
 places_read parents states places is =
     let t = nodes_of parents states places in
     let f : ℕ → ℕ = λ s. last_of (λ x. holds t x s) (length t) in
@@ -93,16 +93,16 @@ places_read parents states places is =
     ∙ places_same (length parents) states (map f states) places is.rising (length-map states f) is.each
     (λ p there. mapped_place (length parents) f states p is.rising there ∙ last_place parents states places is p there)
 
-fields_hashed : (tree : SafraTree) → hashed (tree_of tree) ≡ fed.slice fed.u32 tree.parents ++ (fed.slice fed.u32 tree.states ++ fed.slice fed.u32 tree.places)
-fields_hashed tree = λ i. fed.slice fed.u32 (parents_read tree.parents tree.states tree.places i)
-    ++ (fed.slice fed.u32 (stored_root tree.parents tree.states tree.places tree.stored i) ++ fed.slice fed.u32 (places_read tree.parents tree.states tree.places tree.stored i))
+fields_hashed : (tree : SafraTree) → hashed (tree_of tree) ≡ fed.slice fed.u8 tree.parents ++ (fed.slice fed.u32 tree.states ++ fed.slice fed.u8 tree.places)
+fields_hashed tree = λ i. fed.slice fed.u8 (parents_read tree.parents tree.states tree.places i)
+    ++ (fed.slice fed.u32 (stored_root tree.parents tree.states tree.places tree.stored i) ++ fed.slice fed.u8 (places_read tree.parents tree.states tree.places tree.stored i))
 
 -- three lists are hashed one after the other
-pub hashed_in_turn : {S : Type 0} (write : S → List ℕ → S) (tree : SafraTree) (s t u v : S) → t ≡ fold write s (fed.slice fed.u32 tree.parents)
-    → u ≡ fold write t (fed.slice fed.u32 tree.states) → v ≡ fold write u (fed.slice fed.u32 tree.places) → v ≡ fold write s (hashed (tree_of tree))
+pub hashed_in_turn : {S : Type 0} (write : S → List ℕ → S) (tree : SafraTree) (s t u v : S) → t ≡ fold write s (fed.slice fed.u8 tree.parents)
+    → u ≡ fold write t (fed.slice fed.u32 tree.states) → v ≡ fold write u (fed.slice fed.u8 tree.places) → v ≡ fold write s (hashed (tree_of tree))
 hashed_in_turn write tree s t u v first second third =
-    let p = fed.slice fed.u32 tree.parents in
+    let p = fed.slice fed.u8 tree.parents in
     let q = fed.slice fed.u32 tree.states in
-    let r = fed.slice fed.u32 tree.places in
+    let r = fed.slice fed.u8 tree.places in
     third ∙ (ap (λ x. fold write x r) (second ∙ ap (λ x. fold write x q) first)
     ∙ (sym (fold-append write (fold write s p) q r) ∙ (sym (fold-append write s p (q ++ r)) ∙ ap (fold write s) (sym (fields_hashed tree)))))

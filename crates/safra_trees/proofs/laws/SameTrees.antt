@@ -55,6 +55,20 @@ places_same none (s ∷ states) (x ∷ places) (y ∷ others) rising each too sa
     ∙ ap (λ vs. y ∷ vs) (places_same none states places others (pairs_rest (λ a b. a < b) s states rising) (omega (arith, each)) (omega (arith, too))
     (λ p there. sym (tail_place none s x p states places rising there) ∙ (same p (or_right (s == p) (has states p) there) ∙ tail_place none s y p states others rising there)))
 
+-- The lists of two trees with the same nodes are the same.
+pub record AreSame (p s o q t u : List ℕ) : Type 0 where
+  pub parents : p ≡ q
+  pub states : s ≡ t
+  pub places : o ≡ u
+
+pub same_lists : (p s o q t u : List ℕ) → IsStored p s o → IsStored q t u → nodes_of p s o ≡ nodes_of q t u → AreSame p s o q t u
+same_lists p s o q t u is also same =
+    let parents : p ≡ q = sym (parents_read p s o) ∙ (ap (map (λ (d : Node). d.parent)) same ∙ parents_read q t u) in
+    let states : s ≡ t = sym (stored_root p s o is) ∙ (ap root_states same ∙ stored_root q t u also) in
+    let moved : IsStored p s u = subst (λ xs. IsStored xs s u) (sym parents) (subst (λ xs. IsStored q xs u) (sym states) also) in
+    let nodes : nodes_of p s o ≡ nodes_of p s u = same ∙ (ap (λ xs. nodes_of xs t u) (sym parents) ∙ ap (λ xs. nodes_of p xs u) (sym states)) in
+    record { parents = parents; states = states; places = places_same (length p) s o u is.rising is.each moved.each (place_low p s o u is moved nodes) }
+
 abbrev made : (parents states places : List ℕ) → IsStored parents states places → SafraTree
 made parents states places stored = record { parents = parents; states = states; places = places; stored = stored }
 
@@ -70,15 +84,5 @@ same_made p s o q t u one first second third =
 
 pub same_tree : (one other : SafraTree) → tree_of one ≡ tree_of other → one ≡ other
 same_tree one other same =
-    let parents : one.parents ≡ other.parents = sym (parents_read one.parents one.states one.places) ∙
-    (ap (map (λ (d : Node). d.parent)) same ∙ parents_read other.parents other.states other.places) in
-    let states : one.states ≡ other.states = sym (stored_root one.parents one.states one.places one.stored) ∙
-    (ap root_states same ∙ stored_root other.parents other.states other.places other.stored) in
-    let moved : IsStored one.parents one.states other.places =
-    subst (λ xs. IsStored xs one.states other.places) (sym parents) (subst (λ xs. IsStored other.parents xs other.places) (sym states) other.stored) in
-    let nodes : nodes_of one.parents one.states one.places ≡ nodes_of one.parents one.states other.places =
-    same ∙ (ap (λ xs. nodes_of xs other.states other.places) (sym parents) ∙ ap (λ xs. nodes_of one.parents xs other.places) (sym states)) in
-    let places : one.places ≡ other.places =
-    places_same (length one.parents) one.states one.places other.places one.stored.rising one.stored.each moved.each
-    (place_low one.parents one.states one.places other.places one.stored moved nodes) in
-    same_made one.parents one.states one.places other.parents other.states other.places one.stored parents states places other.stored
+    let are = same_lists one.parents one.states one.places other.parents other.states other.places one.stored other.stored same in
+    same_made one.parents one.states one.places other.parents other.states other.places one.stored are.parents are.states are.places other.stored

@@ -15,7 +15,7 @@ use Rattle.parity_det.specs.inner.Systems.{IsClassEvent, MeetsFirst}
 use Rattle.parity_det.proofs.Refused.{classes_fault, met_first, nodes_fault, trees_fault}
 use Rattle.safra_trees.specs.Same.{same_nodes}
 use Rattle.safra_trees.specs.Trees.{Node, first_tree, root_states}
-use Rattle.safra_trees.specs.View.{tree_of}
+use Rattle.safra_trees.specs.View.{packed_tree}
 use Rattle.parity_det.proofs.form.tree_form.Goals.{In_err-found, In_ok-first}
 use Rattle.parity_det.proofs.form.tree_form.Goals as goal
 
@@ -23,32 +23,37 @@ use Rattle.parity_det.proofs.form.tree_form.Goals as goal
 starts_below : (b : SymbolicAutomaton) → IsWellFormedSymbolic b → (starts : List ℕ) → starts ≡ b.starts → All (λ s. s < b.states) starts
 starts_below b is starts same = subst (λ xs. All (λ s. s < b.states) xs) (sym same) is.well_formed.starts
 
+-- the states of the first tree are states
+first_below : (c : In_ok-first) → All (λ q. q < c.args.b.now.states) (root_states (packed_tree c.in_ok-first.first))
+first_below c = subst (λ t. All (λ q. q < c.args.b.now.states) (root_states t)) (sym c.in_ok-first.ensures)
+    (c.in_ok-begun.ensures.states c.args.b.now.states (starts_below c.args.b.now c.well_formedness.ensures c.starts.result.now c.starts.ensures))
+
 pub explore-requires-clause-fits : goal.explore-requires-clause-fits
 explore-requires-clause-fits c = record {
-  states = c.in_ok-first.ensures.states c.args.b.now.states (starts_below c.args.b.now c.well_formedness.ensures c.starts.result.now c.starts.ensures);
+  states = first_below (goal.at.explore-requires-clause-fits c).In_ok-first;
   keeps = subst (Keeps c.args.b.now.store) (sym (c.new-store.ensures ∙ (c.in_ok-copy.ensures ∙ c.guards.ensures))) (keeps_none c.args.b.now.store);
 }
 
 pub built-requires-clause-keeps : goal.built-requires-clause-keeps
 built-requires-clause-keeps c =
-    let first = tree_of c.in_ok-first.first in
+    let first = packed_tree c.in_ok-first.first in
     let fits : FitsStore c.args.b.now c.new-store.result (root_states first) = record {
-      states = c.in_ok-first.ensures.states c.args.b.now.states (starts_below c.args.b.now c.well_formedness.ensures c.starts.result.now c.starts.ensures);
+      states = first_below (goal.at.built-requires-clause-keeps c).In_ok-first;
       keeps = subst (Keeps c.args.b.now.store) (sym (c.new-store.ensures ∙ (c.in_ok-copy.ensures ∙ c.guards.ensures))) (keeps_none c.args.b.now.store);
     } in
     let kept : FitsStore c.explore.new.system.automaton.now c.explore.new.system.guards (root_states first) = c.in_ok-found.ensures.keeps.fits first fits in
     subst (Keeps c.args.b.now.store) (sym c.into_guards.ensures) (subst (λ (core : SymbolicAutomaton). Keeps core.store c.explore.new.system.guards) c.in_ok-found.ensures.frame kept.keeps)
 
 -- the first tree is that of the automaton
-started : (c : In_ok-first) → tree_of c.in_ok-first.first ≡ start_tree (automaton_of c.args.b.now)
+started : (c : In_ok-first) → packed_tree c.in_ok-first.first ≡ start_tree (automaton_of c.args.b.now)
 started c =
     let b = c.args.b.now in
-    c.in_ok-first.ensures.tree b.states (starts_below b c.well_formedness.ensures c.starts.result.now c.starts.ensures) ∙ ap (first_tree b.states) c.starts.ensures
+    c.in_ok-first.ensures ∙ (c.in_ok-begun.ensures.tree b.states (starts_below b c.well_formedness.ensures c.starts.result.now c.starts.ensures) ∙ ap (first_tree b.states) c.starts.ensures)
 
 pub built-requires-clause-explored : goal.built-requires-clause-explored
 built-requires-clause-explored c =
     let found = c.in_ok-found.found in
-    subst (λ (t : List Node). IsExplored same_nodes (tree_moves (automaton_of c.args.b.now)) t (map tree_of found.states.keys) (map transition_of found.edges.items))
+    subst (λ (t : List Node). IsExplored same_nodes (tree_moves (automaton_of c.args.b.now)) t (map packed_tree found.states.keys) (map transition_of found.edges.items))
     (started (goal.at.built-requires-clause-explored c).In_ok-first) c.in_ok-found.ensures.explored
 
 pub returns-clause-shape : goal.returns-clause-shape
@@ -56,9 +61,9 @@ returns-clause-shape c =
     let b = automaton_of c.args.b.now in
     let found = c.in_ok-found.found in
     record {
-      trees = map tree_of found.states.keys;
+      trees = map packed_tree found.states.keys;
       transitions = map transition_of found.edges.items;
-      explored = subst (λ (t : List Node). EndsWith (tree_rules b) t (map tree_of found.states.keys) (map transition_of found.edges.items)) (started (goal.at.returns-clause-shape c).In_ok-first)
+      explored = subst (λ (t : List Node). EndsWith (tree_rules b) t (map packed_tree found.states.keys) (map transition_of found.edges.items)) (started (goal.at.returns-clause-shape c).In_ok-first)
           c.in_ok-found.ensures.ends;
       is = c.in_ok-built.ensures.is;
     }
@@ -69,16 +74,16 @@ built-requires-clause-sound c =
     let found = c.in_ok-found.found in
     let b = c.args.b.now in
     subst (λ (s : Store). IsSound (λ t. FitsStore b s (root_states t)) (λ t k g. IsClassGuard b s (root_states t) k g) (λ t k event. IsClassEvent b t k event) MOST_TREES
-    (map tree_of found.states.keys) found.edges.items) (sym c.into_guards.ensures)
+    (map packed_tree found.states.keys) found.edges.items) (sym c.into_guards.ensures)
     (subst (λ (core : SymbolicAutomaton). IsSound (λ t. FitsStore core guards (root_states t)) (λ t k g. IsClassGuard core guards (root_states t) k g) (λ t k event. IsClassEvent b t k event)
     MOST_TREES
-    (map tree_of found.states.keys) found.edges.items) c.in_ok-found.ensures.frame c.in_ok-found.ensures.sound)
+    (map packed_tree found.states.keys) found.edges.items) c.in_ok-found.ensures.frame c.in_ok-found.ensures.sound)
 
 -- the exploration from the tree of the starts meets the limit that its fault names
 met : (c : In_err-found) (wanted : Fault) → c.in_err-found.field-0.0 ≡ wanted → (wanted ≡ limit.Memory → ⊥) → MeetsFirst (automaton_of c.args.b.now) wanted
 met c wanted is other =
     let b = c.args.b.now in
-    met_first (automaton_of b) (tree_of c.in_ok-first.first) c.in_err-found.field-0.0 wanted (started (goal.at.In_err-found c).In_ok-first) c.in_err-found.ensures.meets is other
+    met_first (automaton_of b) (packed_tree c.in_ok-first.first) c.in_err-found.field-0.0 wanted (started (goal.at.In_err-found c).In_ok-first) c.in_err-found.ensures.meets is other
 
 pub returns-in_err-found-clause-trees : goal.returns-in_err-found-clause-trees
 returns-in_err-found-clause-trees c = λ is. met (goal.at.returns-in_err-found-clause-trees c).In_err-found limit.States

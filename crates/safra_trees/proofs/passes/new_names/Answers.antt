@@ -23,3 +23,6 @@ names-preserved c =
       ranks = mapped_range (rank p) c.names.name c.names.ranks.items c.push.new.self.items c.names.count c.names.invariant.ranks c.names.invariant.count c.in_ok-push.ensures.items;
       count = ap (λ k. k + 1) c.names.invariant.count ∙ sym (rank_with p c.names.name c.if-not-stay-name.false);
     }
+
+pub overflow_cast-count : goal.overflow_cast-count
+overflow_cast-count c = omega (arith, rank_low (flag c.args.stay.now) c.names.name, c.names.invariant.count, c.names-test.true, c.requires)

@@ -1,7 +1,8 @@
-use Rattle.std.proofs.Common.{◌∙◌, ap, length, map, nat_lt, refl, sym}
+use Rattle.std.proofs.Common.{◌∙◌, ap, filter, length, map, nat_lt, refl, sym}
 use Rattle.std.proofs.lemmas.Bool.{le-ltb, lt-ltb}
-use Rattle.safra_trees.proofs.flat_step.Loops.{listed_names, mapped_names, names_without}
-use Rattle.safra_trees.specs.Flat.{at}
+use Rattle.safra_trees.proofs.flat_step.Loops.{mapped_names, names_without}
+use Rattle.safra_trees.proofs.flat_step.Splits.{filtered_names}
+use Rattle.safra_trees.specs.Flat.{at, is_high, is_low}
 use Rattle.safra_trees.proofs.passes.new_places.Goals as goal
 
 pub states-preserved-then-claim-owners : goal.states-preserved-then-claim-owners
@@ -10,7 +11,8 @@ states-preserved-then-claim-owners c =
     let owners = c.args.owners.now in
     let same = names_without (λ s. nat_lt (at claims s) (length owners)) c.states.state (le-ltb (at claims c.states.state) (length owners) c.if-claim-owners.true) in
     record {
-      states = c.states.invariant.states ∙ sym same;
+      low = c.states.invariant.low ∙ ap (filter (is_low c.args.narrow)) (sym same);
+      rest = c.states.invariant.rest ∙ ap (filter (is_high c.args.narrow)) (sym same);
       places = c.states.invariant.places ∙ ap (map (λ s. at c.args.ranks.now (at owners (at claims s)))) (sym same);
     }
 
@@ -20,7 +22,10 @@ states-preserved c =
     let owners = c.args.owners.now in
     let here = lt-ltb (at claims c.states.state) (length owners) c.if-claim-owners.false in
     record {
-      states = listed_names (λ s. nat_lt (at claims s) (length owners)) c.states.state c.states.states.items c.push.new.self.items here c.states.invariant.states c.in_ok-push.ensures.items;
-      places = mapped_names (λ s. at c.args.ranks.now (at owners (at claims s))) (λ s. nat_lt (at claims s) (length owners)) c.states.state c.states.places.items c.push-in-states.new.self.items _
-          here c.states.invariant.places refl c.in_ok-push-2.ensures.items;
+      low = filtered_names (is_low c.args.narrow) (λ s. nat_lt (at claims s) (length owners)) c.states.state c.states.low.items c.list_state.new.low.items here c.states.invariant.low
+          c.in_ok-list_state.ensures.low;
+      rest = filtered_names (is_high c.args.narrow) (λ s. nat_lt (at claims s) (length owners)) c.states.state c.states.rest.items c.list_state.new.rest.items here c.states.invariant.rest
+          c.in_ok-list_state.ensures.rest;
+      places = mapped_names (λ s. at c.args.ranks.now (at owners (at claims s))) (λ s. nat_lt (at claims s) (length owners)) c.states.state c.states.places.items c.push.new.self.items _
+          here c.states.invariant.places refl c.in_ok-push.ensures.items;
     }

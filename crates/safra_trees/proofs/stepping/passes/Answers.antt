@@ -1,27 +1,19 @@
-use Rattle.std.proofs.Common.{◌≡◌, ◌∙◌, ◌+◌, ◌<◌, All, Bool, List, ap, arith, length, subst, sym, ℕ}
+use Rattle.std.proofs.Common.{◌∙◌, ◌+◌, ◌<◌, All, Bool, List, ap, arith, length, subst, sym, ℕ}
 use Rattle.std.specs.List.{list_any}
 use Rattle.aut_base.specs.declared.limit.TheConstants.{MOST_NODES}
-use Rattle.safra_trees.proofs.flat_step.Placed.{stored_root}
 use Rattle.safra_trees.proofs.flat_step.Survey.{IsSurvey, all_below, surveyed}
 use Rattle.safra_trees.specs.Flat.{at}
-use Rattle.safra_trees.specs.Trees.{has, root_states}
-use Rattle.safra_trees.specs.View.{tree_of}
+use Rattle.safra_trees.specs.Trees.{has}
 use Rattle.safra_trees.specs.inner.Claims.{claim, grown_parent}
 use Rattle.safra_trees.specs.inner.Passes.{AreOwners, ends_at}
+use Rattle.safra_trees.specs.inner.Slices.{states_in}
 use Rattle.safra_trees.proofs.stepping.passes.Goals as goal
-
-pub places_by_state-requires-clause-states : goal.places_by_state-requires-clause-states
-places_by_state-requires-clause-states c =
-    let tree = c.args.tree.now in
-    let e : root_states (tree_of tree) ≡ c.as_slice.result.now = stored_root tree.parents tree.states tree.places tree.stored ∙ sym c.as_slice.ensures in
-    subst (λ xs. All (λ s. s < c.args.states) xs) e c.requires.states
 
 pub claims-requires-clause-order : goal.claims-requires-clause-order
 claims-requires-clause-order c =
-    let tree = c.args.tree.now in
     let order = c.in_ok-order.order.items in
     subst (λ xs. All (λ x. x < MOST_NODES) xs) (sym c.deref.ensures.value)
-    (all_below order MOST_NODES (λ k less. omega (arith, c.in_ok-order.ensures.order.below k (omega (arith, less, c.in_ok-order.ensures.size)), ap length c.as_slice-parents.ensures, tree.stored.few)))
+    (all_below order MOST_NODES (λ k less. omega (arith, c.in_ok-order.ensures.order.below k (omega (arith, less, c.in_ok-order.ensures.size)), c.requires.stored.few)))
 
 pub surviving-requires-clause-low : goal.surviving-requires-clause-low
 surviving-requires-clause-low c =
@@ -34,9 +26,9 @@ returns c =
     let tree = c.args.tree.now in
     let n = c.args.states in
     let ms = c.args.moves.now in
-    let p = c.as_slice-parents.result.now in
-    let s = c.as_slice.result.now in
-    let o = c.as_slice-2.result.now in
+    let p = tree.parents.now in
+    let s = states_in tree in
+    let o = tree.places.now in
     let order = c.in_ok-order.order.items in
     let found = c.in_ok-places.places.items in
     let claims = c.in_ok-claims.claims.items in
@@ -61,7 +53,4 @@ returns c =
       stays = λ y less. c.in_ok-stay.ensures.stay y (omega (arith, less, ap length c.deref-5.ensures.value))
           ∙ (ap (λ xs. list_any (ends_at xs y) c.deref-6.result.now) c.deref-5.ensures.value ∙ ap (λ (ys : List ℕ). list_any (ends_at owners y) ys) c.deref-6.ensures.value);
     } in
-    let one = subst (λ xs. IsSurvey n ms xs s o order found claims own owners stay) c.as_slice-parents.ensures survey in
-    let two = subst (λ xs. IsSurvey n ms tree.parents xs o order found claims own owners stay) c.as_slice.ensures one in
-    let three = subst (λ xs. IsSurvey n ms tree.parents tree.states xs order found claims own owners stay) c.as_slice-2.ensures two in
-    surveyed n ms tree.parents tree.states tree.places order found claims own owners stay tree.stored c.requires.moves three
+    surveyed n ms p s o order found claims own owners stay c.requires.stored c.requires.moves survey
