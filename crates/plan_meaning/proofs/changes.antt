@@ -1,4 +1,5 @@
 -- What the changes of a plan make of an automaton, and what is promised of it.
+pub mod ChangeExamples
 pub mod ChangeLaws
 pub mod ChangeLists
 pub mod Combinations

@@ -4,6 +4,7 @@ pub mod Canonical
 pub mod CanonicalEdges
 pub mod CanonicalRuns
 pub mod Comparing
+pub mod FilterExamples
 pub mod FilterLists
 pub mod Kept
 pub mod Meeting

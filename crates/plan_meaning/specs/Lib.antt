@@ -1,5 +1,7 @@
+pub mod ChangeExamples
 pub mod Changes
 pub mod Complements
+pub mod FilterExamples
 pub mod Filters
 pub mod Laws
 pub mod Limits
