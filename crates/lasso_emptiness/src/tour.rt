@@ -45,31 +45,31 @@ pub(crate) fn add_way(
     edges: &[EdgeRef],
     from: u32,
     to: u32,
-    way: &mut LiveEdges,
+    path_edges: &mut LiveEdges,
 ) -> Result<(), Memory>
     requires arcs { graph.now.arcs ≡ map arc_of edges.now }
     requires ends { All (λ e. (e.from < graph.now.nodes) × (e.to < graph.now.nodes)) edges.now }
     requires from { from < graph.now.nodes }
     requires to { to < graph.now.nodes }
     requires reaches { Reaches (map arc_of edges.now) from to }
-    ensures { OnOk result (ExtendsPath (Contains edges.now) from to way.old way.new) }
+    ensures { OnOk result (ExtendsPath (Contains edges.now) from to path_edges.old path_edges.new) }
 {
     if from == to {
         return Ok(());
     }
     match path(alloc, graph, from, to)? {
-        Some(places) => add_places(edges, places.as_slice(), way),
+        Some(places) => add_places(edges, places.as_slice(), path_edges),
         None => Ok(()),
     }
 }
 
 /// Adds the edges at these indices.
-fn add_places(edges: &[EdgeRef], places: &[usize], way: &mut LiveEdges) -> Result<(), Memory>
+fn add_places(edges: &[EdgeRef], places: &[usize], path_edges: &mut LiveEdges) -> Result<(), Memory>
     requires { All (λ place. place < length edges.now) places.now }
-    ensures { OnOk result (way.new ≡ way.old ++ map (listed_edge edges.now) places.now) }
+    ensures { OnOk result (path_edges.new ≡ path_edges.old ++ map (listed_edge edges.now) places.now) }
 {
     'places: for place in places {
-        way.push(edges[*place])?;
+        path_edges.push(edges[*place])?;
     }
     Ok(())
 }

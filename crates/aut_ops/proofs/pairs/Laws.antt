@@ -59,7 +59,7 @@ module _ (a b : Automaton) (names : b.names ≡ a.names) (formed : IsWellFormed 
   led_start : (pair : ℕ × ℕ) → Contains (start_pairs a b) pair → AreLedTo a b pair
   led_start pair there =
       let starts = from_start a b pair there in
-      record { letters = []; first = pair.0; second = pair.1; is_first = starts.0; is_second = starts.1; path = []; other = []; leads = refl; leads_too = refl }
+      record { letters = []; first = pair.0; second = pair.1; is_first = starts.0; is_second = starts.1; path_edges = []; other = []; leads = refl; leads_too = refl }
 
   led_next : (pair next : ℕ × ℕ) → AreLedTo a b pair → Contains (next_pairs a b pair) next → AreLedTo a b next
   led_next pair next led there =
@@ -77,9 +77,9 @@ module _ (a b : Automaton) (names : b.names ≡ a.names) (formed : IsWellFormed 
         second = led.second;
         is_first = led.is_first;
         is_second = led.is_second;
-        path = led.path ++ of.first ∷ [];
+        path_edges = led.path_edges ++ of.first ∷ [];
         other = led.other ++ of.second ∷ [];
-        leads = path_join a led.first pair.0 next.0 led.letters (letter ∷ []) led.path (of.first ∷ []) led.leads (sym of.first_from, of.in_first, both.0, ap (λ (x : ℕ × ℕ). x.0) to);
+        leads = path_join a led.first pair.0 next.0 led.letters (letter ∷ []) led.path_edges (of.first ∷ []) led.leads (sym of.first_from, of.in_first, both.0, ap (λ (x : ℕ × ℕ). x.0) to);
         leads_too = path_join b led.second pair.1 next.1 led.letters (letter ∷ []) led.other (of.second ∷ []) led.leads_too
             (sym of.second_from, of.in_second, subst (λ ns. truth (holds_at ns letter) of.second.label ≡ true) (sym names) both.1, ap (λ (x : ℕ × ℕ). x.1) to);
       }
@@ -102,6 +102,6 @@ module _ (a b : Automaton) (names : b.names ≡ a.names) (formed : IsWellFormed 
 pub reached_by_letters : ReachedByLetters
 reached_by_letters a b names formed also pair = (
   reached_keeps (AreLedTo a b) (start_pairs a b) (next_pairs a b) (led_start a b names formed also) (led_next a b names formed also) pair,
-  λ led. reached_path a b names formed also led.first led.second pair.0 pair.1 led.letters led.path led.other
+  λ led. reached_path a b names formed also led.first led.second pair.0 pair.1 led.letters led.path_edges led.other
       (reached_start (start_pairs a b) (next_pairs a b) (led.first, led.second) (there_start a b led.first led.second led.is_first led.is_second)) led.leads led.leads_too,
 )
