@@ -6,6 +6,7 @@ pub mod MadePlans
 pub mod Noting
 pub mod OpenedNames
 pub mod Prepared
+pub mod RunExamples
 pub mod Running
 pub mod Stepped
 pub mod Stepping

@@ -15,6 +15,7 @@ pub mod Points
 pub mod Preparing
 pub mod RefutationLine
 pub mod Run
+pub mod RunExamples
 pub mod Runs
 pub mod Status
 pub mod Turns
