@@ -95,15 +95,15 @@ module _ (q : Plan) (first second : Option Pattern) (same_first : option_map wor
   dropped : (ops : List Automaton) (a : Automaton) → IsDropped r ops a → IsDropped q ops a
   dropped ops a h = subst (λ (fs : List Filter). IsDroppedBy q.invert fs a) (same_filters ops) h
 
-  same_result : (ops : List Automaton) (w : Written) (m : Automaton) → IsResult r ops w m → IsResult q ops w m
-  same_result ops w m h = record { makes = h.makes; promises = h.promises; few_sets = λ is. few (h.few_sets is); accepts = h.accepts }
+  made : (ops : List Automaton) (w : Written) (m : Automaton) → IsResult r ops w m → IsResult q ops w m
+  made ops w m h = record { makes = h.makes; promises = h.promises; few_sets = λ is. few (h.few_sets is); accepts = h.accepts }
     where
       few : HasFewSetsUnder r ops (canonical (described w)) m → HasFewSetsUnder q ops (canonical (described w)) m
       few h = record { before = h.before; makes = h.makes; few = h.few }
 
   printed : (o : Output) (ops : List Automaton) (w : Written) (text : List ℕ) → IsPrinted o r ops w text → IsPrinted o q ops w text
-  printed Hoa ops w text h = record { same_result = h.made; is_made = same_result ops w h.made h.is_made; same = h.same; reads_as = h.reads_as }
-  printed (Stats pieces) ops w text h = record { same_result = h.made; is_made = same_result ops w h.made h.is_made; line = h.line }
+  printed Hoa ops w text h = record { made = h.made; is_made = made ops w h.made h.is_made; same = h.same; reads_as = h.reads_as }
+  printed (Stats pieces) ops w text h = record { made = h.made; is_made = made ops w h.made h.is_made; line = h.line }
   printed (Refute file) ops w text h = h
 
   due_where : (b : Bool) (ops : List Automaton) (w : Written) (text : List ℕ) → IsDueWhere b r ops w text → IsDueWhere b q ops w text
@@ -177,7 +177,7 @@ module _ (q : Plan) (first second : Option Pattern) (same_first : option_map wor
   left_behind : (texts : Texts) (left : Option (List ℕ)) (o : Outcome) (now : Option (List ℕ)) → IsLeftBehind r texts left o now → IsLeftBehind q texts left o now
   left_behind texts left o now (inl (is, inl none)) = inl (is, inl none)
   left_behind texts left o now (inl (is, inr h)) = inl (is, inr (before texts left o h))
-  left_behind texts left o now (inr (same_result, point, read, is)) = inr (same_result, point, all_read texts left o.taken point read, is)
+  left_behind texts left o now (inr (made, point, read, is)) = inr (made, point, all_read texts left o.taken point read, is)
 
   ended : (texts : Texts) (left : Option (List ℕ)) (o : Outcome) → IsEnded r texts left o → IsEnded q texts left o
   ended texts left o h = record { by_text = h.by_text; ran = either h.ran }

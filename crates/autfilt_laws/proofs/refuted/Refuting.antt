@@ -23,7 +23,7 @@ use Rattle.word_syntax.specs.Printing.{HoldsOnly}
 
 -- a counterexample over the names of both, whether it is reduced or not
 record Refuting (a b : Automaton) (x y : List NameSet) : Type 0 where
-  cycle_has_letters : 0 < length y
+  goes_on : 0 < length y
   own_names : All (HoldsOnly (joined_names a.names b.names)) (x ++ y)
   accepted : Accepts a x y
   rejected : Accepts b x y → ⊥
@@ -34,7 +34,7 @@ respelled : (a b : Automaton) (x y u v : List NameSet) → 0 < length v → ((z 
 respelled a b x y u v some within same r =
     let P = HoldsOnly (joined_names a.names b.names) in
     record {
-      cycle_has_letters = some;
+      goes_on = some;
       own_names = each_there P (u ++ v) (λ z there. All-contains P (x ++ y) z r.own_names (within z there));
       accepted = (same_word_same_verdict a x y u v r.goes_on some same).0 r.accepted;
       rejected = λ also. r.rejected ((same_word_same_verdict b x y u v r.goes_on some same).1 also);
@@ -63,7 +63,7 @@ copies_longer w k more some =
 -- where no reduced word is a counterexample, none is
 no_word : (a b : Automaton) → ((w : Lasso) → Refutes a b w → ⊥) → (fuel : ℕ) (x y : List NameSet) → length x + length y < fuel → Refuting a b x y → ⊥
 no_word a b none zero x y small r = absurd (omega (arith, small))
-no_word a b none (suc n) x y small r = none (record { stem = x; cycle = y; cycle_has_letters = r.goes_on }) (record {
+no_word a b none (suc n) x y small r = none (record { stem = x; cycle = y; goes_on = r.goes_on }) (record {
   reduced = record {
     primitive = λ w k more is. (
         let as_copies : Refuting a b x (copies k w) = subst (λ (z : List NameSet). Refuting a b x z) is r in
@@ -93,7 +93,7 @@ with_own_names a b u v accepted rejected =
     let first : Knows names a = λ name there. All-contains (Contains names) a.names name both.first there in
     let second : Knows names b = λ name there. All-contains (Contains names) b.names name both.second there in
     record {
-      cycle_has_letters = omega (arith, accepted.endless, length-map v f);
+      goes_on = omega (arith, accepted.endless, length-map v f);
       own_names = All-append P (map f u) (map f v)
           (All-map P f u (λ k d within. restricted_holds names (get_or u k d))) (All-map P f v (λ k d within. restricted_holds names (get_or v k d)));
       accepted = (read_alike a names first u v).0 accepted;
