@@ -1,4 +1,4 @@
-//! Safra trees as lists of sets, and their step, written out part by part as in the papers.
+//! Safra trees as lists of sets, and their step, written out part by part (Safra 1988, Piterman 2007).
 
 use safra_trees::Move;
 use std::alloc::{AllocError, Global};
