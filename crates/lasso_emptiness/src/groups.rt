@@ -51,7 +51,8 @@ fn add_to_group(
     edge: EdgeRef,
 ) -> Result<(), Memory>
     requires { number < 4294967296 }
-    ensures { OnOk result ((k : ℕ) → slice_index_or groups.new.items k [] ≡ (if nat_eq k number then slice_index_or groups.old.items k [] ++ edge ∷ [] else slice_index_or groups.old.items k [])) }
+    ensures { OnOk result ((k : ℕ) → slice_index_or groups.new.items k []
+        ≡ (if nat_eq k number then slice_index_or groups.old.items k [] ++ edge ∷ [] else slice_index_or groups.old.items k [])) }
 {
     make_groups(alloc, groups, number)?;
     groups[number].push(edge)?;

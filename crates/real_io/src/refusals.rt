@@ -40,7 +40,8 @@ impl Refusals {
         requires { 0 < length block.old }
         ensures size { length block.new ≡ length block.old }
         ensures within { IfOk result (λ found. MatchOption found (Unit {0}) (λ count. count ≤ length block.new)) }
-        ensures takes { IfOk result (λ found. MatchOption found (Keeps (R.remaining reader.old) (R.remaining reader.new)) (λ count. Consumes (R.remaining reader.old) (R.remaining reader.new) (held block.new 0 count))) }
+        ensures takes { IfOk result (λ found. MatchOption found (Keeps (R.remaining reader.old) (R.remaining reader.new))
+            (λ count. Consumes (R.remaining reader.old) (R.remaining reader.new) (held block.new 0 count))) }
         ensures end { IfOk result (λ found. MatchOption found (Unit {0}) (λ count. count ≡ 0 → IsAtEnd (R.remaining reader.new))) }
         ensures keeps { OnErr result (Keeps (R.remaining reader.old) (R.remaining reader.new)) }
         ensures failed { OnErr result (Rose self.old self.new) }

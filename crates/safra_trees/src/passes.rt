@@ -213,7 +213,8 @@ pub(crate) fn new_places(
     requires low { (x : ℕ) → x < length owners.now → at owners.now x ≤ x }
     ensures low { IfOk result (λ made. made.low.items ≡ filter (is_low narrow) (names_where (λ s. nat_lt (at claims.now s) (length owners.now)) (length claims.now))) }
     ensures rest { IfOk result (λ made. made.rest.items ≡ filter (is_high narrow) (names_where (λ s. nat_lt (at claims.now s) (length owners.now)) (length claims.now))) }
-    ensures places { IfOk result (λ made. made.places.items ≡ map (λ s. at ranks.now (at owners.now (at claims.now s))) (names_where (λ s. nat_lt (at claims.now s) (length owners.now)) (length claims.now))) }
+    ensures places { IfOk result (λ made. made.places.items
+        ≡ map (λ s. at ranks.now (at owners.now (at claims.now s))) (names_where (λ s. nat_lt (at claims.now s) (length owners.now)) (length claims.now))) }
 {
     let cut = claims.len().min(narrow as usize);
     let few = claimed(&claims[..cut], owners.len());

@@ -32,10 +32,12 @@ pub fn answer<I: Inputs, W: Sink, M: Sink>(
     requires { (name : List ℕ) → I.may_open name }
 
     // The run of the words after the first argument, byte for byte, or want of memory before it began.
-    ensures ran { IfOk args (λ list. into_iter_len list ≡ length (into_iter_items list) → EndsProgram (words_in (into_iter_items list)) result (I.seen inputs.old) (I.seen inputs.new) (W.seen out.old) (W.seen out.new) (M.seen notes.old) (M.seen notes.new)) }
+    ensures ran { IfOk args (λ list. into_iter_len list ≡ length (into_iter_items list)
+        → EndsProgram (words_in (into_iter_items list)) result (I.seen inputs.old) (I.seen inputs.new) (W.seen out.old) (W.seen out.new) (M.seen notes.old) (M.seen notes.new)) }
 
     // No run begins where the arguments can't be had.
-    ensures none { IfErr args (λ error. RefusesRun (end_without (error_kind error)) result (I.seen inputs.old) (I.seen inputs.new) (W.seen out.old) (W.seen out.new) (M.seen notes.old) (M.seen notes.new)) }
+    ensures none { IfErr args (λ error. RefusesRun (end_without (error_kind error)) result (I.seen inputs.old) (I.seen inputs.new)
+        (W.seen out.old) (W.seen out.new) (M.seen notes.old) (M.seen notes.new)) }
 {
     match words_of(alloc, args) {
         Ok(words) => exit_code(&autfilt(alloc, &words, inputs, out, notes)),
