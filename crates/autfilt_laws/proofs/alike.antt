@@ -12,6 +12,7 @@ mod Limits
 pub mod Looks
 pub mod OperandEnds
 pub mod Operands
+pub mod PlaceExamples
 pub mod Readable
 pub mod Runs
 pub mod SamePlans

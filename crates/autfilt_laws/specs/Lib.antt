@@ -1,3 +1,4 @@
 pub mod Answers
+pub mod PlaceExamples
 pub mod Places
 pub mod Runs

@@ -135,7 +135,7 @@ one_end_of_both x y a b = go a.before a.split
     go (c ∷ cs) e = absurd (omega (arith, simp length-append at (ap length e), simp length-append at (ap length b.split)))
 
 -- the prefix that shows it isn't longer than the one that was asked for
-no_later : (k start : ℕ) (text x y : List ℕ) → IsHopeless k start text x → AskedForLast start text y → Leaves y x
+pub no_later : (k start : ℕ) (text x y : List ℕ) → IsHopeless k start text x → AskedForLast start text y → Leaves y x
 no_later k start text x y h a =
     let l = asked_leaves start text (a.byte ∷ y) a.asked in
     go (either_longer h.used x l.before a.byte y (sym h.split ∙ l.split))
