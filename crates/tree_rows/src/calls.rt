@@ -1,11 +1,14 @@
 //! The calls of rows, by their names.
 
+ghost use Rattle.std.specs.Prelude.{◌<◌};
+
 use crate::automata::{back, chain};
 use crate::long_letters::letters;
 use crate::long_walk::long_walk;
+use crate::made::{Made, made_of};
 use aut_base::{Numbers, Text};
 use row_files::{Answers, Fault, Sequence, kind_and_rest, number, numbers, range};
-use safra_trees::{Event, Move, Moves, SafraTree, TreeFault, start, step};
+use safra_trees::{Move, Moves, SafraTree, start, step};
 use std::alloc::Global;
 
 /// Answers with the trees that are reached.
@@ -16,17 +19,18 @@ impl Answers for Trees {
     fn answer(&self, rt: &HostRuntime, call: &str, text: &Text) -> Result<Text, Fault> {
         let alloc = rt.alloc();
         let lines = std::str::from_utf8(text.as_bytes()).unwrap_or("");
-        let answer = match call {
-            "walk" => walk(alloc, lines)?,
-            "chain" => chained(alloc, lines, false)?,
-            "chain_and_back" => chained(alloc, lines, true)?,
-            "steps" => {
-                let (first, steps) = kind_and_rest(lines);
-                steps_told(alloc, number(first)?, number(steps)?)?
-            }
-            _ => return Err(Fault::UnknownKind),
-        };
+        let answer = answer(alloc, call, lines)?;
         Ok(Text::from_bytes(alloc, answer.as_bytes())?)
+    }
+}
+
+fn answer(alloc: Global, call: &str, lines: &str) -> Result<String, Fault> {
+    match call {
+        "walk" => walk(alloc, lines),
+        "chain" => chained(alloc, lines, false),
+        "chain_and_back" => chained(alloc, lines, true),
+        "steps" => steps(alloc, lines),
+        _ => Err(Fault::UnknownKind),
     }
 }
 
@@ -35,54 +39,84 @@ impl Answers for Trees {
 /// the moves of a letter.
 fn walk(alloc: Global, lines: &str) -> Result<String, Fault> {
     let (first, letters) = lines.split_once('\n').unwrap_or((lines, ""));
-    let starts = if first == "-" {
-        Numbers::new(alloc)
-    } else {
-        numbers(alloc, first)?
-    };
-    let tree = start(alloc, &starts)?;
+    let tree = tree_of_starts(alloc, first)?;
     let mut answer = format!(in alloc; "{}", tree.nodes())?;
     let mut trees = Vec::new(alloc);
     trees.push(tree)?;
     for line in letters.lines() {
-        take(alloc, &mut trees, &moves(alloc, line)?, &mut answer)?;
+        take(alloc, &mut trees, line, &mut answer)?;
     }
     Ok(answer)
 }
 
-/// Steps the last tree, adds the answer, and adds the new tree to the list.
+/// The first tree of these starts, or of none for `-`.
+fn tree_of_starts(alloc: Global, line: &str) -> Result<Box<SafraTree>, Fault> {
+    let starts = if line == "-" {
+        Numbers::new(alloc)
+    } else {
+        numbers(alloc, line)?
+    };
+    boxed_start(alloc, &starts)
+}
+
+fn boxed_start(alloc: Global, starts: &Numbers) -> Result<Box<SafraTree>, Fault> {
+    Ok(Box::new(alloc, start(alloc, starts)?)?)
+}
+
+/// Steps the last tree under the moves of a line, adds the answer, and adds the new tree to the list.
 fn take(
     alloc: Global,
-    trees: &mut Vec<SafraTree>,
-    moves: &Moves,
+    trees: &mut Vec<Box<SafraTree>>,
+    line: &str,
     answer: &mut String,
 ) -> Result<(), Fault> {
     let Some(last) = trees.last() else {
         return Err(Fault::Missing);
     };
-    let Some((tree, event)) = next(alloc, last, moves)? else {
+    let Some(made) = next_by_line(alloc, last, line)? else {
         answer.push_str(", too many")?;
         return Ok(());
     };
-    let told = told(alloc, &tree, &event)?;
-    answer.push_str(", ")?;
-    answer.push_str(told.as_str())?;
-    for (place, earlier) in trees.iter().enumerate() {
-        if *earlier == tree {
-            let same = format!(in alloc; " ={place}")?;
-            answer.push_str(same.as_str())?;
-            break;
-        }
-    }
-    trees.push(tree)?;
+    tell(alloc, trees, &made, answer)?;
+    trees.push(made.tree)?;
     Ok(())
 }
 
+fn next_by_line(alloc: Global, tree: &SafraTree, line: &str) -> Result<Option<Made>, Fault> {
+    let moves = moves(alloc, line)?;
+    next(alloc, tree, &moves)
+}
+
+/// Adds what a step answered, and which earlier tree equals the new one.
+fn tell(
+    alloc: Global,
+    trees: &[Box<SafraTree>],
+    made: &Made,
+    answer: &mut String,
+) -> Result<(), Fault> {
+    answer.push_str(", ")?;
+    answer.push_str(told(alloc, made)?.as_str())?;
+    if let Some(place) = earlier(trees, &made.tree) {
+        answer.push_str(format!(in alloc; " ={place}")?.as_str())?;
+    }
+    Ok(())
+}
+
+/// The first of the trees that equals this one.
+fn earlier(trees: &[Box<SafraTree>], tree: &SafraTree) -> Option<usize> {
+    for (place, earlier) in trees.iter().enumerate() {
+        if **earlier == *tree {
+            return Some(place);
+        }
+    }
+    None
+}
+
 /// The number of nodes of a tree, and the least red and green names.
-fn told(alloc: Global, tree: &SafraTree, event: &Event) -> Result<String, Fault> {
-    let red = name(alloc, event.red)?;
-    let green = name(alloc, event.green)?;
-    Ok(format!(in alloc; "{} {red} {green}", tree.nodes())?)
+fn told(alloc: Global, made: &Made) -> Result<String, Fault> {
+    let red = name(alloc, made.event.red)?;
+    let green = name(alloc, made.event.green)?;
+    Ok(format!(in alloc; "{} {red} {green}", made.tree.nodes())?)
 }
 
 fn name(alloc: Global, name: Option<u32>) -> Result<String, Fault> {
@@ -92,61 +126,84 @@ fn name(alloc: Global, name: Option<u32>) -> Result<String, Fault> {
     }
 }
 
-/// Reads the moves of a line: `FROM>TO`, or `FROM*TO` for an accepting one, separated by spaces; or `-`.
+/// Reads the moves of a line, separated by spaces; or `-`.
 fn moves(alloc: Global, line: &str) -> Result<Moves, Fault> {
     let mut moves = Moves::new(alloc);
     for word in line.split(' ') {
-        if word == "-" {
-            continue;
+        if word != "-" {
+            moves.push(one_move(word)?)?;
         }
-        let accepting = word.contains('*');
-        let sign = if accepting { '*' } else { '>' };
-        let Some((from, to)) = word.split_once(sign) else {
-            return Err(Fault::Missing);
-        };
-        moves.push(Move {
-            from: number(from)?,
-            to: number(to)?,
-            accepting,
-        })?;
     }
     Ok(moves)
+}
+
+/// Reads a move: `FROM>TO`, or `FROM*TO` for an accepting one.
+fn one_move(word: &str) -> Result<Move, Fault> {
+    let accepting = word.contains('*');
+    let sign = if accepting { '*' } else { '>' };
+    let Some((from, to)) = word.split_once(sign) else {
+        return Err(Fault::Missing);
+    };
+    Ok(Move {
+        from: number(from)?,
+        to: number(to)?,
+        accepting,
+    })
 }
 
 /// The number of nodes after so many steps of a chain of so many states; or with `goes_back`, what a further step that leads
 /// back to the first state answers.
 fn chained(alloc: Global, line: &str, goes_back: bool) -> Result<String, Fault> {
     let (states, steps) = range(line)?;
-    let moves = chain(alloc, states)?;
-    let mut starts = Numbers::new(alloc);
-    starts.push(0)?;
-    let mut tree = start(alloc, &starts)?;
-    for _ in 0..steps {
-        match next(alloc, &tree, &moves)? {
-            Some((after, _)) => tree = after,
-            None => return Ok(String::from_str(alloc, "too many")?),
-        }
-    }
+    let Some(tree) = after_chain(alloc, states, steps)? else {
+        return Ok(String::from_str(alloc, "too many")?);
+    };
     if !goes_back || states == 0 {
         return Ok(format!(in alloc; "{}", tree.nodes())?);
     }
-    match next(alloc, &tree, &back(alloc, states)?)? {
-        Some((after, event)) => told(alloc, &after, &event),
+    told_back(alloc, &tree, states)
+}
+
+/// The tree after so many steps of a chain of so many states, or None where one has too many nodes.
+fn after_chain(alloc: Global, states: u32, steps: u32) -> Result<Option<Box<SafraTree>>, Fault> {
+    let moves = chain(alloc, states)?;
+    let mut tree = first(alloc)?;
+    for _ in 0..steps {
+        match next(alloc, &tree, &moves)? {
+            Some(made) => tree = made.tree,
+            None => return Ok(None),
+        }
+    }
+    Ok(Some(tree))
+}
+
+/// The tree of the first state alone.
+fn first(alloc: Global) -> Result<Box<SafraTree>, Fault> {
+    let mut starts = Numbers::new(alloc);
+    starts.push(0)?;
+    boxed_start(alloc, &starts)
+}
+
+/// What a step of the tree that leads back to the first of so many states answers.
+fn told_back(alloc: Global, tree: &SafraTree, states: u32) -> Result<String, Fault>
+    requires { 0 < states }
+{
+    let moves = back(alloc, states)?;
+    match next(alloc, tree, &moves)? {
+        Some(made) => told(alloc, &made),
         None => Err(Fault::Failed),
     }
 }
 
 /// The next tree, or None where it has too many nodes.
-fn next(
-    alloc: Global,
-    tree: &SafraTree,
-    moves: &Moves,
-) -> Result<Option<(SafraTree, Event)>, Fault> {
-    match step(alloc, tree, moves) {
-        Ok(made) => Ok(Some(made)),
-        Err(TreeFault::Nodes) => Ok(None),
-        Err(TreeFault::Memory) => Err(Fault::Memory),
-    }
+fn next(alloc: Global, tree: &SafraTree, moves: &Moves) -> Result<Option<Made>, Fault> {
+    made_of(alloc, step(alloc, tree, moves))
+}
+
+/// From `SEED STEPS`: what is seen on a long walk.
+fn steps(alloc: Global, line: &str) -> Result<String, Fault> {
+    let (first, steps) = kind_and_rest(line);
+    steps_told(alloc, number(first)?, number(steps)?)
 }
 
 /// What is seen on a long walk, in two lines. The first argument is the seed of the random sequence.

@@ -4,11 +4,12 @@ ghost use Rattle.std.specs.Prelude.{◌<◌, All, IsTrue};
 ghost use Rattle.safra_trees.specs.Events.{IsMoveInRange};
 
 use crate::automata::{every_letter, moves_by_chance};
-use crate::plain::{PlainNode, is_set, plain_start, plain_step};
+use crate::made::{Made, made_of};
+use crate::plain::{PlainNode, PlainStep, is_set, plain_start, plain_step};
 use crate::stored::is_stored;
 use aut_base::Numbers;
 use row_files::{Count, Fault, Sequence};
-use safra_trees::{Event, Move, Moves, SafraTree, Scratch, TreeFault, start, step, step_in_room};
+use safra_trees::{Move, Moves, SafraTree, Scratch, TreeFault, start, step, step_in_room};
 use std::alloc::Global;
 
 /// An upper bound for the number of trees of three states.
@@ -17,7 +18,7 @@ const MOST_TREES: usize = 100;
 /// A tree, and the plain one that it should equal.
 #[derive(Drop)]
 struct Pair {
-    tree: SafraTree,
+    tree: Box<SafraTree>,
     plain: Vec<PlainNode>,
 }
 
@@ -68,15 +69,11 @@ fn visit(
     moves: &Moves,
     count: &mut Count,
 ) -> Result<(), Fault> {
-    let Some(pair) = pairs.get(place) else {
+    let Some(pair) = after(alloc, states, pairs, place, moves, count)? else {
         return Err(Fault::Failed);
     };
-    let Some(stepped) = both(alloc, states, pair, moves)? else {
-        return Err(Fault::Failed);
-    };
-    count.add(!stepped.agrees || !are_alike(pairs, &stepped.pair));
-    if is_new(pairs, &stepped.pair) {
-        pairs.push(stepped.pair)?;
+    if is_new(pairs, &pair) {
+        pairs.push(pair)?;
     }
     Ok(())
 }
@@ -90,20 +87,37 @@ fn walk(
     count: &mut Count,
 ) -> Result<(), Fault> {
     let mut pairs = Vec::new(alloc);
-    let mut pair = first(alloc, states)?;
-    for _ in 0..50 {
+    pairs.push(first(alloc, states)?)?;
+    for place in 0..50 {
         let choice = sequence.next(2) as usize;
         let Some(moves) = letters.get(choice) else {
             return Ok(());
         };
-        let Some(stepped) = both(alloc, states, &pair, moves)? else {
-            return Ok(());
-        };
-        count.add(!stepped.agrees || !are_alike(&pairs, &stepped.pair));
-        pairs.push(pair)?;
-        pair = stepped.pair;
+        match after(alloc, states, &pairs, place, moves, count)? {
+            Some(pair) => pairs.push(pair)?,
+            None => return Ok(()),
+        }
     }
     Ok(())
+}
+
+/// What the pair at an index is after a step, which is counted as a row; None where there are too many nodes.
+fn after(
+    alloc: Global,
+    states: u32,
+    pairs: &[Pair],
+    place: usize,
+    moves: &Moves,
+    count: &mut Count,
+) -> Result<Option<Pair>, Fault> {
+    let Some(pair) = pairs.get(place) else {
+        return Err(Fault::Failed);
+    };
+    let Some(stepped) = both(alloc, states, pair, moves)? else {
+        return Ok(None);
+    };
+    count.add(!stepped.agrees || !are_alike(pairs, &stepped.pair));
+    Ok(Some(stepped.pair))
 }
 
 fn first(alloc: Global, states: u32) -> Result<Pair, Fault> {
@@ -112,22 +126,25 @@ fn first(alloc: Global, states: u32) -> Result<Pair, Fault> {
         starts.push(0)?;
     }
     Ok(Pair {
-        tree: start(alloc, &starts)?,
+        tree: Box::new(alloc, start(alloc, &starts)?)?,
         plain: plain_start(alloc, states, starts.as_slice())?,
     })
 }
 
-/// The next tree, or `Fault::Failed` where an end of a move is no state.
+/// The next tree, or None where it has too many nodes. Fails where an end of a move is no state.
 fn next_tree(
     alloc: Global,
     states: u32,
     tree: &SafraTree,
     moves: &Moves,
-) -> Result<Result<(SafraTree, Event), TreeFault>, Fault> {
+) -> Result<Option<Made>, Fault> {
     if !are_states(states, tree.root_states()) || !are_within(states, moves.as_slice()) {
         return Err(Fault::Failed);
     }
-    Ok(step_in_room(alloc, states, tree, moves, &mut Scratch::new(alloc)))
+    made_of(
+        alloc,
+        step_in_room(alloc, states, tree, moves, &mut Scratch::new(alloc)),
+    )
 }
 
 /// Whether all are states.
@@ -156,24 +173,31 @@ fn are_within(states: u32, moves: &[Move]) -> bool
 
 /// The step of a tree and of the plain one, and whether they agree; None where there are too many nodes.
 fn both(alloc: Global, states: u32, pair: &Pair, moves: &Moves) -> Result<Option<Stepped>, Fault> {
-    match next_tree(alloc, states, &pair.tree, moves)? {
-        Ok((tree, event)) => {
-            let told = plain_step(alloc, &pair.plain, moves.as_slice())?;
-            let same = event.red == told.red && event.green == told.green;
-            let agrees = same
-                && gives_the_same(alloc, &pair.tree, moves, &tree, &event)?
-                && is_same_size(&tree, &told.tree)
-                && has_root(&tree, &told.tree)
-                && is_stored(alloc, &tree, &told.tree)?;
-            let pair = Pair {
-                tree,
-                plain: told.tree,
-            };
-            Ok(Some(Stepped { pair, agrees }))
-        }
-        Err(TreeFault::Nodes) => Ok(None),
-        Err(TreeFault::Memory) => Err(Fault::Memory),
+    let Some(made) = next_tree(alloc, states, &pair.tree, moves)? else {
+        return Ok(None);
+    };
+    let told = plain_step(alloc, &pair.plain, moves.as_slice())?;
+    let agrees = agree(alloc, &pair.tree, moves, &made, &told)?;
+    let pair = Pair {
+        tree: made.tree,
+        plain: told.tree,
+    };
+    Ok(Some(Stepped { pair, agrees }))
+}
+
+/// Whether the step of a tree is that of the plain one.
+fn agree(
+    alloc: Global,
+    tree: &SafraTree,
+    moves: &Moves,
+    made: &Made,
+    told: &PlainStep,
+) -> Result<bool, Fault> {
+    let same = made.event.red == told.red && made.event.green == told.green;
+    if !same || !is_same_size(&made.tree, &told.tree) || !has_root(&made.tree, &told.tree) {
+        return Ok(false);
     }
+    Ok(gives_the_same(alloc, tree, moves, made)? && is_stored(alloc, &made.tree, &told.tree)?)
 }
 
 /// Whether the step without a given number of states answers the same.
@@ -181,11 +205,10 @@ fn gives_the_same(
     alloc: Global,
     tree: &SafraTree,
     moves: &Moves,
-    made: &SafraTree,
-    event: &Event,
+    made: &Made,
 ) -> Result<bool, Fault> {
     match step(alloc, tree, moves) {
-        Ok((other, told)) => Ok(other == *made && told == *event),
+        Ok((other, told)) => Ok(other == *made.tree && told == made.event),
         Err(TreeFault::Nodes) => Ok(false),
         Err(TreeFault::Memory) => Err(Fault::Memory),
     }

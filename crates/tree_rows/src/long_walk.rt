@@ -64,13 +64,36 @@ pub(crate) fn long_walk(
         checksum: 0,
     };
     'steps: for _ in 0..steps {
-        let (next, event) = next_by_chance(alloc, &standing, letters, sequence, &mut room)?;
-        seen.add(&next.tree, &event);
-        if is_stepped(next.tree.nodes()) {
-            standing = next;
-        }
+        go_on(
+            alloc,
+            &mut standing,
+            letters,
+            sequence,
+            &mut room,
+            &mut seen,
+        )?;
     }
     Ok(seen)
+}
+
+/// Takes a step under a random letter, and counts it.
+fn go_on(
+    alloc: Global,
+    standing: &mut Standing,
+    letters: &[Moves],
+    sequence: &mut Sequence,
+    room: &mut Scratch,
+    seen: &mut Seen,
+) -> Result<(), Fault>
+    requires count { length letters.now ≡ LETTERS }
+    requires within { All (λ letter. All (IsMoveInRange STATES) letter) letters.now }
+{
+    let (next, event) = next_by_chance(alloc, standing, letters, sequence, room)?;
+    seen.add(&next.tree, &event);
+    if is_stepped(next.tree.nodes()) {
+        *standing = next;
+    }
+    Ok(())
 }
 
 /// The first tree: a chain of nodes.
@@ -79,9 +102,22 @@ fn first(alloc: Global) -> Result<Standing, Fault> {
     let moves = growing_letter(alloc)?;
     let mut room = Scratch::new(alloc);
     'steps: for _ in 1..FIRST_NODES {
-        standing = next(alloc, &standing, &moves, &mut room)?.0;
+        grow(alloc, &mut standing, &moves, &mut room)?;
     }
     Ok(standing)
+}
+
+/// Takes a step.
+fn grow(
+    alloc: Global,
+    standing: &mut Standing,
+    moves: &Moves,
+    room: &mut Scratch,
+) -> Result<(), Fault>
+    requires { All (IsMoveInRange STATES) moves.now }
+{
+    *standing = next(alloc, standing, moves, room)?.0;
+    Ok(())
 }
 
 /// The tree of the first state alone.

@@ -7,6 +7,7 @@ mod calls;
 mod compared;
 mod long_letters;
 mod long_walk;
+mod made;
 mod plain;
 mod stored;
 

@@ -21,10 +21,15 @@ pub(crate) fn is_stored(
     tree: &SafraTree,
     plain: &[PlainNode],
 ) -> Result<bool, Fault> {
-    let expected = stored(alloc, plain)?;
-    let text = format!(in alloc; "{expected:?}")?;
+    let expected = plain_text(alloc, plain)?;
     let found = format!(in alloc; "{tree:?}")?;
-    Ok(found.strip_prefix("Safra") == text.strip_prefix("Stored"))
+    Ok(found.strip_prefix("Safra") == expected.strip_prefix("Stored"))
+}
+
+/// The debug text of a plain tree as it would be stored.
+fn plain_text(alloc: Global, plain: &[PlainNode]) -> Result<String, Fault> {
+    let tree = stored(alloc, plain)?;
+    Ok(format!(in alloc; "{tree:?}")?)
 }
 
 fn stored(alloc: Global, plain: &[PlainNode]) -> Result<StoredTree, Fault> {
