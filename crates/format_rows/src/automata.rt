@@ -1,171 +1,181 @@
 //! An automaton as it was parsed, in words: a conjunction or disjunction in Polish notation.
 
+use crate::answer::Answer;
 use crate::conditions::show_formula;
-use crate::parts::{show_count, show_marks, show_number, show_numbers, show_text, show_texts};
-use aut_base::{Memory, Text};
+use aut_base::{Formula, Text};
+use hoa_lexer::Name;
 use hoa_parser::{Item, Raw, RawEdge, RawLabel, RawLabels, RawState, ReadFault};
-use std::alloc::Global;
 
 /// Adds a label.
 #[cycle(show_label)]
-fn show_label(alloc: Global, line: &mut Text, label: &RawLabel) -> Result<(), Memory> {
+fn show_label(answer: &mut Answer, label: &RawLabel) {
     match label {
-        RawLabel::True => line.push(b't'),
-        RawLabel::False => line.push(b'f'),
-        RawLabel::Prop(place) => show_number(alloc, line, u64::from(*place)),
-        RawLabel::Negated(place) => {
-            line.push(b'!')?;
-            show_number(alloc, line, u64::from(*place))
-        }
-        RawLabel::Cube { names, values } => show_cube(alloc, line, *names, *values),
-        RawLabel::Alias(name) => {
-            line.push(b'@')?;
-            line.extend(name.as_bytes())
-        }
         RawLabel::Not(inner) => {
-            line.push(b'!')?;
-            show_label(alloc, line, inner)
+            answer.add(b"!");
+            show_label(answer, inner);
         }
-        RawLabel::And(parts) => show_labels(alloc, line, b"(&", parts),
-        RawLabel::Or(parts) => show_labels(alloc, line, b"(|", parts),
+        RawLabel::And(parts) => show_labels(answer, b"(& ", parts),
+        RawLabel::Or(parts) => show_labels(answer, b"(| ", parts),
+        _ => show_leaf(answer, label),
+    }
+}
+
+/// Adds a label without parts, or `?` for another.
+fn show_leaf(answer: &mut Answer, label: &RawLabel) {
+    match label {
+        RawLabel::True => answer.add(b"t"),
+        RawLabel::False => answer.add(b"f"),
+        RawLabel::Prop(place) => answer.add_number(u64::from(*place)),
+        RawLabel::Negated(place) => {
+            answer.add(b"!");
+            answer.add_number(u64::from(*place));
+        }
+        RawLabel::Cube { names, values } => show_cube(answer, *names, *values),
+        RawLabel::Alias(name) => {
+            answer.add(b"@");
+            answer.add(name.as_bytes());
+        }
+        _ => answer.add(b"?"),
     }
 }
 
 /// Adds a conjunction of literals that are given by their bits.
-fn show_cube(alloc: Global, line: &mut Text, names: u32, values: u32) -> Result<(), Memory> {
-    line.extend(b"(&")?;
+fn show_cube(answer: &mut Answer, names: u32, values: u32) {
+    answer.add(b"(&");
     for place in 0..32_u32 {
         if (names >> place) % 2 == 1 {
-            line.push(b' ')?;
-            if (values >> place) % 2 == 0 {
-                line.push(b'!')?;
-            }
-            show_number(alloc, line, u64::from(place))?;
+            let sign: &[u8] = if (values >> place) % 2 == 0 {
+                b" !"
+            } else {
+                b" "
+            };
+            answer.add(sign);
+            answer.add_number(u64::from(place));
         }
     }
-    line.push(b')')
+    answer.add(b")");
 }
 
 /// Adds the parts of a label.
 #[cycle(show_label)]
-fn show_labels(
-    alloc: Global,
-    line: &mut Text,
-    sign: &[u8],
-    parts: &RawLabels,
-) -> Result<(), Memory> {
-    line.extend(sign)?;
-    line.push(b' ')?;
-    show_label(alloc, line, &parts.first)?;
-    line.push(b' ')?;
-    show_label(alloc, line, &parts.second)?;
+fn show_labels(answer: &mut Answer, sign: &[u8], parts: &RawLabels) {
+    answer.add(sign);
+    show_label(answer, &parts.first);
+    answer.add(b" ");
+    show_label(answer, &parts.second);
     for part in &parts.others {
-        line.push(b' ')?;
-        show_label(alloc, line, part)?;
+        answer.add(b" ");
+        show_label(answer, part);
     }
-    line.push(b')')
+    answer.add(b")");
 }
 
 /// Adds an item of the header.
-fn show_item(alloc: Global, line: &mut Text, item: &Item) -> Result<(), Memory> {
+fn show_item(answer: &mut Answer, item: &Item) {
     match item {
-        Item::States(count) => show_count(alloc, line, b"; states", *count),
-        Item::Start(states) => {
-            line.extend(b"; start")?;
-            show_numbers(alloc, line, states.as_slice())
-        }
-        Item::Ap { count, names } => {
-            show_count(alloc, line, b"; ap", *count)?;
-            show_texts(line, names.as_slice())
-        }
-        Item::Alias { name, label } => {
-            line.extend(b"; alias")?;
-            show_text(line, name.as_bytes())?;
-            line.push(b' ')?;
-            show_label(alloc, line, label)
-        }
-        Item::Acceptance { sets, formula } => {
-            show_count(alloc, line, b"; acceptance", *sets)?;
-            line.push(b' ')?;
-            show_formula(alloc, line, formula)
-        }
-        Item::AccName => line.extend(b"; acc-name"),
-        Item::Tool => line.extend(b"; tool"),
-        Item::Name(text) => {
-            line.extend(b"; name")?;
-            show_text(line, text.as_bytes())
-        }
-        Item::Properties(words) => {
-            line.extend(b"; properties")?;
-            for word in words.as_slice() {
-                show_text(line, word.as_bytes())?;
-            }
-            Ok(())
-        }
-        Item::Other(name) => {
-            line.extend(b"; other")?;
-            show_text(line, name.as_bytes())
-        }
+        Item::States(count) => answer.add_count(b"; states", *count),
+        Item::Start(states) => show_start(answer, states.as_slice()),
+        Item::Ap { count, names } => show_names(answer, *count, names.as_slice()),
+        Item::Alias { name, label } => show_alias(answer, name.as_bytes(), label),
+        Item::Acceptance { sets, formula } => show_acceptance(answer, *sets, formula),
+        Item::AccName => answer.add(b"; acc-name"),
+        Item::Tool => answer.add(b"; tool"),
+        Item::Name(text) => show_named(answer, b"; name", text.as_bytes()),
+        Item::Properties(words) => show_properties(answer, words.as_slice()),
+        Item::Other(name) => show_named(answer, b"; other", name.as_bytes()),
+    }
+}
+
+/// Adds the initial states.
+fn show_start(answer: &mut Answer, states: &[u32]) {
+    answer.add(b"; start");
+    answer.add_numbers(states);
+}
+
+/// Adds the propositions.
+fn show_names(answer: &mut Answer, count: u32, names: &[Text]) {
+    answer.add_count(b"; ap", count);
+    answer.add_texts(names);
+}
+
+/// Adds an alias.
+fn show_alias(answer: &mut Answer, name: &[u8], label: &RawLabel) {
+    show_named(answer, b"; alias", name);
+    answer.add(b" ");
+    show_label(answer, label);
+}
+
+/// Adds an acceptance condition and its number of sets.
+fn show_acceptance(answer: &mut Answer, sets: u32, formula: &Formula) {
+    answer.add_count(b"; acceptance", sets);
+    answer.add(b" ");
+    show_formula(answer, formula);
+}
+
+/// Adds a word and a text.
+fn show_named(answer: &mut Answer, word: &[u8], text: &[u8]) {
+    answer.add(word);
+    answer.add_text(text);
+}
+
+/// Adds the properties.
+fn show_properties(answer: &mut Answer, words: &[Name]) {
+    answer.add(b"; properties");
+    for word in words {
+        answer.add_text(word.as_bytes());
     }
 }
 
 /// Adds a label in brackets, where there is one.
-fn show_maybe(alloc: Global, line: &mut Text, label: &Option<RawLabel>) -> Result<(), Memory> {
+fn show_maybe(answer: &mut Answer, label: &Option<RawLabel>) {
     if let Some(label) = label {
-        line.extend(b" [")?;
-        show_label(alloc, line, label)?;
-        line.push(b']')?;
+        answer.add(b" [");
+        show_label(answer, label);
+        answer.add(b"]");
     }
-    Ok(())
 }
 
 /// Adds an edge.
-fn show_edge(alloc: Global, line: &mut Text, edge: &RawEdge) -> Result<(), Memory> {
-    line.push(b',')?;
-    show_maybe(alloc, line, &edge.label)?;
-    show_numbers(alloc, line, edge.to.as_slice())?;
-    show_marks(alloc, line, edge.marks.as_slice())
+fn show_edge(answer: &mut Answer, edge: &RawEdge) {
+    answer.add(b",");
+    show_maybe(answer, &edge.label);
+    answer.add_numbers(edge.to.as_slice());
+    answer.add_marks(edge.marks.as_slice());
 }
 
 /// Adds a state with its edges.
-fn show_state(alloc: Global, line: &mut Text, state: &RawState) -> Result<(), Memory> {
-    line.extend(b"; state")?;
-    show_maybe(alloc, line, &state.label)?;
-    show_count(alloc, line, b"", state.number)?;
-    show_marks(alloc, line, state.marks.as_slice())?;
+fn show_state(answer: &mut Answer, state: &RawState) {
+    answer.add(b"; state");
+    show_maybe(answer, &state.label);
+    answer.add_count(b"", state.number);
+    answer.add_marks(state.marks.as_slice());
     for edge in state.edges.as_slice() {
-        show_edge(alloc, line, edge)?;
+        show_edge(answer, edge);
     }
-    Ok(())
 }
 
 /// Adds all that was written, in order.
-pub(crate) fn show_raw(alloc: Global, line: &mut Text, raw: &Raw) -> Result<(), Memory> {
-    line.extend(raw.version.as_bytes())?;
+pub(crate) fn show_raw(answer: &mut Answer, raw: &Raw) {
+    answer.add(raw.version.as_bytes());
     for item in raw.items.as_slice() {
-        show_item(alloc, line, item)?;
+        show_item(answer, item);
     }
     for state in raw.states.as_slice() {
-        show_state(alloc, line, state)?;
+        show_state(answer, state);
     }
-    Ok(())
 }
 
 /// Adds a fault.
-pub(crate) fn show_read_fault(
-    alloc: Global,
-    line: &mut Text,
-    fault: ReadFault,
-) -> Result<(), Memory> {
+pub(crate) fn show_read_fault(answer: &mut Answer, fault: ReadFault) {
     match fault {
         ReadFault::Syntax(offset) => {
-            line.extend(b"syntax ")?;
-            show_number(alloc, line, offset)
+            answer.add(b"syntax ");
+            answer.add_number(offset);
         }
-        ReadFault::Truncated => line.extend(b"truncated"),
-        ReadFault::Depth => line.extend(b"depth"),
-        ReadFault::Bytes => line.extend(b"bytes"),
-        ReadFault::Read => line.extend(b"read"),
-        ReadFault::Memory => line.extend(b"memory"),
+        ReadFault::Truncated => answer.add(b"truncated"),
+        ReadFault::Depth => answer.add(b"depth"),
+        ReadFault::Bytes => answer.add(b"bytes"),
+        ReadFault::Read => answer.add(b"read"),
+        ReadFault::Memory => answer.add(b"memory"),
     }
 }

@@ -1,83 +1,72 @@
 //! An acceptance condition in words: a conjunction or disjunction in Polish notation.
 
-use crate::parts::show_number;
-use aut_base::{Formula, Formulas, Memory, Text};
-use std::alloc::Global;
+use crate::answer::Answer;
+use aut_base::{Formula, Formulas};
 
 /// Adds a set of a condition.
-fn show_set(
-    alloc: Global,
-    line: &mut Text,
-    word: &[u8],
-    set: u32,
-    neg: bool,
-) -> Result<(), Memory> {
-    line.extend(word)?;
+fn show_set(answer: &mut Answer, word: &[u8], set: u32, neg: bool) {
+    answer.add(word);
     if neg {
-        line.push(b'!')?;
+        answer.add(b"!");
     }
-    show_number(alloc, line, u64::from(set))
+    answer.add_number(u64::from(set));
 }
 
 /// Adds a condition without parts, or `?` for another.
-fn show_node(alloc: Global, line: &mut Text, formula: &Formula) -> Result<(), Memory> {
+fn show_node(answer: &mut Answer, formula: &Formula) {
     match formula {
-        Formula::True => line.push(b't'),
-        Formula::False => line.push(b'f'),
-        Formula::Inf { set, neg } => show_set(alloc, line, b"Inf ", *set, *neg),
-        Formula::Fin { set, neg } => show_set(alloc, line, b"Fin ", *set, *neg),
-        _ => line.push(b'?'),
+        Formula::True => answer.add(b"t"),
+        Formula::False => answer.add(b"f"),
+        Formula::Inf { set, neg } => show_set(answer, b"Inf ", *set, *neg),
+        Formula::Fin { set, neg } => show_set(answer, b"Fin ", *set, *neg),
+        _ => answer.add(b"?"),
     }
 }
 
 /// Adds the parts of a condition, none of which has parts.
-fn show_nodes(alloc: Global, line: &mut Text, parts: &Formulas) -> Result<(), Memory> {
+fn show_nodes(answer: &mut Answer, parts: &Formulas) {
     for place in 0..parts.len() {
-        line.push(b' ')?;
-        show_node(alloc, line, parts.at(place))?;
+        answer.add(b" ");
+        show_node(answer, parts.at(place));
     }
-    line.push(b')')
+    answer.add(b")");
 }
 
 /// Adds a condition whose parts have none.
-fn show_flat(alloc: Global, line: &mut Text, formula: &Formula) -> Result<(), Memory> {
+fn show_flat(answer: &mut Answer, formula: &Formula) {
     match formula {
         Formula::And(parts) => {
-            line.extend(b"(&")?;
-            show_nodes(alloc, line, parts)
+            answer.add(b"(&");
+            show_nodes(answer, parts);
         }
         Formula::Or(parts) => {
-            line.extend(b"(|")?;
-            show_nodes(alloc, line, parts)
+            answer.add(b"(|");
+            show_nodes(answer, parts);
         }
-        _ => show_node(alloc, line, formula),
+        _ => show_node(answer, formula),
     }
 }
 
 /// Adds the parts of a condition, whose own parts have none.
-fn show_flats(alloc: Global, line: &mut Text, parts: &Formulas) -> Result<(), Memory> {
+fn show_flats(answer: &mut Answer, parts: &Formulas) {
     for place in 0..parts.len() {
-        line.push(b' ')?;
-        show_flat(alloc, line, parts.at(place))?;
+        answer.add(b" ");
+        show_flat(answer, parts.at(place));
     }
-    line.push(b')')
+    answer.add(b")");
 }
 
 /// Adds a condition of at most three levels; deeper ones are `?`.
-pub(crate) fn show_formula(
-    alloc: Global,
-    line: &mut Text,
-    formula: &Formula,
-) -> Result<(), Memory> {
+pub(crate) fn show_formula(answer: &mut Answer, formula: &Formula) {
     match formula {
         Formula::And(parts) => {
-            line.extend(b"(&")?;
-            show_flats(alloc, line, parts)
+            answer.add(b"(&");
+            show_flats(answer, parts);
         }
         Formula::Or(parts) => {
-            line.extend(b"(|")?;
-            show_flats(alloc, line, parts)
+            answer.add(b"(|");
+            show_flats(answer, parts);
         }
-        _ => show_node(alloc, line, formula),
+        _ => show_node(answer, formula),
     }
 }

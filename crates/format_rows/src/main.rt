@@ -2,15 +2,16 @@
 //! answers are others than those that are stated.
 #![tactic(auto)]
 
+mod answer;
 mod automata;
 mod conditions;
 mod descriptions;
 mod lassos;
-mod parts;
 mod patterns;
-mod pieces;
+mod ran;
 mod reading;
 mod row;
+mod sources;
 mod tokens;
 mod word_calls;
 
@@ -34,6 +35,11 @@ const FILES: [&str; 11] = [
 
 fn main(rt: HostRuntime) -> Result<(), Stop> {
     let mut count = Count::new();
-    run(&rt, &FILES, &mut TextRow::new(rt.alloc()), &mut count)?;
+    run_rows(&rt, &mut count)?;
     count.end(&rt)
+}
+
+fn run_rows(rt: &HostRuntime, count: &mut Count) -> Result<(), Stop> {
+    let mut row = TextRow::new(rt.alloc());
+    run(rt, &FILES, &mut row, count)
 }

@@ -2,15 +2,15 @@
 
 ghost use Rattle.std.specs.Prelude.{◌≡◌, false};
 
+use crate::answer::Answer;
 use crate::automata::{show_raw, show_read_fault};
 use crate::descriptions::show_described;
-use crate::parts::show_number;
-use crate::row::Ran;
+use crate::ran::Ran;
 use crate::tokens::{show_fault, show_token};
-use aut_base::{Memory, Names, Numbers, Text, Words};
-use aut_io::{Inputs, MemInputs};
-use hoa_lexer::Lexer;
-use hoa_parser::{Front, read_raw};
+use aut_base::Memory;
+use aut_io::Inputs;
+use hoa_lexer::{LexFault, Lexer, Token};
+use hoa_parser::{Front, Raw, read_raw};
 use std::alloc::Global;
 
 /// A call of the lexer or the reader.
@@ -50,17 +50,6 @@ pub(crate) struct Script {
     pub(crate) begin: Option<u32>,
 }
 
-/// A source of one text, opened, which fails at the listed calls. Call 0 opens it, and call k reads its k-th byte.
-pub(crate) fn opened(alloc: Global, text: &[u8], failing: Numbers) -> Result<MemInputs, Memory> {
-    let mut names = Names::new(alloc);
-    names.push(Text::from_bytes(alloc, b"-")?)?;
-    let mut texts = Words::new(alloc);
-    texts.push(Text::from_bytes(alloc, text)?)?;
-    let mut inputs = MemInputs::new(names, texts, failing);
-    let _ = inputs.open(&Text::from_bytes(alloc, b"-")?);
-    Ok(inputs)
-}
-
 /// The answers to the calls of a script.
 pub(crate) fn carry_out<I: Inputs + Drop>(
     alloc: Global,
@@ -68,41 +57,38 @@ pub(crate) fn carry_out<I: Inputs + Drop>(
     mut lexer: Lexer,
     mut inputs: I,
 ) -> Result<Ran, Memory> {
-    let mut answer = Text::new(alloc);
-    ask_all_times(alloc, &mut answer, script, &mut lexer, &mut inputs)?;
-    Ok(Ran {
-        answer,
-        taken: lexer.taken(),
-        left: bytes_left(&mut inputs),
-    })
+    let mut answer = Answer::new(alloc);
+    ask_all_times(alloc, &mut answer, script, &mut lexer, &mut inputs);
+    let taken = lexer.taken();
+    let left = bytes_left(&mut inputs);
+    Ran::new(answer, taken, left)
 }
 
 /// Adds the answers of the calls of a script, and a line feed.
 fn ask_all_times<I: Inputs>(
     alloc: Global,
-    answer: &mut Text,
+    answer: &mut Answer,
     script: Script,
     lexer: &mut Lexer,
     inputs: &mut I,
-) -> Result<(), Memory> {
+) {
     for time in 0..script.times {
         if lexer.is_spent() {
             break;
         }
         if time > 0 {
-            answer.push(b' ')?;
+            answer.add(b" ");
         }
-        if !ask(alloc, answer, script.call, lexer, inputs)? {
+        if !ask(alloc, answer, script.call, lexer, inputs) {
             break;
         }
         if script.begin == Some(time.saturating_add(1)) {
             lexer.begin();
-            answer.extend(b" begin@")?;
-            show_number(alloc, answer, lexer.offset())?;
+            answer.add(b" begin@");
+            answer.add_number(lexer.offset());
         }
     }
-    answer.push(b'\n')?;
-    Ok(())
+    answer.add(b"\n");
 }
 
 /// How many bytes are left of the open text. They are read for it, again after reads that fail.
@@ -121,11 +107,11 @@ fn bytes_left<I: Inputs>(inputs: &mut I) -> u32 {
 /// Adds the answer of a call, and answers whether another may follow.
 fn ask<I: Inputs>(
     alloc: Global,
-    answer: &mut Text,
+    answer: &mut Answer,
     call: Call,
     lexer: &mut Lexer,
     inputs: &mut I,
-) -> Result<bool, Memory>
+) -> bool
     requires { lexer.old.spent ≡ false }
 {
     match call {
@@ -140,78 +126,124 @@ fn ask<I: Inputs>(
 /// Adds the next automaton, or what is said of it.
 fn ask_automaton<I: Inputs>(
     alloc: Global,
-    answer: &mut Text,
+    answer: &mut Answer,
     call: Call,
     lexer: &mut Lexer,
     inputs: &mut I,
-) -> Result<bool, Memory>
+) -> bool
     requires { lexer.old.spent ≡ false }
 {
     match read_raw(alloc, lexer, inputs) {
-        Ok(Front::Whole(raw)) => {
-            match call {
-                Call::Describe => show_described(alloc, answer, &raw, false)?,
-                Call::Description => show_described(alloc, answer, &raw, true)?,
-                _ => show_raw(alloc, answer, &raw)?,
-            }
-            return Ok(true);
+        Ok(front) => add_front(alloc, answer, call, &front),
+        Err(fault) => {
+            show_read_fault(answer, fault);
+            false
         }
-        Ok(Front::Aborted) => {
-            answer.extend(b"aborted")?;
-            return Ok(true);
-        }
-        Ok(Front::Blank) => answer.extend(b"none")?,
-        Err(fault) => show_read_fault(alloc, answer, fault)?,
     }
-    Ok(false)
 }
 
-/// Adds the next token.
+/// Adds what stands next, and answers whether more may follow.
+fn add_front(alloc: Global, answer: &mut Answer, call: Call, front: &Front) -> bool {
+    match front {
+        Front::Whole(raw) => {
+            add_raw(alloc, answer, call, raw);
+            true
+        }
+        Front::Aborted => {
+            answer.add(b"aborted");
+            true
+        }
+        Front::Blank => {
+            answer.add(b"none");
+            false
+        }
+    }
+}
+
+/// Adds an automaton, as the call answers it.
+fn add_raw(alloc: Global, answer: &mut Answer, call: Call, raw: &Raw) {
+    match call {
+        Call::Describe => show_described(alloc, answer, raw, false),
+        Call::Description => show_described(alloc, answer, raw, true),
+        _ => show_raw(answer, raw),
+    }
+}
+
+/// Adds the next token, and answers whether there is one.
 fn ask_next<I: Inputs>(
     alloc: Global,
-    answer: &mut Text,
+    answer: &mut Answer,
     lexer: &mut Lexer,
     inputs: &mut I,
-) -> Result<bool, Memory>
+) -> bool
     requires { lexer.old.spent ≡ false }
 {
-    match lexer.next(alloc, inputs) {
-        Ok(Some(token)) => {
-            show_token(alloc, answer, &token, lexer.offset())?;
-            return Ok(true);
+    match take_token(alloc, answer, lexer, inputs) {
+        Ok(is_there) => is_there,
+        Err(fault) => {
+            show_fault(answer, fault);
+            false
         }
-        Ok(None) => answer.extend(b"end")?,
-        Err(fault) => show_fault(alloc, answer, fault)?,
     }
-    Ok(false)
 }
 
-/// Adds all tokens.
-fn ask_all<I: Inputs>(
+/// Adds the next token, and answers whether there is one, or the fault.
+fn take_token<I: Inputs>(
     alloc: Global,
-    answer: &mut Text,
+    answer: &mut Answer,
     lexer: &mut Lexer,
     inputs: &mut I,
-) -> Result<bool, Memory>
+) -> Result<bool, LexFault>
     requires { lexer.old.spent ≡ false }
 {
-    let mut tokens = Text::new(alloc);
+    let token = lexer.next(alloc, inputs)?;
+    Ok(add_token(answer, &token, lexer.offset()))
+}
+
+/// Adds a token, or that there is none, and answers whether there is one.
+fn add_token(answer: &mut Answer, token: &Option<Token>, offset: u64) -> bool {
+    match token {
+        Some(token) => {
+            show_token(answer, token, offset);
+            true
+        }
+        None => {
+            answer.add(b"end");
+            false
+        }
+    }
+}
+
+/// Adds all tokens, or only the fault that ends them.
+fn ask_all<I: Inputs>(
+    alloc: Global,
+    answer: &mut Answer,
+    lexer: &mut Lexer,
+    inputs: &mut I,
+) -> bool {
+    let mut tokens = Answer::new(alloc);
+    match add_tokens(alloc, &mut tokens, lexer, inputs) {
+        Ok(()) => answer.add_all(&tokens),
+        Err(fault) => show_fault(answer, fault),
+    }
+    false
+}
+
+/// Adds all tokens, up to the fault that is answered.
+fn add_tokens<I: Inputs>(
+    alloc: Global,
+    answer: &mut Answer,
+    lexer: &mut Lexer,
+    inputs: &mut I,
+) -> Result<(), LexFault> {
     for _ in 0..u32::MAX {
         if lexer.is_spent() {
             break;
         }
-        match lexer.next(alloc, inputs) {
-            Ok(Some(token)) => {
-                show_token(alloc, &mut tokens, &token, lexer.offset())?;
-                tokens.push(b' ')?;
-            }
-            Ok(None) => {
-                answer.extend(tokens.as_bytes())?;
-                answer.extend(b"end")?;
-                break;
-            }
-            Err(fault) => show_fault(alloc, answer, fault)?,
+        if !take_token(alloc, answer, lexer, inputs)? {
+            break;
         }
+        answer.add(b" ");
     }
-    Ok(false)
+    Ok(())
 }

@@ -1,13 +1,11 @@
 //! One row: the input of a call, and the answer that is stated.
 
-use crate::pieces::cut;
-use crate::reading::{self, Script, opened};
-use crate::word_calls;
-use aut_base::{Numbers, Text};
-use hoa_lexer::Lexer;
-use row_files::{Fault, Row, add, add_escaped, copied, kind_and_rest, number, numbers, range};
-use std::alloc::Global;
-use std::fmt;
+mod runs;
+
+use crate::{reading, word_calls};
+use aut_base::{Memory, Numbers, Text};
+use row_files::{Fault, Row, add, add_escaped, kind_and_rest, number, numbers, range};
+use std::alloc::{AllocError, Global};
 
 /// The crate whose call rows are of.
 #[derive(Clone, Copy)]
@@ -16,23 +14,13 @@ enum Call {
     Word(word_calls::Call),
 }
 
-/// The answers in words, how many bytes were taken, and how many were left.
-#[derive(Drop)]
-pub(crate) struct Ran {
-    pub(crate) answer: Text,
-    pub(crate) taken: u64,
-    pub(crate) left: u32,
-}
-
-impl fmt::Display for Ran {
-    fn fmt<W: fmt::Write>(&self, f: &mut fmt::Formatter<W>) -> fmt::Result {
-        let answer = match std::str::from_utf8(self.answer.as_bytes()) {
-            Ok(answer) => answer,
-            Err(_) => "(no plain text)\n",
-        };
-        let taken = self.taken;
-        let left = self.left;
-        write!(f, "> {answer}# taken {taken}, left {left}")
+impl Call {
+    /// The call of this name.
+    fn named(name: &str) -> Option<Call> {
+        match reading::Call::named(name) {
+            Some(call) => Some(Call::Reading(call)),
+            None => word_calls::Call::named(name).map(Call::Word),
+        }
     }
 }
 
@@ -47,9 +35,6 @@ enum Each {
     /// How many bytes the lexer may take.
     Most,
 }
-
-/// The longest text, in bytes, that is tried in two pieces at every cut.
-const LONGEST: usize = 400;
 
 /// The input of a call and the stated answer, as far as the row's lines were read.
 #[derive(Drop)]
@@ -96,11 +81,8 @@ impl TextRow {
     }
 
     /// Keeps a line, to be printed where the answer is another.
-    fn keep(&mut self, mark: &str, line: &str) -> Result<(), Fault> {
-        self.lines.push_str(mark)?;
-        self.lines.push_str(line)?;
-        self.lines.push('\n')?;
-        Ok(())
+    fn keep(&mut self, mark: &str, line: &str) -> Result<(), AllocError> {
+        writeln!(self.lines, "{mark}{line}")
     }
 
     /// Takes the name of the call, for this row and those after it.
@@ -108,17 +90,48 @@ impl TextRow {
         if self.is_begun() {
             return Err(Fault::Misplaced);
         }
-        self.call = Some(match reading::Call::named(name) {
-            Some(call) => Call::Reading(call),
-            None => Call::Word(word_calls::Call::named(name).ok_or(Fault::UnknownKind)?),
-        });
+        self.call = Call::named(name);
+        if self.call.is_none() {
+            return Err(Fault::UnknownKind);
+        }
         Ok(())
     }
 
     /// Adds to the stated answer, and answers whether it is complete, as a whole line is.
-    fn add_answer(&mut self, rt: &HostRuntime, form: &str, rest: &str) -> Result<bool, Fault> {
+    fn add_answer(
+        &mut self,
+        rt: &HostRuntime,
+        line: &str,
+        form: &str,
+        rest: &str,
+    ) -> Result<bool, Fault> {
+        if !form.is_empty() {
+            self.keep("# ", line)?;
+        }
         add(rt, &mut self.answer, form, rest)?;
         Ok(form.is_empty())
+    }
+
+    /// Takes a line that is kept, and answers whether it ends the row.
+    fn add_line(
+        &mut self,
+        rt: &HostRuntime,
+        line: &str,
+        kind: &str,
+        rest: &str,
+    ) -> Result<bool, Fault> {
+        self.keep("", line)?;
+        self.add_input(rt, kind, rest)?;
+        Ok(kind == "<^")
+    }
+
+    /// Takes a line of the input.
+    fn add_input(&mut self, rt: &HostRuntime, kind: &str, rest: &str) -> Result<(), Fault> {
+        match kind.strip_prefix('<') {
+            Some("^") => self.add_marked(rt.alloc(), rest),
+            Some(form) => add(rt, &mut self.text, form, rest),
+            None => self.add_other(rt.alloc(), kind, rest),
+        }
     }
 
     /// Adds a piece without its `^`. The stated answer is a fault at the offset of that.
@@ -127,30 +140,49 @@ impl TextRow {
             return Err(Fault::Missing);
         };
         add_escaped(alloc, &mut self.text, front, 0)?;
-        let fault = match self.call {
-            Some(Call::Reading(reading::Call::Next | reading::Call::All)) => "bad@",
-            _ => "syntax ",
-        };
-        let offset = self.text.len();
-        let answer = format!(in alloc; "{fault}{offset}\n")?;
-        self.answer.extend(answer.as_bytes())?;
+        self.add_fault()?;
         add_escaped(alloc, &mut self.text, back, 0)
+    }
+
+    /// Adds the fault at the end of the text to the stated answer.
+    fn add_fault(&mut self) -> Result<(), Memory> {
+        let fault: &[u8] = match self.call {
+            Some(Call::Reading(reading::Call::Next | reading::Call::All)) => b"bad@",
+            _ => b"syntax ",
+        };
+        self.answer.extend(fault)?;
+        self.answer.push_decimal(self.text.len() as u64)?;
+        self.answer.push(b'\n')
     }
 
     /// Takes a line that adds to no text.
     fn add_other(&mut self, alloc: Global, kind: &str, rest: &str) -> Result<(), Fault> {
         match kind {
-            "failing-calls" => self.failing = numbers(alloc, rest)?,
-            "most" => self.most = number(rest)?,
-            "times" => self.times = Some(number(rest)?),
-            "begin" => self.begin = Some(number(rest)?),
-            "taken" => self.taken = Some(number(rest)?),
-            "left" => self.left = Some(number(rest)?),
-            "each-call" => self.repeat(Each::Call, rest)?,
-            "each-front" => self.repeat(Each::Front, rest)?,
-            "each-most" => self.repeat(Each::Most, rest)?,
-            _ => return Err(Fault::UnknownKind),
+            "failing-calls" => {
+                self.failing = numbers(alloc, rest)?;
+                Ok(())
+            }
+            "each-call" => self.repeat(Each::Call, rest),
+            "each-front" => self.repeat(Each::Front, rest),
+            "each-most" => self.repeat(Each::Most, rest),
+            "most" => {
+                self.most = number(rest)?;
+                Ok(())
+            }
+            _ => self.set(kind, rest),
         }
+    }
+
+    /// Takes a line of a number that a row may have.
+    fn set(&mut self, kind: &str, rest: &str) -> Result<(), Fault> {
+        let place = match kind {
+            "times" => &mut self.times,
+            "begin" => &mut self.begin,
+            "taken" => &mut self.taken,
+            "left" => &mut self.left,
+            _ => return Err(Fault::UnknownKind),
+        };
+        *place = Some(number(rest)?);
         Ok(())
     }
 
@@ -162,113 +194,6 @@ impl TextRow {
         self.last = last;
         Ok(())
     }
-
-    /// The outcome of the run of this number.
-    fn ran(&self, alloc: Global, run: u32) -> Result<Ran, Fault> {
-        match self.call {
-            Some(Call::Reading(call)) => self.read(alloc, call, run),
-            Some(Call::Word(call)) => Ok(Ran {
-                answer: word_calls::carry_out(alloc, call, &self.text)?,
-                taken: 0,
-                left: 0,
-            }),
-            None => Err(Fault::Missing),
-        }
-    }
-
-    /// The outcome of the run of this number, of the lexer, the parser or the reader.
-    fn read(&self, alloc: Global, call: reading::Call, run: u32) -> Result<Ran, Fault> {
-        let mut failing = copied(alloc, &self.failing)?;
-        let mut most = self.most;
-        let mut length = usize::MAX;
-        match self.each {
-            Each::Nothing => {}
-            Each::Call => failing.push(run)?,
-            Each::Front => length = run as usize,
-            Each::Most => most = run,
-        }
-        let bytes = self.text.as_bytes();
-        let front = &bytes[..bytes.len().min(length)];
-        let inputs = opened(alloc, front, failing)?;
-        let lexer = Lexer::new(u64::from(most));
-        Ok(reading::carry_out(alloc, self.script(call), lexer, inputs)?)
-    }
-
-    /// The outcome where the text comes in two pieces, each at hand at once.
-    fn read_in_pieces(
-        &self,
-        alloc: Global,
-        call: reading::Call,
-        place: usize,
-    ) -> Result<Ran, Fault> {
-        let inputs = cut(alloc, self.text.as_bytes(), place)?;
-        let lexer = Lexer::new(u64::from(self.most));
-        Ok(reading::carry_out(alloc, self.script(call), lexer, inputs)?)
-    }
-
-    /// How often the call is made, and after how many answers a new text begins.
-    fn script(&self, call: reading::Call) -> Script {
-        let times = match (self.times, call) {
-            (Some(times), _) => times,
-            (None, reading::Call::Next) => u32::MAX,
-            (None, _) => 1,
-        };
-        Script {
-            call,
-            times,
-            begin: self.begin,
-        }
-    }
-
-    /// Whether the outcome is the one that is stated.
-    fn is_met(&self, ran: &Ran) -> bool {
-        ran.answer == self.answer
-            && self.taken.is_none_or(|taken| u64::from(taken) == ran.taken)
-            && self.left.is_none_or(|left| left == ran.left)
-    }
-
-    /// Adds the outcome of the run of this number to what is printed, where it is another than the stated one.
-    fn add_different(&self, alloc: Global, shown: &mut String, run: u32) -> Result<(), Fault> {
-        let ran = self.ran(alloc, run)?;
-        self.compare(alloc, shown, "run", run as usize, &ran)
-    }
-
-    /// The same for the text in two pieces, at every cut, where the row has one run, no call of it fails and the text isn't
-    /// long.
-    fn add_pieces(&self, alloc: Global, shown: &mut String) -> Result<(), Fault> {
-        let (Some(Call::Reading(call)), Each::Nothing) = (self.call, self.each) else {
-            return Ok(());
-        };
-        if !self.failing.is_empty() || self.text.len() > LONGEST {
-            return Ok(());
-        }
-        for place in 0..=self.text.len() {
-            let ran = self.read_in_pieces(alloc, call, place)?;
-            self.compare(alloc, shown, "cut at", place, &ran)?;
-        }
-        Ok(())
-    }
-
-    /// Adds an outcome to what is printed, where it is another than the stated one.
-    fn compare(
-        &self,
-        alloc: Global,
-        shown: &mut String,
-        what: &str,
-        number: usize,
-        ran: &Ran,
-    ) -> Result<(), Fault> {
-        if self.is_met(ran) {
-            return Ok(());
-        }
-        if !shown.as_str().is_empty() {
-            shown.push('\n')?;
-        }
-        let lines = self.lines.as_str();
-        let more = format!(in alloc; "# {what} {number}\n{lines}{ran}")?;
-        shown.push_str(more.as_str())?;
-        Ok(())
-    }
 }
 
 impl Row for TextRow {
@@ -278,23 +203,10 @@ impl Row for TextRow {
             self.set_call(rest)?;
             return Ok(false);
         }
-        if kind == ">" {
-            return self.add_answer(rt, "", rest);
+        match kind.strip_prefix('>') {
+            Some(form) => self.add_answer(rt, line, form, rest),
+            None => self.add_line(rt, line, kind, rest),
         }
-        if let Some(form) = kind.strip_prefix('>') {
-            self.keep("# ", line)?;
-            return self.add_answer(rt, form, rest);
-        }
-        self.keep("", line)?;
-        if kind == "<^" {
-            self.add_marked(rt.alloc(), rest)?;
-            return Ok(true);
-        }
-        match kind.strip_prefix('<') {
-            Some(form) => add(rt, &mut self.text, form, rest)?,
-            None => self.add_other(rt.alloc(), kind, rest)?,
-        }
-        Ok(false)
     }
 
     fn is_whole(&self) -> Result<bool, Fault> {
@@ -306,11 +218,11 @@ impl Row for TextRow {
 
     fn different(&self, rt: &HostRuntime) -> Result<Option<String>, Fault> {
         let mut shown = String::new(rt.alloc());
-        for run in self.first..=self.last {
-            self.add_different(rt.alloc(), &mut shown, run)?;
+        self.add_all_different(rt.alloc(), &mut shown)?;
+        if shown.as_str().is_empty() {
+            return Ok(None);
         }
-        self.add_pieces(rt.alloc(), &mut shown)?;
-        Ok(Some(shown).filter(|shown| !shown.as_str().is_empty()))
+        Ok(Some(shown))
     }
 
     fn clear(&mut self, alloc: Global) {

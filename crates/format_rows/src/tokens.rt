@@ -1,9 +1,7 @@
 //! A token or a fault of the lexer, in words.
 
-use crate::parts::show_number;
-use aut_base::{Memory, Text};
+use crate::answer::Answer;
 use hoa_lexer::{LexFault, Token};
-use std::alloc::Global;
 
 /// The kind of a token, and the bytes in it.
 fn parts(token: &Token) -> (&[u8], &[u8]) {
@@ -28,40 +26,34 @@ fn parts(token: &Token) -> (&[u8], &[u8]) {
     }
 }
 
-/// Adds a token and its offset to the answers.
-pub(crate) fn show_token(
-    alloc: Global,
-    answers: &mut Text,
-    token: &Token,
-    offset: u64,
-) -> Result<(), Memory> {
+/// Adds a token and its offset.
+pub(crate) fn show_token(answer: &mut Answer, token: &Token, offset: u64) {
     let (kind, bytes) = parts(token);
-    answers.extend(kind)?;
-    answers.push(b'@')?;
-    show_number(alloc, answers, offset)?;
+    answer.add(kind);
+    answer.add(b"@");
+    answer.add_number(offset);
     if let Token::Int(value) = token {
-        answers.push(b'=')?;
-        show_number(alloc, answers, u64::from(*value))?;
+        answer.add(b"=");
+        answer.add_number(u64::from(*value));
     }
-    if bytes.is_empty() {
-        return Ok(());
+    if !bytes.is_empty() {
+        answer.add(b"=");
+        answer.add(bytes);
     }
-    answers.push(b'=')?;
-    answers.extend(bytes)
 }
 
-/// Adds a fault to the answers.
-pub(crate) fn show_fault(alloc: Global, answers: &mut Text, fault: LexFault) -> Result<(), Memory> {
+/// Adds a fault.
+pub(crate) fn show_fault(answer: &mut Answer, fault: LexFault) {
     match fault {
         LexFault::BadToken(offset) => {
-            answers.extend(b"bad@")?;
-            show_number(alloc, answers, offset)
+            answer.add(b"bad@");
+            answer.add_number(offset);
         }
-        LexFault::OpenComment => answers.extend(b"open comment"),
-        LexFault::OpenString => answers.extend(b"open string"),
-        LexFault::OpenToken => answers.extend(b"open token"),
-        LexFault::Read => answers.extend(b"read"),
-        LexFault::Bytes => answers.extend(b"bytes"),
-        LexFault::Memory => answers.extend(b"memory"),
+        LexFault::OpenComment => answer.add(b"open comment"),
+        LexFault::OpenString => answer.add(b"open string"),
+        LexFault::OpenToken => answer.add(b"open token"),
+        LexFault::Read => answer.add(b"read"),
+        LexFault::Bytes => answer.add(b"bytes"),
+        LexFault::Memory => answer.add(b"memory"),
     }
 }

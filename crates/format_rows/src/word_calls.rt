@@ -1,9 +1,9 @@
 //! The calls on words, each in a function of its own.
 
+use crate::answer::Answer;
 use crate::lassos::{Named, long_word, named_word, simple_word};
-use crate::parts::show_number;
-use crate::patterns;
-use aut_base::{Lasso, Text};
+use crate::patterns::{show_automaton, show_pattern, show_simple};
+use aut_base::{Lasso, Memory, Text};
 use aut_core::NameFault;
 use row_files::{Fault, number};
 use std::alloc::Global;
@@ -48,80 +48,109 @@ impl Call {
 
 /// The answer of a call on a text, in words, and a line feed.
 pub(crate) fn carry_out(alloc: Global, call: Call, text: &Text) -> Result<Text, Fault> {
-    let mut answer = answered(alloc, call, text)?;
-    answer.push(b'\n')?;
-    Ok(answer)
+    let mut answer = Answer::new(alloc);
+    add_answer(alloc, &mut answer, call, text)?;
+    answer.add(b"\n");
+    Ok(answer.end()?)
 }
 
-fn answered(alloc: Global, call: Call, text: &Text) -> Result<Text, Fault> {
+fn add_answer(alloc: Global, answer: &mut Answer, call: Call, text: &Text) -> Result<(), Fault> {
     match call {
-        Call::ReadWord => shown_word(alloc, text),
-        Call::ReadName => shown_name(alloc, text),
-        Call::PatternAutomaton => shown_automaton(alloc, text),
-        Call::Reduce => shown_reduced(alloc, &simple_word(alloc, text.as_bytes())?),
-        Call::ReduceLong => shown_long(alloc, text),
-        Call::PrintWord => printed(alloc, &named_word(alloc, text.as_bytes())?),
-        Call::ReadBack => {
-            let named = named_word(alloc, text.as_bytes())?;
-            shown_word(alloc, &printed(alloc, &named)?)
-        }
+        Call::ReadWord => Ok(add_word(alloc, answer, text)?),
+        Call::ReadName => Ok(add_name(alloc, answer, text)?),
+        Call::PatternAutomaton => add_automaton(alloc, answer, text),
+        Call::Reduce => add_reduced(alloc, answer, text),
+        Call::ReduceLong => add_reduced_long(alloc, answer, text),
+        Call::PrintWord => add_printed(alloc, answer, text),
+        Call::ReadBack => add_read_back(alloc, answer, text),
     }
 }
 
-fn shown_word(alloc: Global, text: &Text) -> Result<Text, Fault> {
+fn add_word(alloc: Global, answer: &mut Answer, text: &Text) -> Result<(), Memory> {
     match word_of(alloc, text) {
-        Ok(pattern) => Ok(patterns::pattern(alloc, &pattern)?),
+        Ok(pattern) => show_pattern(answer, &pattern),
         Err(WordFault::BadWord(offset)) => {
-            let mut answer = Text::from_bytes(alloc, b"bad ")?;
-            show_number(alloc, &mut answer, offset)?;
-            Ok(answer)
+            answer.add(b"bad ");
+            answer.add_number(offset);
         }
-        Err(WordFault::Memory) => Err(Fault::Memory),
+        Err(WordFault::Memory) => return Err(Memory),
     }
+    Ok(())
 }
 
 fn word_of(alloc: Global, text: &Text) -> Result<Pattern, WordFault> {
     read_word(alloc, text)
 }
 
-fn shown_name(alloc: Global, text: &Text) -> Result<Text, Fault> {
+fn add_name(alloc: Global, answer: &mut Answer, text: &Text) -> Result<(), Memory> {
     match read_name(alloc, text)? {
         Some((name, size)) => {
-            let mut answer = Text::new(alloc);
-            show_number(alloc, &mut answer, size as u64)?;
-            answer.extend(b" ")?;
-            answer.extend(name.as_bytes())?;
-            Ok(answer)
+            answer.add_number(size as u64);
+            answer.add(b" ");
+            answer.add(name.as_bytes());
         }
-        None => Ok(Text::from_bytes(alloc, b"none")?),
+        None => answer.add(b"none"),
     }
+    Ok(())
 }
 
-fn shown_automaton(alloc: Global, text: &Text) -> Result<Text, Fault> {
+fn add_automaton(alloc: Global, answer: &mut Answer, text: &Text) -> Result<(), Fault> {
     match word_of(alloc, text) {
-        Ok(pattern) => match pattern_automaton(alloc, &pattern) {
-            Ok(automaton) => Ok(patterns::automaton(alloc, &automaton)?),
-            Err(NameFault::Names) => Ok(Text::from_bytes(alloc, b"names")?),
-            Err(NameFault::Memory) => Err(Fault::Memory),
-        },
+        Ok(pattern) => Ok(add_automaton_of(alloc, answer, &pattern)?),
         Err(_) => Err(Fault::Missing),
     }
 }
 
-fn shown_reduced(alloc: Global, word: &Lasso) -> Result<Text, Fault> {
-    Ok(patterns::simple_word(alloc, &reduced(alloc, word)?)?)
+fn add_automaton_of(alloc: Global, answer: &mut Answer, pattern: &Pattern) -> Result<(), Memory> {
+    match pattern_automaton(alloc, pattern) {
+        Ok(automaton) => show_automaton(answer, &automaton),
+        Err(NameFault::Names) => answer.add(b"names"),
+        Err(NameFault::Memory) => return Err(Memory),
+    }
+    Ok(())
 }
 
-fn reduced(alloc: Global, word: &Lasso) -> Result<Lasso, Fault> {
-    Ok(reduce(alloc, word)?)
+fn add_reduced(alloc: Global, answer: &mut Answer, text: &Text) -> Result<(), Fault> {
+    let word = simple_word(alloc, text.as_bytes())?;
+    Ok(show_reduced(alloc, answer, &word)?)
 }
 
-fn shown_long(alloc: Global, text: &Text) -> Result<Text, Fault> {
-    let digits = std::str::from_utf8(text.as_bytes()).unwrap_or("");
-    shown_reduced(alloc, &long_word(alloc, number(digits)?)?)
+fn add_reduced_long(alloc: Global, answer: &mut Answer, text: &Text) -> Result<(), Fault> {
+    let word = long_word(alloc, count(text)?)?;
+    Ok(show_reduced(alloc, answer, &word)?)
 }
 
-fn printed(alloc: Global, named: &Named) -> Result<Text, Fault> {
+fn show_reduced(alloc: Global, answer: &mut Answer, word: &Lasso) -> Result<(), Memory> {
+    show_simple(answer, &reduced(alloc, word)?);
+    Ok(())
+}
+
+fn reduced(alloc: Global, word: &Lasso) -> Result<Lasso, Memory> {
+    reduce(alloc, word)
+}
+
+/// The number that a text spells.
+fn count(text: &Text) -> Result<u32, Fault> {
+    number(std::str::from_utf8(text.as_bytes()).unwrap_or(""))
+}
+
+fn add_printed(alloc: Global, answer: &mut Answer, text: &Text) -> Result<(), Fault> {
+    answer.add(printed(alloc, text)?.as_bytes());
+    Ok(())
+}
+
+fn add_read_back(alloc: Global, answer: &mut Answer, text: &Text) -> Result<(), Fault> {
+    let printed = printed(alloc, text)?;
+    Ok(add_word(alloc, answer, &printed)?)
+}
+
+/// The word that a text writes, as `print_word` prints it.
+fn printed(alloc: Global, text: &Text) -> Result<Text, Fault> {
+    let named = named_word(alloc, text.as_bytes())?;
+    print(alloc, &named)
+}
+
+fn print(alloc: Global, named: &Named) -> Result<Text, Fault> {
     if !is_over(&named.word, &named.names) {
         return Err(Fault::Missing);
     }

@@ -1,6 +1,7 @@
 //! Reads the words of each row as a plan, and prints each row whose outcome is another than the stated one.
 #![tactic(auto)]
 
+mod lines;
 mod row;
 mod shown;
 mod values;
@@ -18,6 +19,11 @@ const FILES: [&str; 4] = [
 
 fn main(rt: HostRuntime) -> Result<(), Stop> {
     let mut count = Count::new();
-    run(&rt, &FILES, &mut PlanRow::new(rt.alloc()), &mut count)?;
+    run_rows(&rt, &mut count)?;
     count.end(&rt)
+}
+
+fn run_rows(rt: &HostRuntime, count: &mut Count) -> Result<(), Stop> {
+    let mut row = PlanRow::new(rt.alloc());
+    run(rt, &FILES, &mut row, count)
 }

@@ -4,7 +4,7 @@ use crate::shown::show;
 use aut_base::{Memory, Text, Words};
 use filter_plan::{Plan, UsageFault, read_plan};
 use row_files::{Fault, Row, add, add_escaped, kind_and_rest, number};
-use std::alloc::Global;
+use std::alloc::{AllocError, Global};
 
 /// The words and the stated outcome, as far as the row's lines were read.
 #[derive(Drop)]
@@ -74,8 +74,27 @@ impl PlanRow {
     fn shown(&self, alloc: Global) -> Result<Text, Memory> {
         match plan_of(alloc, &self.words) {
             Ok(plan) => show(alloc, &plan),
-            Err(UsageFault::Usage) => Text::from_bytes(alloc, b"usage\n"),
-            Err(UsageFault::Memory) => Err(Memory),
+            Err(fault) => refused(alloc, fault),
+        }
+    }
+
+    /// What is printed where the outcome is another than the stated one.
+    fn told(&self, alloc: Global, shown: &Text) -> Result<String, AllocError> {
+        let name = self.name.as_str();
+        let text = String::from_utf8_lossy(alloc, shown.as_bytes())?;
+        format!(in alloc; "= {name}\n{text}")
+    }
+
+    /// Takes a line of this kind.
+    fn take(&mut self, rt: &HostRuntime, kind: &str, rest: &str) -> Result<(), Fault> {
+        if let Some(form) = kind.strip_prefix('>') {
+            return add(rt, &mut self.wanted, form, rest);
+        }
+        match kind {
+            "=" => self.begin(rest),
+            "?" => self.add_words(rt.alloc(), rest),
+            "?*" => self.add_repeated(rt.alloc(), rest),
+            _ => Err(Fault::UnknownKind),
         }
     }
 }
@@ -86,16 +105,7 @@ impl Row for PlanRow {
         if self.is_empty() != (kind == "=") {
             return Err(Fault::Misplaced);
         }
-        if let Some(form) = kind.strip_prefix('>') {
-            add(rt, &mut self.wanted, form, rest)?;
-            return Ok(false);
-        }
-        match kind {
-            "=" => self.begin(rest)?,
-            "?" => self.add_words(rt.alloc(), rest)?,
-            "?*" => self.add_repeated(rt.alloc(), rest)?,
-            _ => return Err(Fault::UnknownKind),
-        }
+        self.take(rt, kind, rest)?;
         Ok(false)
     }
 
@@ -111,9 +121,7 @@ impl Row for PlanRow {
         if shown.is(self.wanted.as_bytes()) {
             return Ok(None);
         }
-        let name = self.name.as_str();
-        let text = String::from_utf8_lossy(rt.alloc(), shown.as_bytes())?;
-        Ok(Some(format!(in rt.alloc(); "= {name}\n{text}")?))
+        Ok(Some(self.told(rt.alloc(), &shown)?))
     }
 
     fn clear(&mut self, alloc: Global) {
@@ -124,4 +132,12 @@ impl Row for PlanRow {
 /// The plan of the words.
 fn plan_of(alloc: Global, words: &Words) -> Result<Plan, UsageFault> {
     read_plan(alloc, words)
+}
+
+/// What is shown where the words are no plan.
+fn refused(alloc: Global, fault: UsageFault) -> Result<Text, Memory> {
+    match fault {
+        UsageFault::Usage => Text::from_bytes(alloc, b"usage\n"),
+        UsageFault::Memory => Err(Memory),
+    }
 }

@@ -1,5 +1,6 @@
 //! A plan as text: a line for each field that differs from the plan of no words.
 
+use crate::lines::Lines;
 use crate::values::{show_count, show_file, show_hidden, show_output, show_pattern, show_range};
 use aut_base::{Memory, Text};
 use filter_plan::{Form, Plan};
@@ -7,52 +8,57 @@ use std::alloc::Global;
 
 /// The text of the plan.
 pub(crate) fn show(alloc: Global, plan: &Plan) -> Result<Text, Memory> {
-    let mut text = Text::new(alloc);
-    show_filters(alloc, &mut text, plan)?;
-    show_operations(&mut text, plan)?;
-    show_form(&mut text, plan)?;
-    show_flag(&mut text, b"complete", plan.complete)?;
-    show_output(&mut text, &plan.output)?;
-    show_run(alloc, &mut text, plan)?;
-    Ok(text)
+    let mut lines = Lines::new(alloc);
+    show_plan(&mut lines, plan);
+    lines.end()
 }
 
-/// Adds the filters.
-fn show_filters(alloc: Global, text: &mut Text, plan: &Plan) -> Result<(), Memory> {
-    show_pattern(alloc, text, b"accept_word", &plan.accept_word)?;
-    show_pattern(alloc, text, b"reject_word", &plan.reject_word)?;
-    show_flag(text, b"is_empty", plan.is_empty)?;
-    show_file(text, b"included_in", &plan.included_in)?;
-    show_file(text, b"equivalent_to", &plan.equivalent_to)?;
-    show_file(text, b"intersect", &plan.intersect)?;
-    show_flag(text, b"is_deterministic", plan.is_deterministic)?;
-    show_flag(text, b"is_complete", plan.is_complete)?;
-    show_flag(text, b"is_unambiguous", plan.is_unambiguous)?;
-    show_ranges(alloc, text, plan)
+/// Adds all fields.
+fn show_plan(lines: &mut Lines, plan: &Plan) {
+    show_filters(lines, plan);
+    show_ranges(lines, plan);
+    show_operations(lines, plan);
+    show_form(lines, plan);
+    show_flag(lines, b"complete", plan.complete);
+    show_output(lines, &plan.output);
+    show_run(lines, plan);
+}
+
+/// Adds the filters that are no ranges.
+fn show_filters(lines: &mut Lines, plan: &Plan) {
+    show_pattern(lines, b"accept_word", &plan.accept_word);
+    show_pattern(lines, b"reject_word", &plan.reject_word);
+    show_flag(lines, b"is_empty", plan.is_empty);
+    show_file(lines, b"included_in", &plan.included_in);
+    show_file(lines, b"equivalent_to", &plan.equivalent_to);
+    show_file(lines, b"intersect", &plan.intersect);
+    show_flag(lines, b"is_deterministic", plan.is_deterministic);
+    show_flag(lines, b"is_complete", plan.is_complete);
+    show_flag(lines, b"is_unambiguous", plan.is_unambiguous);
 }
 
 /// Adds the filters that are ranges of numbers.
-fn show_ranges(alloc: Global, text: &mut Text, plan: &Plan) -> Result<(), Memory> {
-    show_range(alloc, text, b"states", plan.states)?;
-    show_range(alloc, text, b"edges", plan.edges)?;
-    show_range(alloc, text, b"acc_sets", plan.acc_sets)?;
-    show_range(alloc, text, b"ap", plan.ap)
+fn show_ranges(lines: &mut Lines, plan: &Plan) {
+    show_range(lines, b"states", plan.states);
+    show_range(lines, b"edges", plan.edges);
+    show_range(lines, b"acc_sets", plan.acc_sets);
+    show_range(lines, b"ap", plan.ap);
 }
 
 /// Adds the operations.
-fn show_operations(text: &mut Text, plan: &Plan) -> Result<(), Memory> {
-    show_file(text, b"product", &plan.product)?;
-    show_file(text, b"product_or", &plan.product_or)?;
-    show_file(text, b"sum", &plan.sum)?;
-    show_hidden(text, &plan.remove_ap)?;
-    show_flag(text, b"trim", plan.trim)?;
-    show_flag(text, b"complement", plan.complement)
+fn show_operations(lines: &mut Lines, plan: &Plan) {
+    show_file(lines, b"product", &plan.product);
+    show_file(lines, b"product_or", &plan.product_or);
+    show_file(lines, b"sum", &plan.sum);
+    show_hidden(lines, &plan.remove_ap);
+    show_flag(lines, b"trim", plan.trim);
+    show_flag(lines, b"complement", plan.complement);
 }
 
 /// Adds the form.
-fn show_form(text: &mut Text, plan: &Plan) -> Result<(), Memory> {
+fn show_form(lines: &mut Lines, plan: &Plan) {
     let line: &[u8] = match plan.form {
-        Form::AsIs => return Ok(()),
+        Form::AsIs => b"",
         Form::Deterministic => b"form deterministic\n",
         Form::Parity => b"form parity\n",
         Form::Buchi => b"form buchi\n",
@@ -60,33 +66,24 @@ fn show_form(text: &mut Text, plan: &Plan) -> Result<(), Memory> {
         Form::Dnf => b"form dnf\n",
         Form::Monitor => b"form monitor\n",
     };
-    text.extend(line)
+    lines.add(line);
 }
 
 /// Adds the options of the whole run.
-fn show_run(alloc: Global, text: &mut Text, plan: &Plan) -> Result<(), Memory> {
-    show_flag(text, b"invert", plan.invert)?;
-    show_flag(text, b"count", plan.count)?;
-    show_flag(text, b"quiet", plan.quiet)?;
-    show_count(alloc, text, b"most", plan.most)?;
-    show_count(alloc, text, b"made", plan.made)?;
+fn show_run(lines: &mut Lines, plan: &Plan) {
+    show_flag(lines, b"invert", plan.invert);
+    show_flag(lines, b"count", plan.count);
+    show_flag(lines, b"quiet", plan.quiet);
+    show_count(lines, b"most", plan.most);
+    show_count(lines, b"made", plan.made);
     for stream in plan.streams.as_slice() {
-        show_line(text, b"stream ", stream.as_bytes())?;
+        lines.add_line(b"stream ", stream.as_bytes());
     }
-    Ok(())
 }
 
 /// Adds a flag that is set.
-fn show_flag(text: &mut Text, name: &[u8], stands: bool) -> Result<(), Memory> {
+fn show_flag(lines: &mut Lines, name: &[u8], stands: bool) {
     if stands {
-        return show_line(text, name, b"");
+        lines.add_line(name, b"");
     }
-    Ok(())
-}
-
-/// Adds a line of two parts.
-pub(crate) fn show_line(text: &mut Text, first: &[u8], second: &[u8]) -> Result<(), Memory> {
-    text.extend(first)?;
-    text.extend(second)?;
-    text.push(b'\n')
 }

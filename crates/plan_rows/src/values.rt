@@ -1,111 +1,93 @@
 //! The values of a plan's fields, as lines.
 
-use crate::shown::show_line;
+use crate::lines::Lines;
 use ap_project::Hide;
-use aut_base::{Memory, Text};
+use aut_base::Text;
 use filter_plan::{Hidden, Output, Piece, Range};
-use std::alloc::Global;
 use word_syntax::Pattern;
 
 /// Adds the file of an operand.
-pub(crate) fn show_file(text: &mut Text, name: &[u8], file: &Option<Text>) -> Result<(), Memory> {
+pub(crate) fn show_file(lines: &mut Lines, name: &[u8], file: &Option<Text>) {
     if let Some(file) = file {
-        text.extend(name)?;
-        show_line(text, b" ", file.as_bytes())?;
+        lines.add(name);
+        lines.add_line(b" ", file.as_bytes());
     }
-    Ok(())
 }
 
 /// Adds a number.
-pub(crate) fn show_count(
-    alloc: Global,
-    text: &mut Text,
-    name: &[u8],
-    count: Option<u32>,
-) -> Result<(), Memory> {
+pub(crate) fn show_count(lines: &mut Lines, name: &[u8], count: Option<u32>) {
     if let Some(count) = count {
-        text.extend(name)?;
-        let line = format!(in alloc; " {count}\n")?;
-        text.extend(line.as_bytes())?;
+        lines.add(name);
+        lines.add(b" ");
+        lines.add_number(u64::from(count));
+        lines.add(b"\n");
     }
-    Ok(())
 }
 
 /// Adds a range by its two ends.
-pub(crate) fn show_range(
-    alloc: Global,
-    text: &mut Text,
-    name: &[u8],
-    range: Option<Range>,
-) -> Result<(), Memory> {
+pub(crate) fn show_range(lines: &mut Lines, name: &[u8], range: Option<Range>) {
     if let Some(range) = range {
-        text.extend(name)?;
-        let low = range.low;
-        let line = match range.high {
-            Some(high) => format!(in alloc; " {low}..{high}\n")?,
-            None => format!(in alloc; " {low}..\n")?,
-        };
-        text.extend(line.as_bytes())?;
+        lines.add(name);
+        lines.add(b" ");
+        lines.add_number(u64::from(range.low));
+        lines.add(b"..");
+        if let Some(high) = range.high {
+            lines.add_number(u64::from(high));
+        }
+        lines.add(b"\n");
     }
-    Ok(())
 }
 
 /// Adds a pattern: its names, and the numbers of letters of its stem and its cycle.
-pub(crate) fn show_pattern(
-    alloc: Global,
-    text: &mut Text,
-    name: &[u8],
-    pattern: &Option<Pattern>,
-) -> Result<(), Memory> {
+pub(crate) fn show_pattern(lines: &mut Lines, name: &[u8], pattern: &Option<Pattern>) {
     if let Some(pattern) = pattern {
-        text.extend(name)?;
+        lines.add(name);
         for proposition in pattern.names.as_slice() {
-            text.push(b' ')?;
-            text.extend(proposition.as_bytes())?;
+            lines.add(b" ");
+            lines.add(proposition.as_bytes());
         }
-        let stem = pattern.stem.len();
-        let cycle = pattern.cycle.len();
-        let line = format!(in alloc; " {stem}+{cycle}\n")?;
-        text.extend(line.as_bytes())?;
+        lines.add(b" ");
+        lines.add_number(pattern.stem.len() as u64);
+        lines.add(b"+");
+        lines.add_number(pattern.cycle.len() as u64);
+        lines.add(b"\n");
     }
-    Ok(())
 }
 
 /// Adds a proposition to hide.
-pub(crate) fn show_hidden(text: &mut Text, hidden: &Option<Hidden>) -> Result<(), Memory> {
+pub(crate) fn show_hidden(lines: &mut Lines, hidden: &Option<Hidden>) {
     if let Some(hidden) = hidden {
         let how: &[u8] = match hidden.how {
             Hide::Any => b"remove_ap any ",
             Hide::Absent => b"remove_ap absent ",
             Hide::Present => b"remove_ap present ",
         };
-        show_line(text, how, hidden.name.as_bytes())?;
+        lines.add_line(how, hidden.name.as_bytes());
     }
-    Ok(())
 }
 
 /// Adds what is printed of each automaton, where that isn't its text.
-pub(crate) fn show_output(text: &mut Text, output: &Output) -> Result<(), Memory> {
+pub(crate) fn show_output(lines: &mut Lines, output: &Output) {
     match output {
-        Output::Hoa => Ok(()),
+        Output::Hoa => {}
         Output::Stats(pieces) => {
-            text.extend(b"stats ")?;
+            lines.add(b"stats ");
             for piece in pieces.as_slice() {
-                show_piece(text, *piece)?;
+                show_piece(lines, *piece);
             }
-            text.push(b'\n')
+            lines.add(b"\n");
         }
-        Output::Refute(file) => show_line(text, b"refute ", file.as_bytes()),
+        Output::Refute(file) => lines.add_line(b"refute ", file.as_bytes()),
     }
 }
 
 /// Adds a piece of a format, in brackets unless it is a byte.
-fn show_piece(text: &mut Text, piece: Piece) -> Result<(), Memory> {
+fn show_piece(lines: &mut Lines, piece: Piece) {
     match piece {
-        Piece::Byte(byte) => text.push(byte),
-        Piece::States => text.extend(b"[states]"),
-        Piece::Edges => text.extend(b"[edges]"),
-        Piece::Sets => text.extend(b"[sets]"),
-        Piece::Word => text.extend(b"[word]"),
+        Piece::Byte(byte) => lines.add(&[byte]),
+        Piece::States => lines.add(b"[states]"),
+        Piece::Edges => lines.add(b"[edges]"),
+        Piece::Sets => lines.add(b"[sets]"),
+        Piece::Word => lines.add(b"[word]"),
     }
 }

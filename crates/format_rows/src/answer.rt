@@ -1,0 +1,96 @@
+//! An answer in words, as far as it is written.
+
+use aut_base::{Memory, Text};
+use std::alloc::{AllocError, Global};
+
+/// An answer that words are added to. Where memory is wanting for one, there is no answer at the end.
+#[derive(Drop)]
+pub(crate) struct Answer {
+    text: Text,
+    lacks_memory: bool,
+}
+
+impl Answer {
+    /// No word was added yet.
+    pub(crate) fn new(alloc: Global) -> Answer {
+        Answer {
+            text: Text::new(alloc),
+            lacks_memory: false,
+        }
+    }
+
+    /// Adds bytes.
+    pub(crate) fn add(&mut self, bytes: &[u8]) {
+        if self.text.extend(bytes).is_err() {
+            self.lacks_memory = true;
+        }
+    }
+
+    /// Adds another answer.
+    pub(crate) fn add_all(&mut self, other: &Answer) {
+        self.add(other.text.as_bytes());
+        if other.lacks_memory {
+            self.lacks_memory = true;
+        }
+    }
+
+    /// Adds words that were formatted.
+    pub(crate) fn add_words(&mut self, words: Result<String, AllocError>) {
+        match words {
+            Ok(words) => self.add(words.as_bytes()),
+            Err(_) => self.lacks_memory = true,
+        }
+    }
+
+    /// Adds a number in base ten.
+    pub(crate) fn add_number(&mut self, number: u64) {
+        if self.text.push_decimal(number).is_err() {
+            self.lacks_memory = true;
+        }
+    }
+
+    /// Adds a word, a space and a number.
+    pub(crate) fn add_count(&mut self, word: &[u8], number: u32) {
+        self.add(word);
+        self.add(b" ");
+        self.add_number(u64::from(number));
+    }
+
+    /// Adds each number with a space before it.
+    pub(crate) fn add_numbers(&mut self, numbers: &[u32]) {
+        for number in numbers {
+            self.add_count(b"", *number);
+        }
+    }
+
+    /// Adds the numbers of sets, in braces, where there are any.
+    pub(crate) fn add_marks(&mut self, marks: &[u32]) {
+        if !marks.is_empty() {
+            self.add(b" {");
+            self.add_numbers(marks);
+            self.add(b" }");
+        }
+    }
+
+    /// Adds a text, in angle brackets.
+    pub(crate) fn add_text(&mut self, text: &[u8]) {
+        self.add(b" <");
+        self.add(text);
+        self.add(b">");
+    }
+
+    /// Adds each text, in angle brackets.
+    pub(crate) fn add_texts(&mut self, texts: &[Text]) {
+        for text in texts {
+            self.add_text(text.as_bytes());
+        }
+    }
+
+    /// The whole answer.
+    pub(crate) fn end(self) -> Result<Text, Memory> {
+        if self.lacks_memory {
+            return Err(Memory);
+        }
+        Ok(self.text)
+    }
+}
