@@ -1,10 +1,10 @@
 //! An automaton as it was parsed, in words: a conjunction or disjunction in Polish notation.
 
-use crate::answer::Answer;
 use crate::conditions::show_formula;
 use aut_base::{Formula, Text};
 use hoa_lexer::Name;
 use hoa_parser::{Item, Raw, RawEdge, RawLabel, RawLabels, RawState, ReadFault};
+use row_files::Answer;
 
 /// Adds a label.
 #[cycle(show_label)]

@@ -1,7 +1,7 @@
 //! An acceptance condition in words: a conjunction or disjunction in Polish notation.
 
-use crate::answer::Answer;
 use aut_base::{Formula, Formulas};
+use row_files::Answer;
 
 /// Adds a set of a condition.
 fn show_set(answer: &mut Answer, word: &[u8], set: u32, neg: bool) {

@@ -1,10 +1,10 @@
 //! What `describe` answers, in words: the automaton that is described, or the fault.
 
-use crate::answer::Answer;
 use crate::conditions::show_formula;
 use aut_base::{Description, Edge, Label, Labels};
 use hoa_parser::Raw;
 use hoa_reader::{ElabFault, describe};
+use row_files::Answer;
 use std::alloc::{AllocError, Global};
 
 /// The first broken rule or passed limit.

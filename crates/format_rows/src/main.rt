@@ -2,7 +2,6 @@
 //! answers are others than those that are stated.
 #![tactic(auto)]
 
-mod answer;
 mod automata;
 mod conditions;
 mod descriptions;

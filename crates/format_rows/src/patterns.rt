@@ -1,8 +1,8 @@
 //! Word patterns, words and automata of patterns, in words.
 
-use crate::answer::Answer;
 use aut_base::{Label, Labels, Lasso, Letter, Text};
 use aut_core::Automaton;
+use row_files::Answer;
 use word_syntax::{LabelList, Pattern};
 
 /// The greatest depth of a formula that is written.

@@ -1,7 +1,7 @@
 //! The outcome of a run.
 
-use crate::answer::Answer;
 use aut_base::{Memory, Text};
+use row_files::Answer;
 use std::fmt;
 
 /// The answers in words, how many bytes were taken, and how many were left.

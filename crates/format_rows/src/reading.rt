@@ -2,7 +2,6 @@
 
 ghost use Rattle.std.specs.Prelude.{◌≡◌, false};
 
-use crate::answer::Answer;
 use crate::automata::{show_raw, show_read_fault};
 use crate::descriptions::show_described;
 use crate::ran::Ran;
@@ -11,6 +10,7 @@ use aut_base::Memory;
 use aut_io::Inputs;
 use hoa_lexer::{LexFault, Lexer, Token};
 use hoa_parser::{Front, Raw, read_raw};
+use row_files::Answer;
 use std::alloc::Global;
 
 /// A call of the lexer or the reader.

@@ -1,7 +1,7 @@
 //! A token or a fault of the lexer, in words.
 
-use crate::answer::Answer;
 use hoa_lexer::{LexFault, Token};
+use row_files::Answer;
 
 /// The kind of a token, and the bytes in it.
 fn parts(token: &Token) -> (&[u8], &[u8]) {

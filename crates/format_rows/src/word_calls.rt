@@ -1,11 +1,10 @@
 //! The calls on words, each in a function of its own.
 
-use crate::answer::Answer;
 use crate::lassos::{Named, long_word, named_word, simple_word};
 use crate::patterns::{show_automaton, show_pattern, show_simple};
 use aut_base::{Lasso, Memory, Text};
 use aut_core::NameFault;
-use row_files::{Fault, number};
+use row_files::{Answer, Fault, number};
 use std::alloc::Global;
 use word_syntax::{
     Pattern, WordFault, is_over, pattern_automaton, print_word, read_name, read_word, reduce,

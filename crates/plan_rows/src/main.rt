@@ -1,7 +1,6 @@
 //! Reads the words of each row as a plan, and prints each row whose outcome is another than the stated one.
 #![tactic(auto)]
 
-mod lines;
 mod row;
 mod shown;
 mod values;

@@ -1,18 +1,18 @@
-//! An answer in words, as far as it is written.
+//! Answers in words.
 
 use aut_base::{Memory, Text};
 use std::alloc::{AllocError, Global};
 
 /// An answer that words are added to. Where memory is wanting for one, there is no answer at the end.
 #[derive(Drop)]
-pub(crate) struct Answer {
+pub struct Answer {
     text: Text,
     lacks_memory: bool,
 }
 
 impl Answer {
     /// No word was added yet.
-    pub(crate) fn new(alloc: Global) -> Answer {
+    pub fn new(alloc: Global) -> Answer {
         Answer {
             text: Text::new(alloc),
             lacks_memory: false,
@@ -20,14 +20,14 @@ impl Answer {
     }
 
     /// Adds bytes.
-    pub(crate) fn add(&mut self, bytes: &[u8]) {
+    pub fn add(&mut self, bytes: &[u8]) {
         if self.text.extend(bytes).is_err() {
             self.lacks_memory = true;
         }
     }
 
     /// Adds another answer.
-    pub(crate) fn add_all(&mut self, other: &Answer) {
+    pub fn add_all(&mut self, other: &Answer) {
         self.add(other.text.as_bytes());
         if other.lacks_memory {
             self.lacks_memory = true;
@@ -35,7 +35,7 @@ impl Answer {
     }
 
     /// Adds words that were formatted.
-    pub(crate) fn add_words(&mut self, words: Result<String, AllocError>) {
+    pub fn add_words(&mut self, words: Result<String, AllocError>) {
         match words {
             Ok(words) => self.add(words.as_bytes()),
             Err(_) => self.lacks_memory = true,
@@ -43,28 +43,35 @@ impl Answer {
     }
 
     /// Adds a number in base ten.
-    pub(crate) fn add_number(&mut self, number: u64) {
+    pub fn add_number(&mut self, number: u64) {
         if self.text.push_decimal(number).is_err() {
             self.lacks_memory = true;
         }
     }
 
+    /// Adds a line of two parts.
+    pub fn add_line(&mut self, first: &[u8], second: &[u8]) {
+        self.add(first);
+        self.add(second);
+        self.add(b"\n");
+    }
+
     /// Adds a word, a space and a number.
-    pub(crate) fn add_count(&mut self, word: &[u8], number: u32) {
+    pub fn add_count(&mut self, word: &[u8], number: u32) {
         self.add(word);
         self.add(b" ");
         self.add_number(u64::from(number));
     }
 
     /// Adds each number with a space before it.
-    pub(crate) fn add_numbers(&mut self, numbers: &[u32]) {
+    pub fn add_numbers(&mut self, numbers: &[u32]) {
         for number in numbers {
             self.add_count(b"", *number);
         }
     }
 
     /// Adds the numbers of sets, in braces, where there are any.
-    pub(crate) fn add_marks(&mut self, marks: &[u32]) {
+    pub fn add_marks(&mut self, marks: &[u32]) {
         if !marks.is_empty() {
             self.add(b" {");
             self.add_numbers(marks);
@@ -73,21 +80,21 @@ impl Answer {
     }
 
     /// Adds a text, in angle brackets.
-    pub(crate) fn add_text(&mut self, text: &[u8]) {
+    pub fn add_text(&mut self, text: &[u8]) {
         self.add(b" <");
         self.add(text);
         self.add(b">");
     }
 
     /// Adds each text, in angle brackets.
-    pub(crate) fn add_texts(&mut self, texts: &[Text]) {
+    pub fn add_texts(&mut self, texts: &[Text]) {
         for text in texts {
             self.add_text(text.as_bytes());
         }
     }
 
     /// The whole answer.
-    pub(crate) fn end(self) -> Result<Text, Memory> {
+    pub fn end(self) -> Result<Text, Memory> {
         if self.lacks_memory {
             return Err(Memory);
         }
