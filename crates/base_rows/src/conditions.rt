@@ -27,24 +27,39 @@ fn written(alloc: Global, word: &str, parts: &mut Vec<Formula>) -> Result<Formul
     match word {
         "t" => Ok(Formula::True),
         "f" => Ok(Formula::False),
-        "&" => Ok(last_two(alloc, Node::And, parts)?),
-        "|" => Ok(last_two(alloc, Node::Or, parts)?),
-        "&&" => Ok(last_three(alloc, Node::And, parts)?),
-        "||" => Ok(last_three(alloc, Node::Or, parts)?),
-        _ => match word.strip_prefix('&') {
-            Some(times) => Ok(repeated(alloc, number(times)?, parts)?),
-            None => atom(word),
-        },
+        "&" => last_two(alloc, Node::And, parts),
+        "|" => last_two(alloc, Node::Or, parts),
+        "&&" => last_three(alloc, Node::And, parts),
+        "||" => last_three(alloc, Node::Or, parts),
+        _ => atom_or_repeated(alloc, word, parts),
+    }
+}
+
+fn atom_or_repeated(alloc: Global, word: &str, parts: &mut Vec<Formula>) -> Result<Formula, Fault> {
+    match word.strip_prefix('&') {
+        Some(times) => repeated(alloc, number(times)?, parts),
+        None => atom(word),
     }
 }
 
 fn atom(word: &str) -> Result<Formula, Fault> {
-    if let Some(rest) = word.strip_prefix('I') {
-        let (neg, set) = set_of(rest)?;
-        return Ok(Formula::Inf { set, neg });
+    match word.strip_prefix('I') {
+        Some(rest) => {
+            let (neg, set) = set_of(rest)?;
+            Ok(Formula::Inf { set, neg })
+        }
+        None => fin(word),
     }
-    let (neg, set) = set_of(word.strip_prefix('F').ok_or(Fault::UnknownKind)?)?;
-    Ok(Formula::Fin { set, neg })
+}
+
+fn fin(word: &str) -> Result<Formula, Fault> {
+    match word.strip_prefix('F') {
+        Some(rest) => {
+            let (neg, set) = set_of(rest)?;
+            Ok(Formula::Fin { set, neg })
+        }
+        None => Err(Fault::UnknownKind),
+    }
 }
 
 /// The set, and whether `!` precedes it.
@@ -55,27 +70,36 @@ fn set_of(word: &str) -> Result<(bool, u32), Fault> {
     }
 }
 
-fn last_two(alloc: Global, node: Node, parts: &mut Vec<Formula>) -> Result<Formula, Memory> {
+fn last_two(alloc: Global, node: Node, parts: &mut Vec<Formula>) -> Result<Formula, Fault> {
     let second = last(parts);
     let first = last(parts);
-    pair(alloc, node, first, second)
+    Ok(pair(alloc, node, first, second)?)
 }
 
-fn last_three(alloc: Global, node: Node, parts: &mut Vec<Formula>) -> Result<Formula, Memory> {
+fn last_three(alloc: Global, node: Node, parts: &mut Vec<Formula>) -> Result<Formula, Fault> {
     let third = last(parts);
     let second = last(parts);
     let first = last(parts);
-    triple(alloc, node, first, second, third)
+    Ok(triple(alloc, node, first, second, third)?)
 }
 
 /// The conjunction of so many copies of the last part, at least two.
-fn repeated(alloc: Global, times: u32, parts: &mut Vec<Formula>) -> Result<Formula, Memory> {
+fn repeated(alloc: Global, times: u32, parts: &mut Vec<Formula>) -> Result<Formula, Fault> {
     let part = last(parts);
-    let mut copies = Formulas::pair(alloc, part.copy(alloc)?, part.copy(alloc)?)?;
+    Ok(Formula::And(copies(alloc, &part, times)?))
+}
+
+fn copies(alloc: Global, part: &Formula, times: u32) -> Result<Formulas, Memory> {
+    let mut copies = two_copies(alloc, part)?;
     for _ in 2..times {
         copies.push(part.copy(alloc)?)?;
     }
-    Ok(Formula::And(copies))
+    Ok(copies)
+}
+
+fn two_copies(alloc: Global, part: &Formula) -> Result<Formulas, Memory> {
+    let first = part.copy(alloc)?;
+    Formulas::pair(alloc, first, part.copy(alloc)?)
 }
 
 /// Takes the last part; it is `f` where there is none.
@@ -93,10 +117,13 @@ pub(crate) fn pair(
     first: Formula,
     second: Formula,
 ) -> Result<Formula, Memory> {
-    let parts = Formulas::pair(alloc, first, second)?;
+    Ok(joined(node, Formulas::pair(alloc, first, second)?))
+}
+
+fn joined(node: Node, parts: Formulas) -> Formula {
     match node {
-        Node::And => Ok(Formula::And(parts)),
-        Node::Or => Ok(Formula::Or(parts)),
+        Node::And => Formula::And(parts),
+        Node::Or => Formula::Or(parts),
     }
 }
 
@@ -110,10 +137,7 @@ pub(crate) fn triple(
 ) -> Result<Formula, Memory> {
     let mut parts = Formulas::pair(alloc, first, second)?;
     parts.push(third)?;
-    match node {
-        Node::And => Ok(Formula::And(parts)),
-        Node::Or => Ok(Formula::Or(parts)),
-    }
+    Ok(joined(node, parts))
 }
 
 /// The condition as a text.

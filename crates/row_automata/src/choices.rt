@@ -2,7 +2,7 @@
 
 ghost use Rattle.std.specs.Prelude.{◌<◌};
 
-use crate::build::{automaton, marks};
+use crate::build::{automaton, marks, well_formed};
 use aut_base::{Edge, Edges, Formula, Label, Labels, Memory, Numbers};
 use aut_core::Automaton;
 use row_files::{Fault, Sequence};
@@ -47,9 +47,26 @@ pub fn chosen(
     from: &[u32],
     formula: Formula,
 ) -> Result<Automaton, Fault> {
+    let (starts, edges) = starts_and_edges(alloc, choices, names.len(), states, from)?;
+    let made = automaton(alloc, names, states, starts, edges, 2, formula)?;
+    well_formed(made)
+}
+
+fn starts_and_edges(
+    alloc: Global,
+    choices: &mut Choices,
+    names: usize,
+    states: u32,
+    from: &[u32],
+) -> Result<(Numbers, Edges), Fault> {
     if states == 0 {
         return Err(Fault::Missing);
     }
+    let starts = starts(alloc, choices, states)?;
+    Ok((starts, edges(alloc, choices, names, states, from)?))
+}
+
+fn starts(alloc: Global, choices: &mut Choices, states: u32) -> Result<Numbers, Memory> {
     let mut starts = Numbers::new(alloc);
     starts.push(0)?;
     for state in 1..states {
@@ -57,14 +74,24 @@ pub fn chosen(
             starts.push(state)?;
         }
     }
+    Ok(starts)
+}
+
+/// One chosen edge from each of these states.
+fn edges(
+    alloc: Global,
+    choices: &mut Choices,
+    names: usize,
+    states: u32,
+    from: &[u32],
+) -> Result<Edges, Memory>
+    requires { 0 < states }
+{
     let mut edges = Edges::new(alloc);
     for state in from {
-        edges.push(edge(alloc, choices, names.len(), states, *state)?)?;
+        edges.push(edge(alloc, choices, names, states, *state)?)?;
     }
-    match automaton(alloc, names, states, starts, edges, 2, formula)? {
-        Some(a) => Ok(a),
-        None => Err(Fault::Failed),
-    }
+    Ok(edges)
 }
 
 /// An edge with a chosen set of letters, target and marks.

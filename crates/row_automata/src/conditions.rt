@@ -31,24 +31,24 @@ fn atom(number: u32) -> Formula {
 }
 
 fn of_two(alloc: Global, shape: u32, first: Formula, second: Formula) -> Result<Formula, Memory> {
-    let parts = Formulas::pair(alloc, first, second)?;
+    Ok(joined(shape, Formulas::pair(alloc, first, second)?))
+}
+
+fn joined(shape: u32, parts: Formulas) -> Formula {
     if shape == 0 {
-        return Ok(Formula::And(parts));
+        return Formula::And(parts);
     }
-    Ok(Formula::Or(parts))
+    Formula::Or(parts)
 }
 
 /// Three atoms, by the shape: all under an And or an Or; the first and (one of the others); or the first or (both others).
 fn of_three(alloc: Global, shape: u32, atoms: u32) -> Result<Formula, Memory> {
-    let (first, second, third) = (atom(atoms / 64), atom(atoms / 8), atom(atoms));
+    let (first, second, third) = (atoms / 64, atoms / 8, atoms);
     if shape >= 2 {
-        let others = of_two(alloc, 3 - shape.min(3), second, third)?;
-        return of_two(alloc, shape - 2, first, others);
+        let others = of_two(alloc, 3 - shape.min(3), atom(second), atom(third))?;
+        return of_two(alloc, shape - 2, atom(first), others);
     }
-    let mut parts = Formulas::pair(alloc, first, second)?;
-    parts.push(third)?;
-    if shape == 0 {
-        return Ok(Formula::And(parts));
-    }
-    Ok(Formula::Or(parts))
+    let mut parts = Formulas::pair(alloc, atom(first), atom(second))?;
+    parts.push(atom(third))?;
+    Ok(joined(shape, parts))
 }

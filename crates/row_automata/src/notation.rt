@@ -1,6 +1,6 @@
 //! The notation of automata in rows.
 
-use crate::build::{automaton, marks};
+use crate::build::{automaton, marks, well_formed};
 use aut_base::{Edge, Edges, Formula, Formulas, Label, Labels, Marks, Memory, Numbers};
 use aut_core::Automaton;
 use row_files::{Fault, kind_and_rest, number};
@@ -9,27 +9,17 @@ use std::alloc::Global;
 /// The automaton of a line: `STATES/STARTS/NAMES/SETS/CONDITION EDGE EDGE ..`. Each start is a digit, each name a byte.
 pub fn read(alloc: Global, line: &str) -> Result<Automaton, Fault> {
     let (head, written) = kind_and_rest(line);
-    let edges = edges(alloc, written)?;
-    match described(alloc, head, edges)? {
-        Some(a) => Ok(a),
-        None => Err(Fault::Failed),
-    }
+    let (states, sets) = (number(part(head, 0))?, number(part(head, 3))?);
+    let names = part(head, 2).as_bytes();
+    let (starts, edges) = starts_and_edges(alloc, part(head, 1), written)?;
+    let formula = formula(alloc, part(head, 4))?;
+    let made = automaton(alloc, names, states, starts, edges, sets, formula)?;
+    well_formed(made)
 }
 
-fn described(alloc: Global, head: &str, edges: Edges) -> Result<Option<Automaton>, Fault> {
-    let states = number(part(head, 0))?;
-    let starts = digits(alloc, part(head, 1))?;
-    let sets = number(part(head, 3))?;
-    let formula = formula(alloc, part(head, 4))?;
-    Ok(automaton(
-        alloc,
-        part(head, 2).as_bytes(),
-        states,
-        starts,
-        edges,
-        sets,
-        formula,
-    )?)
+fn starts_and_edges(alloc: Global, starts: &str, written: &str) -> Result<(Numbers, Edges), Fault> {
+    let starts = digits(alloc, starts)?;
+    Ok((starts, edges(alloc, written)?))
 }
 
 /// The part of this index between slashes, or the empty text where there are fewer.
@@ -60,11 +50,13 @@ fn edge(alloc: Global, word: &str) -> Result<Edge, Fault> {
     let (from, rest) = halves(word, '[')?;
     let (written, end) = halves(rest, ']')?;
     let (to, sets) = end.split_once('+').unwrap_or((end, ""));
+    let (from, to) = (number(from)?, number(to)?);
+    let marks = marks_of(alloc, sets)?;
     Ok(Edge {
-        from: number(from)?,
+        from,
         label: label(alloc, written)?,
-        to: number(to)?,
-        marks: marks_of(alloc, sets)?,
+        to,
+        marks,
     })
 }
 
@@ -77,13 +69,19 @@ fn halves(word: &str, sign: char) -> Result<(&str, &str), Fault> {
 
 /// Numbers of sets separated by `+`, or none.
 fn marks_of(alloc: Global, sets: &str) -> Result<Marks, Fault> {
-    let mut bits = 0;
-    if !sets.is_empty() {
-        for set in sets.split('+') {
-            bits |= 1u32 << number(set)?.min(31);
-        }
+    if sets.is_empty() {
+        return Ok(Marks::new(alloc));
     }
-    Ok(marks(alloc, bits)?)
+    Ok(marks(alloc, bits_of(sets)?)?)
+}
+
+/// The bits of numbers of sets separated by `+`.
+fn bits_of(sets: &str) -> Result<u32, Fault> {
+    let mut bits = 0;
+    for set in sets.split('+') {
+        bits |= 1u32 << number(set)?.min(31);
+    }
+    Ok(bits)
 }
 
 /// A label: cubes separated by `|`.
@@ -93,7 +91,7 @@ fn label(alloc: Global, written: &str) -> Result<Label, Fault> {
     if !others.is_empty() {
         for other in others.split('|') {
             let other = cube(alloc, other)?;
-            label = Label::Or(Box::new(alloc, Labels::pair(alloc, label, other))?);
+            label = Label::Or(two(alloc, label, other)?);
         }
     }
     Ok(label)
@@ -106,10 +104,14 @@ fn cube(alloc: Global, written: &str) -> Result<Label, Fault> {
     if !others.is_empty() {
         for other in others.split('&') {
             let other = literal(alloc, other)?;
-            cube = Label::And(Box::new(alloc, Labels::pair(alloc, cube, other))?);
+            cube = Label::And(two(alloc, cube, other)?);
         }
     }
     Ok(cube)
+}
+
+fn two(alloc: Global, first: Label, second: Label) -> Result<Box<Labels>, Memory> {
+    Ok(Box::new(alloc, Labels::pair(alloc, first, second))?)
 }
 
 /// A literal: `t`, `f` or the number of a name, after any number of `!`.
@@ -147,7 +149,8 @@ fn conjunction(alloc: Global, written: &str) -> Result<Formula, Fault> {
     let mut formula = atom(first)?;
     if !others.is_empty() {
         for other in others.split('&') {
-            formula = Formula::And(Formulas::pair(alloc, formula, atom(other)?)?);
+            let other = atom(other)?;
+            formula = Formula::And(Formulas::pair(alloc, formula, other)?);
         }
     }
     Ok(formula)

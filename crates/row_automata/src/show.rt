@@ -2,22 +2,28 @@
 
 use aut_base::{Formula, Formulas, Memory, Text};
 use aut_core::{Automaton, Link};
+use label_guards::{Guard, Guards};
 use std::alloc::Global;
 
 /// The automaton in the notation of rows, except that its condition is in Polish notation and its labels have spaces.
 pub fn shown(alloc: Global, a: &Automaton) -> Result<Text, Memory> {
     let mut text = Text::new(alloc);
-    push_number(alloc, &mut text, a.states())?;
-    text.push(b'/')?;
-    push_starts_and_names(alloc, &mut text, a)?;
-    text.push(b'/')?;
-    push_number(alloc, &mut text, a.sets())?;
-    text.push(b'/')?;
-    push_formula(alloc, &mut text, a.formula())?;
+    push_head(alloc, &mut text, a)?;
     for link in a.links() {
         push_link(alloc, &mut text, a, link)?;
     }
     Ok(text)
+}
+
+/// Adds what is before the edges.
+fn push_head(alloc: Global, text: &mut Text, a: &Automaton) -> Result<(), Memory> {
+    push_number(alloc, text, a.states())?;
+    text.push(b'/')?;
+    push_starts_and_names(alloc, text, a)?;
+    text.push(b'/')?;
+    push_number(alloc, text, a.sets())?;
+    text.push(b'/')?;
+    push_formula(alloc, text, a.formula())
 }
 
 fn push_starts_and_names(alloc: Global, text: &mut Text, a: &Automaton) -> Result<(), Memory> {
@@ -70,15 +76,25 @@ fn push_parts(alloc: Global, text: &mut Text, sign: u8, parts: &Formulas) -> Res
 fn push_link(alloc: Global, text: &mut Text, a: &Automaton, link: &Link) -> Result<(), Memory> {
     text.push(b' ')?;
     push_number(alloc, text, link.from)?;
-    text.push(b'[')?;
-    if a.guards().has(link.guard) {
-        text.extend(a.guards().cubes(alloc, link.guard)?.as_bytes())?;
-    }
-    text.push(b']')?;
+    push_label(alloc, text, a, link)?;
     push_number(alloc, text, link.to)?;
     for mark in link.marks.as_slice() {
         text.push(b'+')?;
         push_number(alloc, text, *mark)?;
+    }
+    Ok(())
+}
+
+/// Adds the label of an edge, in brackets.
+fn push_label(alloc: Global, text: &mut Text, a: &Automaton, link: &Link) -> Result<(), Memory> {
+    text.push(b'[')?;
+    push_guard(alloc, text, a.guards(), link.guard)?;
+    text.push(b']')
+}
+
+fn push_guard(alloc: Global, text: &mut Text, guards: &Guards, guard: Guard) -> Result<(), Memory> {
+    if guards.has(guard) {
+        text.extend(guards.cubes(alloc, guard)?.as_bytes())?;
     }
     Ok(())
 }

@@ -11,6 +11,13 @@ pub struct Word {
     pub cycle: Vec<u32>,
 }
 
+impl Word {
+    /// The number of positions before the cycle begins anew.
+    pub(crate) fn len(&self) -> usize {
+        self.stem.len().saturating_add(self.cycle.len())
+    }
+}
+
 /// All words of these stems and cycles.
 #[derive(Drop)]
 pub struct Words {

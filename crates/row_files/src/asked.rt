@@ -55,12 +55,7 @@ impl<A: Answers> Row for Asked<A> {
             add_escaped(rt.alloc(), &mut self.wanted, rest, 0)?;
             return Ok(false);
         }
-        self.lines.push_str(line)?;
-        self.lines.push('\n')?;
-        match kind.strip_prefix('<') {
-            Some(form) => add(rt, &mut self.text, form, rest)?,
-            None => return Err(Fault::UnknownKind),
-        }
+        self.add_input(rt, line)?;
         Ok(false)
     }
 
@@ -72,14 +67,11 @@ impl<A: Answers> Row for Asked<A> {
     }
 
     fn different(&self, rt: &HostRuntime) -> Result<Option<String>, Fault> {
-        let call = self.call.as_str();
-        let answer = self.answers.answer(rt, call, &self.text)?;
+        let answer = self.answers.answer(rt, self.call.as_str(), &self.text)?;
         if answer.as_bytes() == self.wanted.as_bytes() {
             return Ok(None);
         }
-        let lines = self.lines.as_str();
-        let shown = std::str::from_utf8(answer.as_bytes()).unwrap_or("(no text)");
-        Ok(Some(format!(in rt.alloc(); "? {call}\n{lines}> {shown}")?))
+        Ok(Some(self.message(rt.alloc(), answer.as_bytes())?))
     }
 
     fn clear(&mut self, alloc: Global) {
@@ -90,6 +82,25 @@ impl<A: Answers> Row for Asked<A> {
 }
 
 impl<A> Asked<A> {
+    /// Adds a line of the input.
+    fn add_input(&mut self, rt: &HostRuntime, line: &str) -> Result<(), Fault> {
+        self.lines.push_str(line)?;
+        self.lines.push('\n')?;
+        let (kind, rest) = kind_and_rest(line);
+        match kind.strip_prefix('<') {
+            Some(form) => add(rt, &mut self.text, form, rest),
+            None => Err(Fault::UnknownKind),
+        }
+    }
+
+    /// The row with this answer.
+    fn message(&self, alloc: Global, answer: &[u8]) -> Result<String, Fault> {
+        let call = self.call.as_str();
+        let lines = self.lines.as_str();
+        let shown = std::str::from_utf8(answer).unwrap_or("(no text)");
+        Ok(format!(in alloc; "? {call}\n{lines}> {shown}")?)
+    }
+
     /// Takes the name of the call, for this row and those after it.
     fn set_call(&mut self, name: &str) -> Result<(), Fault> {
         if !self.lines.as_str().is_empty() {

@@ -45,13 +45,34 @@ fn run_file<R: Row>(
     count: &mut Count,
 ) -> Result<(), Fault> {
     let text = fs::read_to_string(rt, file)?;
+    run_text(rt, text.as_str(), number, row, count)
+}
+
+fn run_text<R: Row>(
+    rt: &HostRuntime,
+    text: &str,
+    number: &mut u32,
+    row: &mut R,
+    count: &mut Count,
+) -> Result<(), Fault> {
     for line in text.lines() {
         *number = number.saturating_add(1);
-        if is_ended(rt, line, row)? {
-            finish(rt, row, count)?;
-        }
+        run_line(rt, line, row, count)?;
     }
     if row.is_whole()? {
+        finish(rt, row, count)?;
+    }
+    Ok(())
+}
+
+/// Gives a line to the row, and runs it where that ends it.
+fn run_line<R: Row>(
+    rt: &HostRuntime,
+    line: &str,
+    row: &mut R,
+    count: &mut Count,
+) -> Result<(), Fault> {
+    if is_ended(rt, line, row)? {
         finish(rt, row, count)?;
     }
     Ok(())
