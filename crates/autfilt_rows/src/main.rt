@@ -1,9 +1,13 @@
 //! Runs the command on each row of the files of rows, and prints the runs whose outcome is another than the stated one.
 #![tactic(auto)]
 
+mod failing;
 mod inputs;
+mod named;
 mod ran;
 mod row;
+mod runs;
+mod stated;
 mod sure;
 
 use row::CommandRow;
@@ -38,7 +42,12 @@ const FILES: [&str; 23] = [
 
 fn main(rt: HostRuntime) -> Result<(), Stop> {
     let mut count = Count::new();
-    run(&rt, &FILES, &mut CommandRow::new(rt.alloc()), &mut count)?;
+    run_files(&rt, &mut count)?;
     sure::count_all(&rt, &mut count)?;
     count.end(&rt)
+}
+
+fn run_files(rt: &HostRuntime, count: &mut Count) -> Result<(), Stop> {
+    let mut row = CommandRow::new(rt.alloc());
+    run(rt, &FILES, &mut row, count)
 }

@@ -1,6 +1,6 @@
 //! The outcome of a run.
 
-use aut_base::Words;
+use aut_base::{Memory, Numbers, Words};
 use aut_io::{Inputs, MemInputs, MemSink};
 use autfilt_run::{Ended, autfilt};
 use std::alloc::Global;
@@ -10,13 +10,39 @@ use std::fmt;
 #[derive(Drop)]
 pub(crate) struct Ran {
     pub(crate) status: u8,
-    pub(crate) out: MemSink,
-    pub(crate) notes: MemSink,
+    pub(crate) out: Box<MemSink>,
+    pub(crate) notes: Box<MemSink>,
     pub(crate) left: u32,
 }
 
+/// The outcome of the command over these inputs and sinks.
+pub(crate) fn run_over(
+    alloc: Global,
+    words: &Words,
+    inputs: Box<MemInputs>,
+    out: Box<MemSink>,
+    notes: Box<MemSink>,
+) -> Result<Box<Ran>, Memory> {
+    let mut inputs = inputs;
+    let mut out = out;
+    let mut notes = notes;
+    let ended = ended(alloc, words, &mut inputs, &mut out, &mut notes);
+    let ran = Ran {
+        status: ended.status(),
+        out,
+        notes,
+        left: bytes_left(&mut inputs),
+    };
+    Ok(Box::new(alloc, ran)?)
+}
+
+/// A sink of this capacity, whose writes of these numbers fail.
+pub(crate) fn sink(alloc: Global, capacity: u32, failing: Numbers) -> Result<Box<MemSink>, Memory> {
+    Ok(Box::new(alloc, MemSink::new(alloc, capacity, failing)?)?)
+}
+
 /// Runs the command. It is a function of its own so that no other one has to deal with the command's contract.
-pub(crate) fn ended(
+fn ended(
     alloc: Global,
     words: &Words,
     inputs: &mut MemInputs,
@@ -27,7 +53,7 @@ pub(crate) fn ended(
 }
 
 /// How many bytes are left of the open text. They are read for it, again after reads that fail.
-pub(crate) fn bytes_left(inputs: &mut MemInputs) -> u32 {
+fn bytes_left(inputs: &mut MemInputs) -> u32 {
     let mut left = 0u32;
     for _ in 0..u32::MAX {
         match inputs.next() {

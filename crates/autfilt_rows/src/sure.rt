@@ -26,27 +26,44 @@ const ROWS: [(&[u8], Ended); 5] = [
 
 /// The end of a run without words over this standard input.
 fn ended(alloc: Global, text: &[u8]) -> Result<Ended, Memory> {
+    let mut inputs = inputs(alloc, text)?;
+    Ok(ended_over(alloc, &Words::new(alloc), &mut inputs))
+}
+
+/// Inputs with this standard input alone.
+fn inputs(alloc: Global, text: &[u8]) -> Result<SureInputs, Memory> {
+    let name = Text::from_bytes(alloc, b"-")?;
+    let text = Text::from_bytes(alloc, text)?;
     let mut names = Names::new(alloc);
     let mut texts = Words::new(alloc);
-    names.push(Text::from_bytes(alloc, b"-")?)?;
-    texts.push(Text::from_bytes(alloc, text)?)?;
-    let mut inputs = SureInputs::new(names, texts);
-    let mut out = SureSink::new();
-    let mut notes = SureSink::new();
-    let words = Words::new(alloc);
-    Ok(autfilt(alloc, &words, &mut inputs, &mut out, &mut notes))
+    names.push(name)?;
+    texts.push(text)?;
+    Ok(SureInputs::new(names, texts))
+}
+
+fn ended_over(alloc: Global, words: &Words, inputs: &mut SureInputs) -> Ended {
+    autfilt(
+        alloc,
+        words,
+        inputs,
+        &mut SureSink::new(),
+        &mut SureSink::new(),
+    )
 }
 
 /// Counts these runs, and those that end otherwise.
 pub(crate) fn count_all(rt: &HostRuntime, count: &mut Count) -> Result<(), Fault> {
     for (text, wanted) in ROWS.iter() {
-        let ended = ended(rt.alloc(), text)?;
-        let different = if ended == *wanted {
-            None
-        } else {
-            Some(format!(in rt.alloc(); "a sure run: {ended:?} in place of {wanted:?}")?)
-        };
-        count.take(rt, different)?;
+        count.take(rt, different(rt.alloc(), text, *wanted)?)?;
     }
     Ok(())
+}
+
+/// What is printed where a run ends otherwise.
+fn different(alloc: Global, text: &[u8], wanted: Ended) -> Result<Option<String>, Fault> {
+    let ended = ended(alloc, text)?;
+    if ended == wanted {
+        return Ok(None);
+    }
+    Ok(Some(format!(in alloc; "a sure run: {ended:?} in place of {wanted:?}")?))
 }

@@ -21,14 +21,26 @@ impl Answers for Constructions {
         let (first, others) = lines.split_once('\n').unwrap_or((lines, ""));
         let (second, _) = others.split_once('\n').unwrap_or((others, ""));
         if let Some(call) = single_call(call) {
-            return answer_to(alloc, make(alloc, call, &read(alloc, first)?)?);
+            return single_answer(alloc, call, first);
         }
         if let Some(call) = double_call(call) {
-            let (a, b) = (read(alloc, first)?, read(alloc, second)?);
-            return answer_to(alloc, make_of_two(alloc, call, &a, &b)?);
+            return double_answer(alloc, call, first, second);
         }
         other_answer(alloc, call, first)
     }
+}
+
+/// What the construction makes of the automaton of a line.
+fn single_answer(alloc: Global, call: Single, line: &str) -> Result<Text, Fault> {
+    let a = read(alloc, line)?;
+    answer_to(alloc, &make(alloc, call, &a)?)
+}
+
+/// What the construction makes of the automata of two lines.
+fn double_answer(alloc: Global, call: Double, first: &str, second: &str) -> Result<Text, Fault> {
+    let a = read(alloc, first)?;
+    let b = read(alloc, second)?;
+    answer_to(alloc, &make_of_two(alloc, call, &a, &b)?)
 }
 
 fn single_call(name: &str) -> Option<Single> {
@@ -56,23 +68,28 @@ fn double_call(name: &str) -> Option<Double> {
 /// The calls whose input isn't one automaton, or whose answer isn't an automaton.
 fn other_answer(alloc: Global, call: &str, line: &str) -> Result<Text, Fault> {
     let (call, rest) = kind_and_rest(call);
+    match hiding_call(call) {
+        Some(how) => hiding_answer(alloc, rest, how, line),
+        None => size(alloc, call, line),
+    }
+}
+
+fn hiding_call(name: &str) -> Option<Hide> {
+    match name {
+        "any" => Some(Hide::Any),
+        "absent" => Some(Hide::Absent),
+        "present" => Some(Hide::Present),
+        _ => None,
+    }
+}
+
+/// The calls that answer with sizes.
+fn size(alloc: Global, call: &str, line: &str) -> Result<Text, Fault> {
     match call {
-        "reached_size" => Ok(reached(alloc, &read(alloc, line)?)?),
-        "any" => hiding_answer(alloc, rest, Hide::Any, line),
-        "absent" => hiding_answer(alloc, rest, Hide::Absent, line),
-        "present" => hiding_answer(alloc, rest, Hide::Present, line),
-        "to_buchi_of_ring" => {
-            let ring = ring(alloc, number(line)?)?;
-            size_answer(alloc, make(alloc, Single::Buchi, &ring)?)
-        }
-        "to_buchi_of_choices" => {
-            let a = choices(alloc, number(line)?)?;
-            size_answer(alloc, make(alloc, Single::Buchi, &a)?)
-        }
-        "copies_of_choices" => {
-            let a = choices(alloc, number(line)?)?;
-            size_answer(alloc, make(alloc, Single::Copies, &a)?)
-        }
+        "reached_size" => reached_answer(alloc, line),
+        "to_buchi_of_ring" => size_of_ring(alloc, line),
+        "to_buchi_of_choices" => size_of_choices(alloc, Single::Buchi, line),
+        "copies_of_choices" => size_of_choices(alloc, Single::Copies, line),
         _ => Err(Fault::UnknownKind),
     }
 }
@@ -81,22 +98,43 @@ fn other_answer(alloc: Global, call: &str, line: &str) -> Result<Text, Fault> {
 fn hiding_answer(alloc: Global, name: &str, how: Hide, line: &str) -> Result<Text, Fault> {
     let a = read(alloc, line)?;
     let name = Text::from_bytes(alloc, name.as_bytes())?;
-    Ok(shown(alloc, &hidden(alloc, &a, &name, how)?)?)
+    Ok(shown_hidden(alloc, &a, &name, how)?)
 }
 
-fn answer_to(alloc: Global, made: Made) -> Result<Text, Fault> {
+fn shown_hidden(alloc: Global, a: &Automaton, name: &Text, how: Hide) -> Result<Text, Memory> {
+    shown(alloc, &hidden(alloc, a, name, how)?)
+}
+
+/// The size of the Büchi form of a ring of so many states.
+fn size_of_ring(alloc: Global, states: &str) -> Result<Text, Fault> {
+    let ring = ring(alloc, number(states)?)?;
+    size_answer(alloc, &make(alloc, Single::Buchi, &ring)?)
+}
+
+/// The size of what the construction makes of so many choices.
+fn size_of_choices(alloc: Global, call: Single, count: &str) -> Result<Text, Fault> {
+    let a = choices(alloc, number(count)?)?;
+    size_answer(alloc, &make(alloc, call, &a)?)
+}
+
+fn answer_to(alloc: Global, made: &Made) -> Result<Text, Fault> {
     match made {
-        Made::Automaton(a) => Ok(shown(alloc, &a)?),
+        Made::Automaton(a) => Ok(shown(alloc, a)?),
         Made::Refused(why) => Ok(Text::from_bytes(alloc, why.as_bytes())?),
     }
 }
 
 /// The numbers of states and sets, without the automaton.
-fn size_answer(alloc: Global, made: Made) -> Result<Text, Fault> {
+fn size_answer(alloc: Global, made: &Made) -> Result<Text, Fault> {
     match made {
         Made::Automaton(a) => Ok(pair(alloc, a.states(), a.sets())?),
         Made::Refused(why) => Ok(Text::from_bytes(alloc, why.as_bytes())?),
     }
+}
+
+fn reached_answer(alloc: Global, line: &str) -> Result<Text, Fault> {
+    let a = read(alloc, line)?;
+    Ok(reached(alloc, &a)?)
 }
 
 /// How many states are reached, and how many edges leave them.

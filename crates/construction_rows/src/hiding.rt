@@ -1,6 +1,6 @@
 //! Random automata with `a` hidden, compared with the definition of hiding.
 
-use crate::compared::{accepted, told};
+use crate::compared::{accepted, told_unless};
 use crate::made::hidden;
 use ap_project::Hide;
 use aut_base::{Formula, Memory, Text};
@@ -17,48 +17,86 @@ const WAYS: [(Hide, &str); 3] = [
 
 /// Random automata of two states and four edges, with each kind of hiding.
 pub(crate) fn compared(rt: &HostRuntime, count: &mut Count) -> Result<(), Fault> {
-    let alloc = rt.alloc();
-    let words = Words::new(alloc, 4, 1, 2)?;
+    let words = Words::new(rt.alloc(), 4, 1, 2)?;
     let mut choices = Choices::chance();
     for _ in 0..500 {
-        let again = Formula::Inf { set: 0, neg: false };
-        let a = chosen(alloc, &mut choices, b"ab", 2, &[0, 0, 1, 1], again)?;
-        for (how, call) in WAYS {
-            let is_right = is_hidden(alloc, &a, how, &words)?;
-            let different = if is_right {
-                None
-            } else {
-                Some(told(alloc, call, &a)?)
-            };
-            count.take(rt, different)?;
-        }
+        let a = four_edges(rt.alloc(), &mut choices)?;
+        compare_ways(rt, count, &a, &words)?;
+    }
+    Ok(())
+}
+
+fn four_edges(alloc: Global, choices: &mut Choices) -> Result<Automaton, Fault> {
+    let again = Formula::Inf { set: 0, neg: false };
+    chosen(alloc, choices, b"ab", 2, &[0, 0, 1, 1], again)
+}
+
+/// An automaton with each kind of hiding.
+fn compare_ways(
+    rt: &HostRuntime,
+    count: &mut Count,
+    a: &Automaton,
+    words: &Words,
+) -> Result<(), Fault> {
+    for (how, call) in WAYS {
+        let is_right = is_hidden(rt.alloc(), a, how, words)?;
+        count.take(rt, told_unless(is_right, rt.alloc(), call, a)?)?;
     }
     Ok(())
 }
 
 /// Whether each word is accepted with `a` hidden exactly where the automaton accepts some word that differs from it in `a`
 /// alone.
-fn is_hidden(alloc: Global, a: &Automaton, how: Hide, words: &Words) -> Result<bool, Fault> {
-    let blurred = Words {
-        stems: blurred(alloc, how, &words.stems)?,
-        cycles: blurred(alloc, how, &words.cycles)?,
-    };
+fn is_hidden(alloc: Global, a: &Automaton, how: Hide, words: &Words) -> Result<bool, Memory> {
+    let wanted = accepted_blurred(alloc, a, how, words)?;
+    Ok(accepted_hidden(alloc, a, how, words)? == wanted)
+}
+
+/// For each word, whether the automaton with `a` hidden accepts it.
+fn accepted_hidden(
+    alloc: Global,
+    a: &Automaton,
+    how: Hide,
+    words: &Words,
+) -> Result<Vec<bool>, Memory> {
     let name = Text::from_bytes(alloc, b"a")?;
     let made = hidden(alloc, a, &name, how)?;
-    Ok(accepted(alloc, &made, words)? == accepted(alloc, a, &blurred)?)
+    accepted(alloc, &made, words)
+}
+
+/// For each word, whether the automaton accepts some word that differs from it in `a` alone.
+fn accepted_blurred(
+    alloc: Global,
+    a: &Automaton,
+    how: Hide,
+    words: &Words,
+) -> Result<Vec<bool>, Memory> {
+    let blurred = blurred_words(alloc, how, words)?;
+    accepted(alloc, a, &blurred)
+}
+
+fn blurred_words(alloc: Global, how: Hide, words: &Words) -> Result<Words, Memory> {
+    Ok(Words {
+        stems: blurred_lists(alloc, how, &words.stems)?,
+        cycles: blurred_lists(alloc, how, &words.cycles)?,
+    })
 }
 
 /// Lists of letters, each with all letters that it may be with `a` hidden.
-fn blurred(alloc: Global, how: Hide, lists: &[Vec<u32>]) -> Result<Vec<Vec<u32>>, Memory> {
+fn blurred_lists(alloc: Global, how: Hide, lists: &[Vec<u32>]) -> Result<Vec<Vec<u32>>, Memory> {
     let mut all = Vec::new(alloc);
     for list in lists {
-        let mut blurred = Vec::new(alloc);
-        for letter in list.iter() {
-            blurred.push(may_be(how, *letter))?;
-        }
-        all.push(blurred)?;
+        all.push(blurred(alloc, how, list)?)?;
     }
     Ok(all)
+}
+
+fn blurred(alloc: Global, how: Hide, list: &[u32]) -> Result<Vec<u32>, Memory> {
+    let mut blurred = Vec::new(alloc);
+    for letter in list {
+        blurred.push(may_be(how, *letter))?;
+    }
+    Ok(blurred)
 }
 
 /// The letters that agree with this one on `b`: all of them, those without `a`, or those with it.

@@ -8,6 +8,7 @@ mod hiding;
 mod made;
 mod monitors;
 mod oracles;
+mod parities;
 mod rings;
 
 use calls::Constructions;
@@ -34,7 +35,7 @@ fn try_small(rt: &HostRuntime, count: &mut Count) -> Result<(), Stop> {
     oracles::agree(rt, count)?;
     compared::operations(rt, count)?;
     compared::forms(rt, count)?;
-    compared::parities(rt, count)?;
+    parities::compared(rt, count)?;
     hiding::compared(rt, count)?;
     monitors::compared(rt, count)?;
     Ok(())

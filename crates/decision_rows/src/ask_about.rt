@@ -26,13 +26,16 @@ pub(crate) enum Found {
 
 /// A word that the automaton accepts. The call that answers without a word has to agree.
 pub(crate) fn word_of(alloc: Global, a: &Automaton) -> Result<Found, Memory> {
-    let found = found_word(alloc, a)?;
-    if accepts_some(alloc, a)? != found.is_some() {
-        return Ok(Found::Apart);
-    }
+    let is_said = accepts_some(alloc, a)?;
+    Ok(agreed(found_word(alloc, a)?, is_said))
+}
+
+/// The word, or that there is none, where the call that answers without a word says the same.
+fn agreed(found: Option<Lasso>, is_said: bool) -> Found {
     match found {
-        Some(word) => Ok(Found::Word(word)),
-        None => Ok(Found::Nothing),
+        Some(word) if is_said => Found::Word(word),
+        None if !is_said => Found::Nothing,
+        _ => Found::Apart,
     }
 }
 
@@ -45,12 +48,28 @@ pub(crate) fn word_of_both(alloc: Global, a: &Automaton, b: &Automaton) -> Resul
     if a.sets() > MOST || b.sets() > MOST {
         return Ok(Found::Refused("large"));
     }
-    match (found_word_of_both(alloc, a, b), said_of_both(alloc, a, b)) {
-        (Err(PairFault::Memory), _) | (_, Err(PairFault::Memory)) => Err(Fault::Memory),
-        (Ok(Some(word)), Ok(true)) => Ok(Found::Word(word)),
-        (Ok(None), Ok(false)) => Ok(Found::Nothing),
-        (Err(PairFault::Names), Err(PairFault::Names)) => Ok(Found::Refused("names")),
-        (Err(PairFault::Pairs), Err(PairFault::Pairs)) => Ok(Found::Refused("pairs")),
+    let said = said_of_both(alloc, a, b);
+    match found_word_of_both(alloc, a, b) {
+        Ok(found) => found_of_both(found, said),
+        Err(fault) => refused(fault, said),
+    }
+}
+
+/// What is found, where the call that answers without a word says the same.
+fn found_of_both(found: Option<Lasso>, said: Result<bool, PairFault>) -> Result<Found, Fault> {
+    match said {
+        Ok(is_said) => Ok(agreed(found, is_said)),
+        Err(PairFault::Memory) => Err(Fault::Memory),
+        Err(_) => Ok(Found::Apart),
+    }
+}
+
+/// Why neither is known, where both calls say the same.
+fn refused(fault: PairFault, said: Result<bool, PairFault>) -> Result<Found, Fault> {
+    match (fault, said) {
+        (PairFault::Memory, _) | (_, Err(PairFault::Memory)) => Err(Fault::Memory),
+        (PairFault::Names, Err(PairFault::Names)) => Ok(Found::Refused("names")),
+        (PairFault::Pairs, Err(PairFault::Pairs)) => Ok(Found::Refused("pairs")),
         _ => Ok(Found::Apart),
     }
 }

@@ -20,15 +20,9 @@ impl Answers for Decisions {
         let (first, others) = lines.split_once('\n').unwrap_or((lines, ""));
         let (second, _) = others.split_once('\n').unwrap_or((others, ""));
         match call {
-            "accepted_word" => {
-                let a = read(alloc, first)?;
-                word_answer(alloc, &word_of(alloc, &a)?, &a, &a)
-            }
-            "word_of_both" => {
-                let (a, b) = (read(alloc, first)?, read(alloc, second)?);
-                word_answer(alloc, &word_of_both(alloc, &a, &b)?, &a, &b)
-            }
-            "is_unambiguous" => said(alloc, verdict(alloc, &read(alloc, first)?)?),
+            "accepted_word" => accepted_answer(alloc, first),
+            "word_of_both" => both_answer(alloc, first, second),
+            "is_unambiguous" => verdict_answer(alloc, first),
             _ => large_answer(alloc, call, first),
         }
     }
@@ -37,20 +31,55 @@ impl Answers for Decisions {
 /// The calls on large automata, which rows name by their shape.
 fn large_answer(alloc: Global, call: &str, line: &str) -> Result<Text, Fault> {
     match call {
-        "word_of_line" => length_answer(alloc, &word_of(alloc, &self::line(alloc, line)?)?),
-        "word_of_rings" => {
-            let (first, second) = kind_and_rest(line);
-            let a = ring(alloc, number(first)?, 1, true)?;
-            let b = ring(alloc, number(second)?, 1, true)?;
-            length_answer(alloc, &word_of_both(alloc, &a, &b)?)
-        }
-        "is_unambiguous_ring" => {
-            let states = number(line)?;
-            let a = ring(alloc, states, states, states % 2 == 1)?;
-            said(alloc, verdict(alloc, &a)?)
-        }
+        "word_of_line" => line_answer(alloc, line),
+        "word_of_rings" => rings_answer(alloc, line),
+        "is_unambiguous_ring" => ring_answer(alloc, number(line)?),
         _ => Err(Fault::UnknownKind),
     }
+}
+
+/// Whether the automaton of a line accepts a word.
+fn accepted_answer(alloc: Global, line: &str) -> Result<Text, Fault> {
+    let a = read(alloc, line)?;
+    word_answer(alloc, &word_of(alloc, &a)?, &a, &a)
+}
+
+/// Whether the automata of two lines accept a word together.
+fn both_answer(alloc: Global, first: &str, second: &str) -> Result<Text, Fault> {
+    let a = read(alloc, first)?;
+    let b = read(alloc, second)?;
+    word_answer(alloc, &word_of_both(alloc, &a, &b)?, &a, &b)
+}
+
+/// Whether the automaton of a line is unambiguous.
+fn verdict_answer(alloc: Global, line: &str) -> Result<Text, Fault> {
+    let a = read(alloc, line)?;
+    said(alloc, verdict(alloc, &a)?)
+}
+
+/// The length of a word of a large line of this shape.
+fn line_answer(alloc: Global, shape: &str) -> Result<Text, Fault> {
+    let a = line(alloc, shape)?;
+    length_answer(alloc, &word_of(alloc, &a)?)
+}
+
+/// The length of a word of two large rings, from their numbers of states.
+fn rings_answer(alloc: Global, line: &str) -> Result<Text, Fault> {
+    let (first, second) = kind_and_rest(line);
+    let a = single_ring(alloc, first)?;
+    let b = single_ring(alloc, second)?;
+    length_answer(alloc, &word_of_both(alloc, &a, &b)?)
+}
+
+/// A ring of so many states that starts in one of them.
+fn single_ring(alloc: Global, states: &str) -> Result<Automaton, Fault> {
+    ring(alloc, number(states)?, 1, true)
+}
+
+/// Whether a large ring each of whose states is a start is unambiguous.
+fn ring_answer(alloc: Global, states: u32) -> Result<Text, Fault> {
+    let a = ring(alloc, states, states, states % 2 == 1)?;
+    said(alloc, verdict(alloc, &a)?)
 }
 
 /// Whether there is a word. If so, it has to be reduced, and both have to accept it.

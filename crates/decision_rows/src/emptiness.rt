@@ -22,6 +22,20 @@ pub(crate) fn told(
     Ok(format!(in alloc; "? {call}\n< {first}\n< {second}")?)
 }
 
+/// The same, or nothing where the answer is right.
+pub(crate) fn told_unless(
+    is_right: bool,
+    alloc: Global,
+    call: &str,
+    a: &Automaton,
+    b: &Automaton,
+) -> Result<Option<String>, Fault> {
+    if is_right {
+        return Ok(None);
+    }
+    Ok(Some(told(alloc, call, a, b)?))
+}
+
 /// For each word of a list, whether the automaton accepts it.
 pub(crate) fn accepted(alloc: Global, a: &Automaton, words: &Words) -> Result<Vec<bool>, Memory> {
     Paths::new(alloc, a)?.accepted(alloc, a.formula(), words)
@@ -29,28 +43,50 @@ pub(crate) fn accepted(alloc: Global, a: &Automaton, words: &Words) -> Result<Ve
 
 /// Random automata of two states with three edges; the condition changes from one to the next.
 pub(crate) fn compared(rt: &HostRuntime, count: &mut Count) -> Result<(), Fault> {
-    let alloc = rt.alloc();
-    let words = Words::new(alloc, 2, 2, 4)?;
+    let words = Words::new(rt.alloc(), 2, 2, 4)?;
     let mut choices = Choices::chance();
     for number in 0..6000u32 {
-        let condition = condition(alloc, number)?;
-        let from: &[u32] = if number % 2 == 0 {
-            &[0, 0, 1]
-        } else {
-            &[0, 1, 1]
-        };
-        let a = chosen(alloc, &mut choices, b"a", 2, from, condition)?;
-        let is_right = match word_of(alloc, &a)? {
-            Found::Word(word) => is_right(alloc, &word, &a, &a)?,
-            Found::Nothing => !accepted(alloc, &a, &words)?.contains(&true),
-            _ => false,
-        };
-        let different = if is_right {
-            None
-        } else {
-            Some(told(alloc, "accepted_word", &a, &a)?)
-        };
-        count.take(rt, different)?;
+        let a = three_edges(rt.alloc(), &mut choices, number)?;
+        count.take(rt, different(rt.alloc(), &a, &words)?)?;
     }
     Ok(())
+}
+
+/// An automaton over `a` of two states under the condition of this number, with two edges from one of them.
+pub(crate) fn three_edges(
+    alloc: Global,
+    choices: &mut Choices,
+    number: u32,
+) -> Result<Automaton, Fault> {
+    let condition = condition(alloc, number)?;
+    let from: &[u32] = if number % 2 == 0 {
+        &[0, 0, 1]
+    } else {
+        &[0, 1, 1]
+    };
+    chosen(alloc, choices, b"a", 2, from, condition)
+}
+
+/// What is printed where the answer is wrong.
+fn different(alloc: Global, a: &Automaton, words: &Words) -> Result<Option<String>, Fault> {
+    let is_right = is_found(alloc, a, words)?;
+    told_unless(is_right, alloc, "accepted_word", a, a)
+}
+
+/// Whether a word of the automaton is found, or no word of a list is accepted.
+fn is_found(alloc: Global, a: &Automaton, words: &Words) -> Result<bool, Memory> {
+    let found = word_of(alloc, a)?;
+    fits(alloc, &found, a, words)
+}
+
+fn fits(alloc: Global, found: &Found, a: &Automaton, words: &Words) -> Result<bool, Memory> {
+    match found {
+        Found::Word(word) => is_right(alloc, word, a, a),
+        Found::Nothing => accepts_none(alloc, a, words),
+        _ => Ok(false),
+    }
+}
+
+fn accepts_none(alloc: Global, a: &Automaton, words: &Words) -> Result<bool, Memory> {
+    Ok(!accepted(alloc, a, words)?.contains(&true))
 }

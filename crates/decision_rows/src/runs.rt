@@ -15,17 +15,26 @@ pub(crate) fn read_word(alloc: Global, word: &Lasso) -> Result<Word, Memory> {
 fn letters(alloc: Global, letters: &[Letter]) -> Result<Vec<u32>, Memory> {
     let a = Text::from_bytes(alloc, b"a")?;
     let b = Text::from_bytes(alloc, b"b")?;
-    let mut bits = Vec::new(alloc);
+    masks(alloc, letters, &a, &b)
+}
+
+/// For each letter its bit, or no bit where it has another name than these two.
+fn masks(alloc: Global, letters: &[Letter], a: &Text, b: &Text) -> Result<Vec<u32>, Memory> {
+    let mut masks = Vec::new(alloc);
     for letter in letters {
-        let (has_a, has_b) = (letter.has(&a), letter.has(&b));
-        let known = usize::from(has_a).saturating_add(usize::from(has_b));
-        bits.push(if letter.names().len() == known {
-            bit(has_a, has_b)
-        } else {
-            0
-        })?;
+        masks.push(mask(letter, a, b))?;
     }
-    Ok(bits)
+    Ok(masks)
+}
+
+fn mask(letter: &Letter, a: &Text, b: &Text) -> u32 {
+    let (has_a, has_b) = (letter.has(a), letter.has(b));
+    let known = usize::from(has_a).saturating_add(usize::from(has_b));
+    if letter.names().len() == known {
+        bit(has_a, has_b)
+    } else {
+        0
+    }
 }
 
 fn bit(has_a: bool, has_b: bool) -> u32 {

@@ -17,14 +17,19 @@ pub(crate) fn ring(
     starts: u32,
     is_marked: bool,
 ) -> Result<Automaton, Fault> {
+    let edges = ring_edges(alloc, states, is_marked)?;
+    let again = Formula::Inf { set: 0, neg: false };
+    standing(alloc, states, starts, edges, again)
+}
+
+fn ring_edges(alloc: Global, states: u32, is_marked: bool) -> Result<Edges, Memory> {
     let mut edges = Edges::new(alloc);
     for from in 0..states {
         let is_last = from.saturating_add(1) >= states;
         let to = if is_last { 0 } else { from.saturating_add(1) };
         edges.push(edge(alloc, from, true, to, u32::from(is_last && is_marked))?)?;
     }
-    let again = Formula::Inf { set: 0, neg: false };
-    standing(alloc, states, starts, edges, again)
+    Ok(edges)
 }
 
 /// A line of states under `Inf(0) & Fin(1)`, with an edge from each to the next where `a` holds. Where `a` doesn't hold,
@@ -33,39 +38,68 @@ pub(crate) fn ring(
 /// - `ring`: the last leads back to the first, in set 0;
 /// - `loops`: each has a loop, the last in set 0 and the others in both sets.
 pub(crate) fn line(alloc: Global, shape: &str) -> Result<Automaton, Fault> {
+    let edges = line_edges(alloc, shape)?;
+    standing(alloc, STATES, 1, edges, both(alloc)?)
+}
+
+fn line_edges(alloc: Global, shape: &str) -> Result<Edges, Fault> {
+    let (to, sets) = last_edge(shape)?;
+    let mut edges = forward_edges(alloc, shape == "loops")?;
+    edges.push(edge(alloc, STATES - 1, false, to, sets)?)?;
+    Ok(edges)
+}
+
+/// The edges from each state to the next, each after a loop where these are wanted.
+fn forward_edges(alloc: Global, has_loops: bool) -> Result<Edges, Memory> {
     let mut edges = Edges::new(alloc);
     for state in 0..STATES - 1 {
-        if shape == "loops" {
-            edges.push(edge(alloc, state, false, state, 3)?)?;
-        }
-        edges.push(edge(alloc, state, true, state + 1, 0)?)?;
+        add_edges(alloc, &mut edges, state, has_loops)?;
     }
-    let (to, sets) = match shape {
-        "marked" | "loops" => (STATES - 1, 1),
-        "unmarked" => (STATES - 1, 0),
-        "ring" => (0, 1),
-        _ => return Err(Fault::UnknownKind),
-    };
-    edges.push(edge(alloc, STATES - 1, false, to, sets)?)?;
+    Ok(edges)
+}
+
+fn add_edges(alloc: Global, edges: &mut Edges, state: u32, has_loop: bool) -> Result<(), Memory> {
+    if has_loop {
+        edges.push(edge(alloc, state, false, state, 3)?)?;
+    }
+    edges.push(edge(alloc, state, true, state.saturating_add(1), 0)?)?;
+    Ok(())
+}
+
+/// Where the last edge leads, and the bits of its sets.
+fn last_edge(shape: &str) -> Result<(u32, u32), Fault> {
+    match shape {
+        "marked" | "loops" => Ok((STATES - 1, 1)),
+        "unmarked" => Ok((STATES - 1, 0)),
+        "ring" => Ok((0, 1)),
+        _ => Err(Fault::UnknownKind),
+    }
+}
+
+/// `Inf(0) & Fin(1)`
+fn both(alloc: Global) -> Result<Formula, Memory> {
     let inf = Formula::Inf { set: 0, neg: false };
     let fin = Formula::Fin { set: 1, neg: false };
-    let both = Formula::And(Formulas::pair(alloc, inf, fin)?);
-    standing(alloc, STATES, 1, edges, both)
+    Ok(Formula::And(Formulas::pair(alloc, inf, fin)?))
 }
 
 /// An edge where `a` holds, or where it doesn't, in the sets whose bits are set.
 fn edge(alloc: Global, from: u32, holds: bool, to: u32, sets: u32) -> Result<Edge, Memory> {
-    let label = if holds {
-        Label::Prop(0)
-    } else {
-        Label::Not(Box::new(alloc, Label::Prop(0))?)
-    };
+    let marks = marks(alloc, sets)?;
     Ok(Edge {
         from,
-        label,
+        label: label(alloc, holds)?,
         to,
-        marks: marks(alloc, sets)?,
+        marks,
     })
+}
+
+/// The label that is true where `a` holds, or where it doesn't.
+fn label(alloc: Global, holds: bool) -> Result<Label, Memory> {
+    if holds {
+        return Ok(Label::Prop(0));
+    }
+    Ok(Label::Not(Box::new(alloc, Label::Prop(0))?))
 }
 
 fn standing(

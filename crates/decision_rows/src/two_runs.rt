@@ -1,10 +1,10 @@
 //! Random automata: ambiguity by its definition, with a search through all pairs of short paths.
 
 use crate::ask_about::verdict;
-use crate::emptiness::told;
-use aut_base::{Formula, Memory};
+use crate::emptiness::{three_edges, told_unless};
+use aut_base::{Formula, Marks, Memory};
 use aut_core::{Automaton, Link};
-use row_automata::{Choices, chosen, condition, marks};
+use row_automata::{Choices, marks};
 use row_files::{Count, Fault};
 use std::alloc::Global;
 
@@ -25,30 +25,23 @@ type Path = [Option<Way>; LENGTH];
 
 /// Random automata of two states with three edges; the condition changes from one to the next.
 pub(crate) fn compared(rt: &HostRuntime, count: &mut Count) -> Result<(), Fault> {
-    let alloc = rt.alloc();
     let mut choices = Choices::chance();
     for number in 0..300u32 {
-        let condition = condition(alloc, number.wrapping_mul(7))?;
-        let from: &[u32] = if number % 2 == 0 {
-            &[0, 0, 1]
-        } else {
-            &[0, 1, 1]
-        };
-        let a = chosen(alloc, &mut choices, b"a", 2, from, condition)?;
-        let said = verdict(alloc, &a)?;
-        let wanted = if has_two_runs(alloc, &a)? {
-            "ambiguous"
-        } else {
-            "unambiguous"
-        };
-        let different = if said == wanted {
-            None
-        } else {
-            Some(told(alloc, "is_unambiguous", &a, &a)?)
-        };
-        count.take(rt, different)?;
+        let a = three_edges(rt.alloc(), &mut choices, number.wrapping_mul(7))?;
+        count.take(rt, different(rt.alloc(), &a)?)?;
     }
     Ok(())
+}
+
+/// What is printed where the verdict is wrong.
+fn different(alloc: Global, a: &Automaton) -> Result<Option<String>, Fault> {
+    let said = verdict(alloc, a)?;
+    let wanted = if has_two_runs(alloc, a)? {
+        "ambiguous"
+    } else {
+        "unambiguous"
+    };
+    told_unless(said == wanted, alloc, "is_unambiguous", a, a)
 }
 
 /// Whether two different accepting runs read one short word. Two runs over one word return to their states together after
@@ -56,9 +49,14 @@ pub(crate) fn compared(rt: &HostRuntime, count: &mut Count) -> Result<(), Fault>
 fn has_two_runs(alloc: Global, a: &Automaton) -> Result<bool, Memory> {
     let ways = ways(alloc, a)?;
     let runs = runs(alloc, a, &ways)?;
+    have_alike(alloc, a.formula(), &runs)
+}
+
+/// Whether two of the paths read one word and are accepted.
+fn have_alike(alloc: Global, formula: &Formula, runs: &[Path]) -> Result<bool, Memory> {
     for (place, run) in runs.iter().enumerate() {
         for other in runs.iter().take(place) {
-            if read_alike(run, other) && both_accept(alloc, a.formula(), run, other)? {
+            if read_alike(run, other) && both_accept(alloc, formula, run, other)? {
                 return Ok(true);
             }
         }
@@ -169,13 +167,26 @@ fn accepts_from(
     path: &Path,
     place: usize,
 ) -> Result<bool, Memory> {
+    let cycle = marks_from(alloc, path, place)?;
+    Ok(returns(path, place) && !cycle.is_empty() && formula.met_by(&cycle))
+}
+
+/// Whether the path ends where its edge at this position begins.
+fn returns(path: &Path, place: usize) -> bool {
     let mut begin = None;
     let mut end = None;
-    let mut cycle = Vec::new(alloc);
     for way in path.iter().skip(place).flatten() {
         begin = begin.or(Some(way.from));
         end = Some(way.to);
+    }
+    begin == end
+}
+
+/// The sets of the edges from this position on.
+fn marks_from(alloc: Global, path: &Path, place: usize) -> Result<Vec<Marks>, Memory> {
+    let mut cycle = Vec::new(alloc);
+    for way in path.iter().skip(place).flatten() {
         cycle.push(marks(alloc, way.sets)?)?;
     }
-    Ok(begin == end && !cycle.is_empty() && formula.met_by(&cycle))
+    Ok(cycle)
 }

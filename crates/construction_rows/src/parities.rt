@@ -1,0 +1,113 @@
+//! Random automata, compared with their parity automata and the complements of these.
+
+use crate::compared::{accept, accepted, told_unless};
+use crate::made::{Made, Single, make};
+use aut_base::Memory;
+use aut_core::Automaton;
+use row_automata::{Choices, Paths, Words, chosen, condition};
+use row_files::{Count, Fault};
+use std::alloc::Global;
+
+/// Automata over one name and over two, with their parity automata and their complements.
+pub(crate) fn compared(rt: &HostRuntime, count: &mut Count) -> Result<(), Fault> {
+    let mut choices = Choices::chance();
+    compare_over(rt, count, &mut choices, b"a", 240)?;
+    compare_over(rt, count, &mut choices, b"ab", 80)
+}
+
+/// So many automata over these names.
+fn compare_over(
+    rt: &HostRuntime,
+    count: &mut Count,
+    choices: &mut Choices,
+    names: &[u8],
+    rows: u32,
+) -> Result<(), Fault> {
+    let letters = if names.len() > 1 { 4 } else { 2 };
+    let words = Words::new(rt.alloc(), letters, 2, 3)?;
+    for number in 0..rows {
+        let a = three_states(rt.alloc(), choices, names, number)?;
+        count.take(rt, different(rt.alloc(), &a, &words, letters)?)?;
+    }
+    Ok(())
+}
+
+/// A random automaton of one state to three, with two edges from each, or one, so that some are deterministic.
+fn three_states(
+    alloc: Global,
+    choices: &mut Choices,
+    names: &[u8],
+    number: u32,
+) -> Result<Automaton, Fault> {
+    let condition = condition(alloc, number.wrapping_mul(13))?;
+    let states = 1 + number % 3;
+    let from: &[u32] = match number % 6 {
+        0 => &[0, 0],
+        1 => &[0, 0, 1, 1],
+        2 => &[0, 0, 1, 1, 2, 2],
+        3 => &[0],
+        4 => &[0, 1],
+        _ => &[0, 1, 2],
+    };
+    chosen(alloc, choices, names, states, from, condition)
+}
+
+/// What is printed where the parity automaton doesn't accept the words of an automaton, or its complement not the others.
+fn different(
+    alloc: Global,
+    a: &Automaton,
+    words: &Words,
+    letters: u32,
+) -> Result<Option<String>, Fault> {
+    told_unless(is_right(alloc, a, words, letters)?, alloc, "parity", a)
+}
+
+/// Whether the parity automaton accepts the words of an automaton, and its complement the others, each by a single run.
+fn is_right(alloc: Global, a: &Automaton, words: &Words, letters: u32) -> Result<bool, Fault> {
+    let own = accepted(alloc, a, words)?;
+    let others = others(alloc, &own)?;
+    Ok(
+        makes_single(alloc, Single::Parity, a, &own, words, letters)?
+            && makes_single(alloc, Single::Complement, a, &others, words, letters)?,
+    )
+}
+
+/// For each word, whether it isn't accepted.
+fn others(alloc: Global, own: &[bool]) -> Result<Vec<bool>, Memory> {
+    let mut others = Vec::new(alloc);
+    for is_accepted in own {
+        others.push(!*is_accepted)?;
+    }
+    Ok(others)
+}
+
+/// Whether the construction makes an automaton that accepts exactly these words, and in which each word has one run.
+fn makes_single(
+    alloc: Global,
+    call: Single,
+    a: &Automaton,
+    wanted: &[bool],
+    words: &Words,
+    letters: u32,
+) -> Result<bool, Fault> {
+    let made = make(alloc, call, a)?;
+    Ok(accept_singly(alloc, &made, wanted, words, letters)?)
+}
+
+fn accept_singly(
+    alloc: Global,
+    made: &Made,
+    wanted: &[bool],
+    words: &Words,
+    letters: u32,
+) -> Result<bool, Memory> {
+    Ok(is_single(alloc, made, letters)? && accept(alloc, made, wanted, words)?)
+}
+
+/// Whether each word has exactly one run in the automaton that was made.
+fn is_single(alloc: Global, made: &Made, letters: u32) -> Result<bool, Memory> {
+    match made {
+        Made::Automaton(made) => Ok(Paths::new(alloc, made)?.are_single(letters)),
+        Made::Refused(_) => Ok(false),
+    }
+}
