@@ -1,8 +1,7 @@
 //! The outcome of a run.
 
-use aut_base::{Memory, Text};
+use aut_base::{Memory, Memory, Text, Text};
 use row_files::Answer;
-use std::fmt;
 
 /// The answers in words, how many bytes were taken, and how many were left.
 #[derive(Drop)]
@@ -22,16 +21,15 @@ impl Ran {
             left,
         })
     }
-}
 
-impl fmt::Display for Ran {
-    fn fmt<W: fmt::Write>(&self, f: &mut fmt::Formatter<W>) -> fmt::Result {
-        let answer = match std::str::from_utf8(self.answer.as_bytes()) {
-            Ok(answer) => answer,
-            Err(_) => "(no plain text)\n",
-        };
-        let taken = self.taken;
-        let left = self.left;
-        write!(f, "> {answer}# taken {taken}, left {left}")
+    /// Adds the outcome, as a row states it.
+    pub(crate) fn show(&self, shown: &mut Answer) {
+        let answer = std::str::from_utf8(self.answer.as_bytes()).unwrap_or("(no plain text)\n");
+        shown.add(b"> ");
+        shown.add(answer.as_bytes());
+        shown.add(b"# taken ");
+        shown.add_number(self.taken);
+        shown.add(b", left ");
+        shown.add_number(u64::from(self.left));
     }
 }

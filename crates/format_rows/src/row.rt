@@ -4,8 +4,8 @@ mod runs;
 
 use crate::{reading, word_calls};
 use aut_base::{Memory, Numbers, Text};
-use row_files::{Fault, Row, add, add_escaped, kind_and_rest, number, numbers, range};
-use std::alloc::{AllocError, Global};
+use row_files::{Answer, Fault, Row, add, add_escaped, kind_and_rest, number, numbers, range};
+use std::alloc::Global;
 
 /// The crate whose call rows are of.
 #[derive(Clone, Copy)]
@@ -41,7 +41,7 @@ enum Each {
 pub(crate) struct TextRow {
     call: Option<Call>,
     /// The lines as they were read, without that of the answer.
-    lines: String,
+    lines: Answer,
     text: Text,
     failing: Numbers,
     most: u32,
@@ -60,7 +60,7 @@ impl TextRow {
     pub(crate) fn new(alloc: Global) -> TextRow {
         TextRow {
             call: None,
-            lines: String::new(alloc),
+            lines: Answer::new(alloc),
             text: Text::new(alloc),
             failing: Numbers::new(alloc),
             most: u32::MAX,
@@ -77,12 +77,14 @@ impl TextRow {
 
     /// Whether a line was read.
     fn is_begun(&self) -> bool {
-        !self.lines.as_str().is_empty()
+        !self.lines.is_empty()
     }
 
     /// Keeps a line, to be printed where the answer is another.
-    fn keep(&mut self, mark: &str, line: &str) -> Result<(), AllocError> {
-        writeln!(self.lines, "{mark}{line}")
+    fn keep(&mut self, mark: &[u8], line: &str) {
+        self.lines.add(mark);
+        self.lines.add(line.as_bytes());
+        self.lines.add(b"\n");
     }
 
     /// Takes the name of the call, for this row and those after it.
@@ -106,7 +108,7 @@ impl TextRow {
         rest: &str,
     ) -> Result<bool, Fault> {
         if !form.is_empty() {
-            self.keep("# ", line)?;
+            self.keep(b"# ", line);
         }
         add(rt, &mut self.answer, form, rest)?;
         Ok(form.is_empty())
@@ -120,7 +122,7 @@ impl TextRow {
         kind: &str,
         rest: &str,
     ) -> Result<bool, Fault> {
-        self.keep("", line)?;
+        self.keep(b"", line);
         self.add_input(rt, kind, rest)?;
         Ok(kind == "<^")
     }
@@ -217,12 +219,13 @@ impl Row for TextRow {
     }
 
     fn different(&self, rt: &HostRuntime) -> Result<Option<String>, Fault> {
-        let mut shown = String::new(rt.alloc());
+        let mut shown = Answer::new(rt.alloc());
         self.add_all_different(rt.alloc(), &mut shown)?;
-        if shown.as_str().is_empty() {
+        let shown = shown.end()?;
+        if shown.is_empty() {
             return Ok(None);
         }
-        Ok(Some(shown))
+        Ok(Some(String::from_utf8_lossy(rt.alloc(), shown.as_bytes())?))
     }
 
     fn clear(&mut self, alloc: Global) {

@@ -19,6 +19,11 @@ impl Answer {
         }
     }
 
+    /// Whether nothing was added.
+    pub fn is_empty(&self) -> bool {
+        self.text.is_empty()
+    }
+
     /// Adds bytes.
     pub fn add(&mut self, bytes: &[u8]) {
         if self.text.extend(bytes).is_err() {

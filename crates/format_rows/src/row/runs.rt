@@ -7,8 +7,8 @@ use crate::sources::{cut, opened};
 use crate::word_calls;
 use aut_base::{Memory, Numbers};
 use hoa_lexer::Lexer;
-use row_files::{Fault, copied};
-use std::alloc::{AllocError, Global};
+use row_files::{Answer, Fault, copied};
+use std::alloc::Global;
 
 /// The longest text, in bytes, that is tried in two pieces at every cut.
 const LONGEST: usize = 400;
@@ -100,7 +100,7 @@ impl TextRow {
     }
 
     /// Adds the outcomes of all runs to what is printed, where they are others than the stated one.
-    pub(super) fn add_all_different(&self, alloc: Global, shown: &mut String) -> Result<(), Fault> {
+    pub(super) fn add_all_different(&self, alloc: Global, shown: &mut Answer) -> Result<(), Fault> {
         for run in self.first..=self.last {
             self.add_different(alloc, shown, run)?;
         }
@@ -108,14 +108,15 @@ impl TextRow {
     }
 
     /// Adds the outcome of the run of this number to what is printed, where it is another than the stated one.
-    fn add_different(&self, alloc: Global, shown: &mut String, run: u32) -> Result<(), Fault> {
+    fn add_different(&self, alloc: Global, shown: &mut Answer, run: u32) -> Result<(), Fault> {
         let ran = self.ran(alloc, run)?;
-        Ok(self.compare(shown, "run", run as usize, &ran)?)
+        self.compare(shown, b"# run ", run as usize, &ran);
+        Ok(())
     }
 
     /// The same for the text in two pieces, at every cut, where the row has one run, no call of it fails and the text isn't
     /// long.
-    fn add_pieces(&self, alloc: Global, shown: &mut String) -> Result<(), Fault> {
+    fn add_pieces(&self, alloc: Global, shown: &mut Answer) -> Result<(), Fault> {
         let (Some(Call::Reading(call)), Each::Nothing) = (self.call, self.each) else {
             return Ok(());
         };
@@ -132,27 +133,27 @@ impl TextRow {
     fn add_cut(
         &self,
         alloc: Global,
-        shown: &mut String,
+        shown: &mut Answer,
         call: reading::Call,
         place: usize,
     ) -> Result<(), Memory> {
         let ran = self.read_in_pieces(alloc, call, place)?;
-        Ok(self.compare(shown, "cut at", place, &ran)?)
+        self.compare(shown, b"# cut at ", place, &ran);
+        Ok(())
     }
 
     /// Adds an outcome to what is printed, where it is another than the stated one.
-    fn compare(
-        &self,
-        shown: &mut String,
-        what: &str,
-        number: usize,
-        ran: &Ran,
-    ) -> Result<(), AllocError> {
+    fn compare(&self, shown: &mut Answer, what: &[u8], number: usize, ran: &Ran) {
         if self.is_met(ran) {
-            return Ok(());
+            return;
         }
-        let front = if shown.as_str().is_empty() { "" } else { "\n" };
-        let lines = self.lines.as_str();
-        write!(shown, "{front}# {what} {number}\n{lines}{ran}")
+        if !shown.is_empty() {
+            shown.add(b"\n");
+        }
+        shown.add(what);
+        shown.add_number(number as u64);
+        shown.add(b"\n");
+        shown.add_all(&self.lines);
+        ran.show(shown);
     }
 }
