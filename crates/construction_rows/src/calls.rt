@@ -6,7 +6,7 @@ use ap_project::Hide;
 use aut_base::{Memory, Text};
 use aut_core::Automaton;
 use aut_ops::{ReachedSize, reached_size};
-use row_automata::{push_number, read, shown};
+use row_automata::{pair, read, shown};
 use row_files::{Answers, Fault, kind_and_rest, number};
 use std::alloc::Global;
 
@@ -141,12 +141,4 @@ fn reached_answer(alloc: Global, line: &str) -> Result<Text, Fault> {
 fn reached(alloc: Global, a: &Automaton) -> Result<Text, Memory> {
     let ReachedSize { states, edges } = reached_size(alloc, a)?;
     pair(alloc, states, u32::try_from(edges).unwrap_or(u32::MAX))
-}
-
-fn pair(alloc: Global, first: u32, second: u32) -> Result<Text, Memory> {
-    let mut text = Text::new(alloc);
-    push_number(alloc, &mut text, first)?;
-    text.push(b' ')?;
-    push_number(alloc, &mut text, second)?;
-    Ok(text)
 }

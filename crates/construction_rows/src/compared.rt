@@ -1,36 +1,11 @@
 //! Random automata, compared with what constructions make of them: do they accept the right words?
 
 use crate::made::{Double, Made, Single, make, make_of_two};
-use aut_base::{Memory, Text};
+use aut_base::Memory;
 use aut_core::Automaton;
-use row_automata::{CONDITIONS, Choices, Paths, Words, chosen, condition, shown};
+use row_automata::{CONDITIONS, Choices, Words, accepted, chosen, condition, told_unless};
 use row_files::{Count, Fault};
 use std::alloc::Global;
-
-/// For each word of a list, whether the automaton accepts it.
-pub(crate) fn accepted(alloc: Global, a: &Automaton, words: &Words) -> Result<Vec<bool>, Memory> {
-    Paths::new(alloc, a)?.accepted(alloc, a.formula(), words)
-}
-
-/// What is printed of an automaton, where something made of it accepts the wrong words.
-pub(crate) fn told(alloc: Global, call: &str, a: &Automaton) -> Result<String, Fault> {
-    let text: Text = shown(alloc, a)?;
-    let text = std::str::from_utf8(text.as_bytes()).unwrap_or("(no text)");
-    Ok(format!(in alloc; "? {call}\n< {text}")?)
-}
-
-/// The same, or nothing where what was made is right.
-pub(crate) fn told_unless(
-    is_right: bool,
-    alloc: Global,
-    call: &str,
-    a: &Automaton,
-) -> Result<Option<String>, Fault> {
-    if is_right {
-        return Ok(None);
-    }
-    Ok(Some(told(alloc, call, a)?))
-}
 
 /// An automaton over `a` with two states and two edges from each.
 pub(crate) fn two_states(
@@ -62,7 +37,7 @@ fn pair_differs(
 ) -> Result<Option<String>, Fault> {
     let a = over_one(alloc, choices, b"a", number)?;
     let b = over_one(alloc, choices, b"b", number.wrapping_mul(7))?;
-    told_unless(are_right(alloc, &a, &b, words)?, alloc, "operations", &a)
+    told_unless(are_right(alloc, &a, &b, words)?, alloc, "operations", &[&a])
 }
 
 fn over_one(
@@ -184,7 +159,7 @@ fn form_differs(
     words: &Words,
 ) -> Result<Option<String>, Fault> {
     let a = two_states(alloc, choices, number)?;
-    told_unless(keeps_in_forms(alloc, &a, words)?, alloc, "forms", &a)
+    told_unless(keeps_in_forms(alloc, &a, words)?, alloc, "forms", &[&a])
 }
 
 /// Whether both forms accept the words of the automaton.

@@ -1,11 +1,10 @@
 //! Random automata with `a` hidden, compared with the definition of hiding.
 
-use crate::compared::{accepted, told_unless};
 use crate::made::hidden;
 use ap_project::Hide;
 use aut_base::{Formula, Memory, Text};
 use aut_core::Automaton;
-use row_automata::{Choices, Words, chosen};
+use row_automata::{Choices, Words, accepted, chosen, told_unless};
 use row_files::{Count, Fault};
 use std::alloc::Global;
 
@@ -40,7 +39,7 @@ fn compare_ways(
 ) -> Result<(), Fault> {
     for (how, call) in WAYS {
         let is_right = is_hidden(rt.alloc(), a, how, words)?;
-        count.take(rt, told_unless(is_right, rt.alloc(), call, a)?)?;
+        count.take(rt, told_unless(is_right, rt.alloc(), call, &[a])?)?;
     }
     Ok(())
 }

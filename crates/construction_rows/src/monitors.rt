@@ -1,10 +1,10 @@
 //! Random automata, compared with their monitors.
 
-use crate::compared::{makes, told_unless, two_states};
+use crate::compared::{makes, two_states};
 use crate::made::Single;
 use aut_base::Memory;
 use aut_core::Automaton;
-use row_automata::{Choices, Paths, Words};
+use row_automata::{Choices, Paths, Words, told_unless};
 use row_files::{Count, Fault};
 use std::alloc::Global;
 
@@ -36,7 +36,7 @@ fn different(
 ) -> Result<Option<String>, Fault> {
     let wanted = wanted(alloc, a, words, ends)?;
     let is_right = makes(alloc, Single::Monitor, a, &wanted, words)?;
-    told_unless(is_right, alloc, "monitor", a)
+    told_unless(is_right, alloc, "monitor", &[a])
 }
 
 /// The words each of whose prefixes can be continued to a word that the automaton accepts.

@@ -1,9 +1,8 @@
 //! Two ways to decide whether a word is accepted, compared with each other.
 
-use crate::compared::{accepted, told_unless};
 use aut_base::Memory;
 use aut_core::Automaton;
-use row_automata::{Choices, Word, Words, accepts, chosen, condition};
+use row_automata::{Choices, Word, Words, accepted, accepts, chosen, condition, told_unless};
 use row_files::{Count, Fault};
 use std::alloc::Global;
 
@@ -53,7 +52,7 @@ fn over(
 fn different(alloc: Global, a: &Automaton, words: &Words) -> Result<Option<String>, Fault> {
     let by_paths = accepted(alloc, a, words)?;
     let is_right = by_paths == accepted_by_product(alloc, a, words)?;
-    told_unless(is_right, alloc, "accepts", a)
+    told_unless(is_right, alloc, "accepts", &[a])
 }
 
 /// For each word of a list, whether the product with it accepts.

@@ -1,10 +1,10 @@
 //! Random automata, compared with their parity automata and the complements of these.
 
-use crate::compared::{accept, accepted, told_unless};
+use crate::compared::accept;
 use crate::made::{Made, Single, make};
 use aut_base::Memory;
 use aut_core::Automaton;
-use row_automata::{Choices, Paths, Words, chosen, condition};
+use row_automata::{Choices, Paths, Words, accepted, chosen, condition, told_unless};
 use row_files::{Count, Fault};
 use std::alloc::Global;
 
@@ -59,7 +59,7 @@ fn different(
     words: &Words,
     letters: u32,
 ) -> Result<Option<String>, Fault> {
-    told_unless(is_right(alloc, a, words, letters)?, alloc, "parity", a)
+    told_unless(is_right(alloc, a, words, letters)?, alloc, "parity", &[a])
 }
 
 /// Whether the parity automaton accepts the words of an automaton, and its complement the others, each by a single run.

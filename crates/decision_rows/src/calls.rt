@@ -5,7 +5,7 @@ use crate::runs::{is_reduced, read_word};
 use crate::shapes::{line, ring};
 use aut_base::{Lasso, Memory, Text};
 use aut_core::Automaton;
-use row_automata::{accepts, push_number, read};
+use row_automata::{accepts, pair, read};
 use row_files::{Answers, Fault, kind_and_rest, number};
 use std::alloc::Global;
 
@@ -108,22 +108,21 @@ pub(crate) fn is_right(
     Ok(is_reduced(&read) && accepts(alloc, a, &read)? && accepts(alloc, b, &read)?)
 }
 
+/// Two lengths.
+fn lengths(alloc: Global, stem: usize, cycle: usize) -> Result<Text, Fault> {
+    let stem = u32::try_from(stem).unwrap_or(u32::MAX);
+    let cycle = u32::try_from(cycle).unwrap_or(u32::MAX);
+    Ok(pair(alloc, stem, cycle)?)
+}
+
 /// The lengths of the stem and the cycle of the word.
 fn length_answer(alloc: Global, found: &Found) -> Result<Text, Fault> {
     match found {
-        Found::Word(word) => Ok(pair(alloc, word.stem.len(), word.cycle.len())?),
+        Found::Word(word) => lengths(alloc, word.stem.len(), word.cycle.len()),
         Found::Nothing => said(alloc, "none"),
         Found::Refused(why) => said(alloc, why),
         Found::Apart => said(alloc, "apart"),
     }
-}
-
-fn pair(alloc: Global, first: usize, second: usize) -> Result<Text, Memory> {
-    let mut text = Text::new(alloc);
-    push_number(alloc, &mut text, u32::try_from(first).unwrap_or(u32::MAX))?;
-    text.push(b' ')?;
-    push_number(alloc, &mut text, u32::try_from(second).unwrap_or(u32::MAX))?;
-    Ok(text)
 }
 
 fn said(alloc: Global, word: &str) -> Result<Text, Fault> {

@@ -4,42 +4,9 @@ use crate::ask_about::{Found, word_of};
 use crate::calls::is_right;
 use aut_base::{Memory, Text};
 use aut_core::Automaton;
-use row_automata::{Choices, Paths, Words, chosen, condition, shown};
+use row_automata::{Choices, Words, accepted, chosen, condition, told_unless};
 use row_files::{Count, Fault};
 use std::alloc::Global;
-
-/// What is printed of automata on which an answer is wrong.
-pub(crate) fn told(
-    alloc: Global,
-    call: &str,
-    a: &Automaton,
-    b: &Automaton,
-) -> Result<String, Fault> {
-    let first: Text = shown(alloc, a)?;
-    let second: Text = shown(alloc, b)?;
-    let first = std::str::from_utf8(first.as_bytes()).unwrap_or("(no text)");
-    let second = std::str::from_utf8(second.as_bytes()).unwrap_or("(no text)");
-    Ok(format!(in alloc; "? {call}\n< {first}\n< {second}")?)
-}
-
-/// The same, or nothing where the answer is right.
-pub(crate) fn told_unless(
-    is_right: bool,
-    alloc: Global,
-    call: &str,
-    a: &Automaton,
-    b: &Automaton,
-) -> Result<Option<String>, Fault> {
-    if is_right {
-        return Ok(None);
-    }
-    Ok(Some(told(alloc, call, a, b)?))
-}
-
-/// For each word of a list, whether the automaton accepts it.
-pub(crate) fn accepted(alloc: Global, a: &Automaton, words: &Words) -> Result<Vec<bool>, Memory> {
-    Paths::new(alloc, a)?.accepted(alloc, a.formula(), words)
-}
 
 /// Random automata of two states with three edges; the condition changes from one to the next.
 pub(crate) fn compared(rt: &HostRuntime, count: &mut Count) -> Result<(), Fault> {
@@ -70,7 +37,7 @@ pub(crate) fn three_edges(
 /// What is printed where the answer is wrong.
 fn different(alloc: Global, a: &Automaton, words: &Words) -> Result<Option<String>, Fault> {
     let is_right = is_found(alloc, a, words)?;
-    told_unless(is_right, alloc, "accepted_word", a, a)
+    told_unless(is_right, alloc, "accepted_word", &[a, a])
 }
 
 /// Whether a word of the automaton is found, or no word of a list is accepted.

@@ -2,10 +2,9 @@
 
 use crate::ask_about::{Found, word_of_both};
 use crate::calls::is_right;
-use crate::emptiness::{accepted, told_unless};
 use aut_base::Memory;
 use aut_core::Automaton;
-use row_automata::{Choices, Words, chosen, condition};
+use row_automata::{Choices, Words, accepted, chosen, condition, told_unless};
 use row_files::{Count, Fault};
 use std::alloc::Global;
 
@@ -39,7 +38,7 @@ fn different(
     words: &Words,
 ) -> Result<Option<String>, Fault> {
     let is_right = is_found(alloc, a, b, words)?;
-    told_unless(is_right, alloc, "word_of_both", a, b)
+    told_unless(is_right, alloc, "word_of_both", &[a, b])
 }
 
 /// Whether a word of both is found, or no word of a list is accepted by both.

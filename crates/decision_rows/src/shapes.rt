@@ -1,8 +1,8 @@
 //! Large automata over `a`: rings, at the limit of pairs, and lines, in which a recursion over the states would go deep.
 
-use aut_base::{Edge, Edges, Formula, Formulas, Label, Memory, Numbers};
+use aut_base::{Edges, Formula, Formulas, Memory};
 use aut_core::Automaton;
-use row_automata::{automaton, marks};
+use row_automata::{edge, standing};
 use row_files::Fault;
 use std::alloc::Global;
 
@@ -81,40 +81,4 @@ fn both(alloc: Global) -> Result<Formula, Memory> {
     let inf = Formula::Inf { set: 0, neg: false };
     let fin = Formula::Fin { set: 1, neg: false };
     Ok(Formula::And(Formulas::pair(alloc, inf, fin)?))
-}
-
-/// An edge where `a` holds, or where it doesn't, in the sets whose bits are set.
-fn edge(alloc: Global, from: u32, holds: bool, to: u32, sets: u32) -> Result<Edge, Memory> {
-    let marks = marks(alloc, sets)?;
-    Ok(Edge {
-        from,
-        label: label(alloc, holds)?,
-        to,
-        marks,
-    })
-}
-
-/// The label that is true where `a` holds, or where it doesn't.
-fn label(alloc: Global, holds: bool) -> Result<Label, Memory> {
-    if holds {
-        return Ok(Label::Prop(0));
-    }
-    Ok(Label::Not(Box::new(alloc, Label::Prop(0))?))
-}
-
-fn standing(
-    alloc: Global,
-    states: u32,
-    first: u32,
-    edges: Edges,
-    formula: Formula,
-) -> Result<Automaton, Fault> {
-    let mut starts = Numbers::new(alloc);
-    for start in 0..first {
-        starts.push(start)?;
-    }
-    match automaton(alloc, b"a", states, starts, edges, 2, formula)? {
-        Some(a) => Ok(a),
-        None => Err(Fault::Failed),
-    }
 }

@@ -1,10 +1,10 @@
 //! Random automata: ambiguity by its definition, with a search through all pairs of short paths.
 
 use crate::ask_about::verdict;
-use crate::emptiness::{three_edges, told_unless};
+use crate::emptiness::three_edges;
 use aut_base::{Formula, Marks, Memory};
 use aut_core::{Automaton, Link};
-use row_automata::{Choices, marks};
+use row_automata::{Choices, marks, told_unless};
 use row_files::{Count, Fault};
 use std::alloc::Global;
 
@@ -41,7 +41,7 @@ fn different(alloc: Global, a: &Automaton) -> Result<Option<String>, Fault> {
     } else {
         "unambiguous"
     };
-    told_unless(said == wanted, alloc, "is_unambiguous", a, a)
+    told_unless(said == wanted, alloc, "is_unambiguous", &[a, a])
 }
 
 /// Whether two different accepting runs read one short word. Two runs over one word return to their states together after

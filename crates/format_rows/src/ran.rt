@@ -1,6 +1,6 @@
 //! The outcome of a run.
 
-use aut_base::{Memory, Memory, Text, Text};
+use aut_base::{Memory, Text};
 use row_files::Answer;
 
 /// The answers in words, how many bytes were taken, and how many were left.

@@ -1,7 +1,8 @@
 //! Automata made of their parts.
 
 use aut_base::{
-    Description, Edges, Formula, Letter, MOST_NAMES, Marks, Memory, Names, Numbers, Text,
+    Description, Edge, Edges, Formula, Label, Letter, MOST_NAMES, Marks, Memory, Names, Numbers,
+    Text,
 };
 use aut_core::Automaton;
 use row_files::Fault;
@@ -43,6 +44,46 @@ pub(crate) fn well_formed(made: Option<Automaton>) -> Result<Automaton, Fault> {
         Some(a) => Ok(a),
         None => Err(Fault::Failed),
     }
+}
+
+/// The automaton over `a` of these edges that starts in this many first states. It has two sets.
+pub fn standing(
+    alloc: Global,
+    states: u32,
+    firsts: u32,
+    edges: Edges,
+    formula: Formula,
+) -> Result<Automaton, Fault> {
+    let starts = first_states(alloc, firsts)?;
+    let made = automaton(alloc, b"a", states, starts, edges, 2, formula)?;
+    well_formed(made)
+}
+
+fn first_states(alloc: Global, count: u32) -> Result<Numbers, Memory> {
+    let mut starts = Numbers::new(alloc);
+    for start in 0..count {
+        starts.push(start)?;
+    }
+    Ok(starts)
+}
+
+/// An edge where `a` holds, or where it doesn't, in the sets whose bits are set.
+pub fn edge(alloc: Global, from: u32, holds: bool, to: u32, sets: u32) -> Result<Edge, Memory> {
+    let marks = marks(alloc, sets)?;
+    Ok(Edge {
+        from,
+        label: literal(alloc, holds)?,
+        to,
+        marks,
+    })
+}
+
+/// The label that is true where `a` holds, or where it doesn't.
+fn literal(alloc: Global, holds: bool) -> Result<Label, Memory> {
+    if holds {
+        return Ok(Label::Prop(0));
+    }
+    Ok(Label::Not(Box::new(alloc, Label::Prop(0))?))
 }
 
 /// Names of one byte each.

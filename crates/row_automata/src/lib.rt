@@ -11,11 +11,11 @@ mod product;
 mod show;
 mod words;
 
-pub use build::{automaton, marks, named};
+pub use build::{automaton, edge, marks, named, standing};
 pub use choices::{Choices, chosen};
 pub use conditions::{CONDITIONS, condition};
 pub use notation::read;
-pub use paths::Paths;
+pub use paths::{Paths, accepted};
 pub use product::accepts;
-pub use show::{push_number, shown};
+pub use show::{pair, push_number, shown, told_unless};
 pub use words::{Word, Words};

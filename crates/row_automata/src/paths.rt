@@ -12,6 +12,11 @@ use search::Search;
 use std::alloc::Global;
 use steps::{Step, steps};
 
+/// For each word of a list, whether the automaton accepts it.
+pub fn accepted(alloc: Global, a: &Automaton, words: &Words) -> Result<Vec<bool>, Memory> {
+    Paths::new(alloc, a)?.accepted(alloc, a.formula(), words)
+}
+
 /// An automaton over some of the names `a` and `b`, prepared for the search. It has at most 31 sets.
 #[derive(Drop)]
 pub struct Paths {

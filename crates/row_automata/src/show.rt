@@ -3,6 +3,7 @@
 use aut_base::{Formula, Formulas, Memory, Text};
 use aut_core::{Automaton, Link};
 use label_guards::{Guard, Guards};
+use row_files::Fault;
 use std::alloc::Global;
 
 /// The automaton in the notation of rows, except that its condition is in Polish notation and its labels have spaces.
@@ -35,6 +36,43 @@ fn push_starts_and_names(alloc: Global, text: &mut Text, a: &Automaton) -> Resul
         text.extend(name.as_bytes())?;
     }
     Ok(())
+}
+
+/// Nothing where an answer of this call is right, and else the call with the automata that it is of, as a row.
+pub fn told_unless(
+    is_right: bool,
+    alloc: Global,
+    call: &str,
+    automata: &[&Automaton],
+) -> Result<Option<String>, Fault> {
+    if is_right {
+        return Ok(None);
+    }
+    Ok(Some(told(alloc, call, automata)?))
+}
+
+fn told(alloc: Global, call: &str, automata: &[&Automaton]) -> Result<String, Fault> {
+    let mut told = format!(in alloc; "? {call}")?;
+    for a in automata {
+        add_shown(alloc, &mut told, a)?;
+    }
+    Ok(told)
+}
+
+fn add_shown(alloc: Global, told: &mut String, a: &Automaton) -> Result<(), Fault> {
+    let text = shown(alloc, a)?;
+    told.push_str("\n< ")?;
+    told.push_str(std::str::from_utf8(text.as_bytes()).unwrap_or("(no text)"))?;
+    Ok(())
+}
+
+/// Two numbers with a space between them.
+pub fn pair(alloc: Global, first: u32, second: u32) -> Result<Text, Memory> {
+    let mut text = Text::new(alloc);
+    push_number(alloc, &mut text, first)?;
+    text.push(b' ')?;
+    push_number(alloc, &mut text, second)?;
+    Ok(text)
 }
 
 /// Adds a number in decimal digits.
