@@ -27,39 +27,24 @@ fn written(alloc: Global, word: &str, parts: &mut Vec<Formula>) -> Result<Formul
     match word {
         "t" => Ok(Formula::True),
         "f" => Ok(Formula::False),
-        "&" => last_two(alloc, Node::And, parts),
-        "|" => last_two(alloc, Node::Or, parts),
-        "&&" => last_three(alloc, Node::And, parts),
-        "||" => last_three(alloc, Node::Or, parts),
-        _ => atom_or_repeated(alloc, word, parts),
-    }
-}
-
-fn atom_or_repeated(alloc: Global, word: &str, parts: &mut Vec<Formula>) -> Result<Formula, Fault> {
-    match word.strip_prefix('&') {
-        Some(times) => repeated(alloc, number(times)?, parts),
-        None => atom(word),
+        "&" => Ok(last_two(alloc, Node::And, parts)?),
+        "|" => Ok(last_two(alloc, Node::Or, parts)?),
+        "&&" => Ok(last_three(alloc, Node::And, parts)?),
+        "||" => Ok(last_three(alloc, Node::Or, parts)?),
+        _ => match word.strip_prefix('&') {
+            Some(times) => Ok(repeated(alloc, number(times)?, parts)?),
+            None => atom(word),
+        },
     }
 }
 
 fn atom(word: &str) -> Result<Formula, Fault> {
-    match word.strip_prefix('I') {
-        Some(rest) => {
-            let (neg, set) = set_of(rest)?;
-            Ok(Formula::Inf { set, neg })
-        }
-        None => fin(word),
+    if let Some(rest) = word.strip_prefix('I') {
+        let (neg, set) = set_of(rest)?;
+        return Ok(Formula::Inf { set, neg });
     }
-}
-
-fn fin(word: &str) -> Result<Formula, Fault> {
-    match word.strip_prefix('F') {
-        Some(rest) => {
-            let (neg, set) = set_of(rest)?;
-            Ok(Formula::Fin { set, neg })
-        }
-        None => Err(Fault::UnknownKind),
-    }
+    let (neg, set) = set_of(word.strip_prefix('F').ok_or(Fault::UnknownKind)?)?;
+    Ok(Formula::Fin { set, neg })
 }
 
 /// The set, and whether `!` precedes it.
@@ -70,36 +55,27 @@ fn set_of(word: &str) -> Result<(bool, u32), Fault> {
     }
 }
 
-fn last_two(alloc: Global, node: Node, parts: &mut Vec<Formula>) -> Result<Formula, Fault> {
+fn last_two(alloc: Global, node: Node, parts: &mut Vec<Formula>) -> Result<Formula, Memory> {
     let second = last(parts);
     let first = last(parts);
-    Ok(pair(alloc, node, first, second)?)
+    pair(alloc, node, first, second)
 }
 
-fn last_three(alloc: Global, node: Node, parts: &mut Vec<Formula>) -> Result<Formula, Fault> {
+fn last_three(alloc: Global, node: Node, parts: &mut Vec<Formula>) -> Result<Formula, Memory> {
     let third = last(parts);
     let second = last(parts);
     let first = last(parts);
-    Ok(triple(alloc, node, first, second, third)?)
+    triple(alloc, node, first, second, third)
 }
 
 /// The conjunction of so many copies of the last part, at least two.
-fn repeated(alloc: Global, times: u32, parts: &mut Vec<Formula>) -> Result<Formula, Fault> {
+fn repeated(alloc: Global, times: u32, parts: &mut Vec<Formula>) -> Result<Formula, Memory> {
     let part = last(parts);
-    Ok(Formula::And(copies(alloc, &part, times)?))
-}
-
-fn copies(alloc: Global, part: &Formula, times: u32) -> Result<Formulas, Memory> {
-    let mut copies = two_copies(alloc, part)?;
+    let mut copies = Formulas::pair(alloc, part.copy(alloc)?, part.copy(alloc)?)?;
     for _ in 2..times {
         copies.push(part.copy(alloc)?)?;
     }
-    Ok(copies)
-}
-
-fn two_copies(alloc: Global, part: &Formula) -> Result<Formulas, Memory> {
-    let first = part.copy(alloc)?;
-    Formulas::pair(alloc, first, part.copy(alloc)?)
+    Ok(Formula::And(copies))
 }
 
 /// Takes the last part; it is `f` where there is none.
@@ -117,13 +93,10 @@ pub(crate) fn pair(
     first: Formula,
     second: Formula,
 ) -> Result<Formula, Memory> {
-    Ok(joined(node, Formulas::pair(alloc, first, second)?))
-}
-
-fn joined(node: Node, parts: Formulas) -> Formula {
+    let parts = Formulas::pair(alloc, first, second)?;
     match node {
-        Node::And => Formula::And(parts),
-        Node::Or => Formula::Or(parts),
+        Node::And => Ok(Formula::And(parts)),
+        Node::Or => Ok(Formula::Or(parts)),
     }
 }
 
@@ -137,7 +110,10 @@ pub(crate) fn triple(
 ) -> Result<Formula, Memory> {
     let mut parts = Formulas::pair(alloc, first, second)?;
     parts.push(third)?;
-    Ok(joined(node, parts))
+    match node {
+        Node::And => Ok(Formula::And(parts)),
+        Node::Or => Ok(Formula::Or(parts)),
+    }
 }
 
 /// The condition as a text.

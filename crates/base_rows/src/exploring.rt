@@ -3,10 +3,8 @@
 mod doubling;
 mod rising;
 
-ghost use Rattle.std.specs.Prelude.{◌<◌};
-
-use crate::words::{parted, text, two_numbers};
-use aut_base::{Memory, Numbers, Text};
+use crate::words::{parted, text};
+use aut_base::{Numbers, Text};
 use doubling::{Doubling, Number};
 use exploration::{Explored, Fault, Limits, explore};
 use rising::Rising;
@@ -24,22 +22,16 @@ enum Outcome {
 /// From `BOUND; STATES CLASSES`: how the exploration of the doubled numbers from 1 ends.
 pub(crate) fn doubled(alloc: Global, line: &str) -> Result<Text, row_files::Fault> {
     let (bound, rest) = parted(line)?;
-    let bound = number(bound)?;
+    let mut system = Doubling {
+        bound: number(bound)?,
+        made: Numbers::new(alloc),
+    };
     let limits = limits(rest)?;
     if limits.states == 0 {
         return Err(row_files::Fault::Missing);
     }
-    shown(alloc, outcome_of_doubling(alloc, bound, limits))
-}
-
-fn outcome_of_doubling(alloc: Global, bound: u32, limits: Limits) -> Outcome
-    requires { 0 < limits.states }
-{
-    let mut system = Doubling {
-        bound,
-        made: Numbers::new(alloc),
-    };
-    outcome_of(explore(alloc, &mut system, Number { n: 1 }, limits))
+    let found = explore(alloc, &mut system, Number { n: 1 }, limits);
+    shown(alloc, outcome_of(found))
 }
 
 /// From `STATES CLASSES`: how the exploration from the list of 1 and 2 ends.
@@ -48,23 +40,23 @@ pub(crate) fn risen(alloc: Global, line: &str) -> Result<Text, row_files::Fault>
     if limits.states == 0 {
         return Err(row_files::Fault::Missing);
     }
-    shown(alloc, outcome_of_rising(alloc, limits)?)
-}
-
-fn outcome_of_rising(alloc: Global, limits: Limits) -> Result<Outcome, Memory>
-    requires { 0 < limits.states }
-{
     let mut start = Numbers::new(alloc);
     start.push(1)?;
     start.push(2)?;
     let mut system = Rising { steps: 0 };
-    Ok(outcome_of(explore(alloc, &mut system, start, limits)))
+    shown(
+        alloc,
+        outcome_of(explore(alloc, &mut system, start, limits)),
+    )
 }
 
 /// The limits of states and of classes.
 fn limits(words: &str) -> Result<Limits, row_files::Fault> {
-    let (states, classes) = two_numbers(words)?;
-    Ok(Limits { states, classes })
+    let (states, classes) = words.split_once(' ').ok_or(row_files::Fault::Missing)?;
+    Ok(Limits {
+        states: number(states)?,
+        classes: number(classes)?,
+    })
 }
 
 fn outcome_of<T: Eq + Hash + Drop, C: Copy, N: Copy>(

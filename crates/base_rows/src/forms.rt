@@ -7,7 +7,6 @@ mod shape;
 
 use crate::conditions::{formula, shown};
 use crate::words::{digits, parted, text, truth};
-use acc_forms::Terms;
 use aut_base::{Formula, Memory, Text};
 use calls::{
     both, count, either, holds_without_marks, opposite, parity, raised, speaks_of_fin, spread,
@@ -31,23 +30,16 @@ pub(crate) enum Call {
 /// What a call makes of the conditions of a line, as text.
 pub(crate) fn made(alloc: Global, call: Call, line: &str) -> Result<Text, Fault> {
     match call {
-        Call::Dual | Call::Shift | Call::Spread => made_of_one(alloc, call, line),
+        Call::Dual | Call::Shift | Call::Spread => made_of_one(alloc, call, &formula(alloc, line)?),
         Call::Conj | Call::Disj => made_of_two(alloc, call, line),
     }
 }
 
-fn made_of_one(alloc: Global, call: Call, line: &str) -> Result<Text, Fault> {
-    let formula = formula(alloc, line)?;
-    let made = turned(alloc, call, &formula)?;
-    shown_if(alloc, &made)
-}
-
-/// What a call makes of one condition, if it makes one.
-fn turned(alloc: Global, call: Call, f: &Formula) -> Result<Option<Formula>, Memory> {
+fn made_of_one(alloc: Global, call: Call, f: &Formula) -> Result<Text, Fault> {
     match call {
-        Call::Dual => Ok(Some(opposite(alloc, f)?)),
-        Call::Shift => raised(alloc, f),
-        _ => spread_out(alloc, f),
+        Call::Dual => shown(alloc, &opposite(alloc, f)?),
+        Call::Shift => shown_if(alloc, &raised(alloc, f)?),
+        _ => shown_if(alloc, &spread_out(alloc, f)?),
     }
 }
 
@@ -69,14 +61,13 @@ fn spread_out(alloc: Global, f: &Formula) -> Result<Option<Formula>, Memory> {
 
 fn made_of_two(alloc: Global, call: Call, line: &str) -> Result<Text, Fault> {
     let (first, second) = parted(line)?;
-    let made = joined_parts(alloc, call, first, second)?;
-    shown(alloc, &made)
-}
-
-fn joined_parts(alloc: Global, call: Call, first: &str, second: &str) -> Result<Formula, Fault> {
-    let first = formula(alloc, first)?;
-    let second = formula(alloc, second)?;
-    Ok(joined(alloc, call, &first, &second)?)
+    let made = joined(
+        alloc,
+        call,
+        &formula(alloc, first)?,
+        &formula(alloc, second)?,
+    );
+    shown(alloc, &made?)
 }
 
 fn joined(alloc: Global, call: Call, f: &Formula, g: &Formula) -> Result<Formula, Memory> {
@@ -108,13 +99,8 @@ pub(crate) fn terms_count(alloc: Global, line: &str) -> Result<Text, Fault> {
 
 /// The number of terms that are made, or `too many`.
 pub(crate) fn disjuncts(alloc: Global, line: &str) -> Result<Text, Fault> {
-    match terms_of(alloc, line)? {
+    match terms(alloc, &formula(alloc, line)?)? {
         Some(found) => digits(alloc, found.len() as u64),
         None => text(alloc, b"too many"),
     }
-}
-
-fn terms_of(alloc: Global, line: &str) -> Result<Option<Terms>, Fault> {
-    let formula = formula(alloc, line)?;
-    Ok(terms(alloc, &formula)?)
 }

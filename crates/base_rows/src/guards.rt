@@ -22,35 +22,18 @@ pub(crate) fn canonical(alloc: Global, line: &str) -> Result<Text, Fault> {
     }
     let mut store = Guards::new(alloc, props)?;
     let guard = guard(alloc, &mut store, written)?;
-    in_brackets(alloc, &store, guard)
-}
-
-/// The text of a guard in brackets, from both calls where these don't agree.
-fn in_brackets(alloc: Global, store: &Guards, guard: Guard) -> Result<Text, Fault> {
     let mut answer = text(alloc, b"[")?;
-    add_pushed(alloc, &mut answer, store, guard)?;
-    add_other(alloc, &mut answer, store, guard)?;
+    if !push_cubes(alloc, &store, &mut answer, guard)? {
+        return Err(Fault::Failed);
+    }
+    let mut wanted = text(alloc, b"[")?;
+    add_cubes(alloc, &mut wanted, &store, guard)?;
+    if answer != wanted {
+        answer.extend(b" and ")?;
+        answer.extend(wanted.as_bytes())?;
+    }
     answer.push(b']')?;
     Ok(answer)
-}
-
-/// Adds the text that `push_cubes` writes.
-fn add_pushed(alloc: Global, out: &mut Text, store: &Guards, guard: Guard) -> Result<(), Fault> {
-    if push_cubes(alloc, store, out, guard)? {
-        return Ok(());
-    }
-    Err(Fault::Failed)
-}
-
-/// Adds the bracket and the text that `cubes` gives, where that is another than what was added before.
-fn add_other(alloc: Global, out: &mut Text, store: &Guards, guard: Guard) -> Result<(), Fault> {
-    let mut wanted = text(alloc, b"[")?;
-    add_cubes(alloc, &mut wanted, store, guard)?;
-    if *out != wanted {
-        out.extend(b" and ")?;
-        out.extend(wanted.as_bytes())?;
-    }
-    Ok(())
 }
 
 /// The guard of a label.
@@ -70,31 +53,20 @@ fn add_cubes(alloc: Global, out: &mut Text, store: &Guards, guard: Guard) -> Res
 /// more than `MOST`.
 pub(crate) fn divided(alloc: Global, line: &str) -> Result<Text, Fault> {
     let (most, written) = parted(line)?;
-    let most = number(most)?;
     let mut store = Guards::new(alloc, 2)?;
     let list = list(alloc, &mut store, written)?;
-    classes_of(alloc, &mut store, &list, most)
-}
-
-/// The texts of the classes of these guards, or `more`.
-fn classes_of(
-    alloc: Global,
-    store: &mut Guards,
-    list: &GuardList,
-    most: u32,
-) -> Result<Text, Fault> {
-    match classes(alloc, store, list, most)? {
-        Some(found) => each_text(alloc, store, &found),
+    match classes(alloc, &mut store, &list, number(most)?)? {
+        Some(found) => each_text(alloc, &store, &found),
         None => text(alloc, b"more"),
     }
 }
 
 /// The guards of these labels.
 fn list(alloc: Global, store: &mut Guards, written: &str) -> Result<GuardList, Fault> {
-    if written == "-" {
-        return Ok(GuardList::new(alloc));
-    }
     let mut list = GuardList::new(alloc);
+    if written == "-" {
+        return Ok(list);
+    }
     for label in written.split(';') {
         list.push(guard(alloc, store, label.trim_start())?)?;
     }

@@ -20,23 +20,23 @@ fn written(alloc: Global, word: &str, parts: &mut Vec<Label>) -> Result<Label, F
         "t" => Ok(Label::True),
         "f" => Ok(Label::False),
         "!" => Ok(Label::Not(Box::new(alloc, last(parts))?)),
-        "&" => Ok(Label::And(last_two(alloc, parts)?)),
-        "|" => Ok(Label::Or(last_two(alloc, parts)?)),
-        "&&" => Ok(Label::And(last_three(alloc, parts)?)),
-        "||" => Ok(Label::Or(last_three(alloc, parts)?)),
+        "&" => Ok(Label::And(Box::new(alloc, last_two(alloc, parts))?)),
+        "|" => Ok(Label::Or(Box::new(alloc, last_two(alloc, parts))?)),
+        "&&" => Ok(Label::And(Box::new(alloc, last_three(alloc, parts)?)?)),
+        "||" => Ok(Label::Or(Box::new(alloc, last_three(alloc, parts)?)?)),
         _ => Ok(Label::Prop(number(word)?)),
     }
 }
 
-fn last_two(alloc: Global, parts: &mut Vec<Label>) -> Result<Box<Labels>, Memory> {
+fn last_two(alloc: Global, parts: &mut Vec<Label>) -> Labels {
     let second = last(parts);
     let first = last(parts);
-    Ok(Box::new(alloc, Labels::pair(alloc, first, second))?)
+    Labels::pair(alloc, first, second)
 }
 
-fn last_three(alloc: Global, parts: &mut Vec<Label>) -> Result<Box<Labels>, Memory> {
+fn last_three(alloc: Global, parts: &mut Vec<Label>) -> Result<Labels, Memory> {
     let third = last(parts);
-    let mut all = last_two(alloc, parts)?;
+    let mut all = last_two(alloc, parts);
     all.push(third)?;
     Ok(all)
 }

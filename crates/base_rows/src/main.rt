@@ -59,47 +59,25 @@ fn answer(alloc: Global, call: &str, line: &str) -> Result<Text, Fault> {
         "names" => values::count_names(alloc, line),
         "position" => values::position(alloc, line),
         "has" => values::has(alloc, line),
-        _ => answer_of_streams(alloc, call, line),
-    }
-}
-
-fn answer_of_streams(alloc: Global, call: &str, line: &str) -> Result<Text, Fault> {
-    match call {
         "source" => streams::source(alloc, line),
         "sure source" => streams::sure_source(alloc, line),
         "sink" => streams::sink(alloc, line),
         "sure sink" => streams::sure_sink(alloc, line),
-        _ => answer_of_forms(alloc, call, line),
-    }
-}
-
-fn answer_of_forms(alloc: Global, call: &str, line: &str) -> Result<Text, Fault> {
-    match call {
+        "dual" => forms::made(alloc, forms::Call::Dual, line),
+        "shift" => forms::made(alloc, forms::Call::Shift, line),
+        "of_terms" => forms::made(alloc, forms::Call::Spread, line),
+        "conj" => forms::made(alloc, forms::Call::Conj, line),
+        "disj" => forms::made(alloc, forms::Call::Disj, line),
         "has_fin" => forms::has_fin(alloc, line),
         "empty_meets" => forms::empty_meets(alloc, line),
         "parity_min_odd" => forms::parity_min_odd(alloc, line),
         "terms_count" => forms::terms_count(alloc, line),
         "disjuncts" => forms::disjuncts(alloc, line),
-        _ => match call_that_makes(call) {
-            Some(made) => forms::made(alloc, made, line),
-            None => answer_of_graphs(alloc, call, line),
-        },
+        _ => answer_of_upper(alloc, call, line),
     }
 }
 
-/// The call of this name that makes a condition, if there is one.
-fn call_that_makes(name: &str) -> Option<forms::Call> {
-    match name {
-        "dual" => Some(forms::Call::Dual),
-        "shift" => Some(forms::Call::Shift),
-        "of_terms" => Some(forms::Call::Spread),
-        "conj" => Some(forms::Call::Conj),
-        "disj" => Some(forms::Call::Disj),
-        _ => None,
-    }
-}
-
-fn answer_of_graphs(alloc: Global, call: &str, line: &str) -> Result<Text, Fault> {
+fn answer_of_upper(alloc: Global, call: &str, line: &str) -> Result<Text, Fault> {
     match call {
         "reach" => graphs::reached(alloc, line),
         "components" => graphs::numbered(alloc, line),
@@ -108,12 +86,6 @@ fn answer_of_graphs(alloc: Global, call: &str, line: &str) -> Result<Text, Fault
         "line" => explored(alloc, Shape::Line, line),
         "ring" => explored(alloc, Shape::Ring, line),
         "comb" => explored(alloc, Shape::Comb, line),
-        _ => answer_of_upper(alloc, call, line),
-    }
-}
-
-fn answer_of_upper(alloc: Global, call: &str, line: &str) -> Result<Text, Fault> {
-    match call {
         "explore doubling" => exploring::doubled(alloc, line),
         "explore rising" => exploring::risen(alloc, line),
         "cubes" => guards::canonical(alloc, line),

@@ -11,14 +11,9 @@ use std::alloc::Global;
 /// From `SCRIPT; CALLS`: the answers of a source on which these calls fail.
 pub(crate) fn source(alloc: Global, line: &str) -> Result<Text, Fault> {
     let (script, failing) = parted(line)?;
-    let mut inputs = failing_inputs(alloc, failing)?;
-    play(alloc, &mut inputs, script)
-}
-
-fn failing_inputs(alloc: Global, failing: &str) -> Result<MemInputs, Fault> {
     let failing = numbers_or_none(alloc, failing)?;
     let (names, texts) = two_texts(alloc)?;
-    Ok(MemInputs::new(names, texts, failing))
+    play(alloc, &mut MemInputs::new(names, texts, failing), script)
 }
 
 /// The answers of a source that never fails.
@@ -32,22 +27,13 @@ pub(crate) fn sure_source(alloc: Global, line: &str) -> Result<Text, Fault> {
 pub(crate) fn sink(alloc: Global, line: &str) -> Result<Text, Fault> {
     let (pieces, rest) = parted(line)?;
     let (capacity, failing) = parted(rest)?;
-    let capacity = number(capacity)?;
-    let mut sink = MemSink::new(alloc, capacity, numbers_or_none(alloc, failing)?)?;
-    write_and_show(alloc, &mut sink, pieces)
-}
-
-fn write_and_show(alloc: Global, sink: &mut MemSink, pieces: &str) -> Result<Text, Fault> {
-    let mut answer = write_all(alloc, sink, pieces)?;
-    add_held(&mut answer, sink.bytes())?;
-    Ok(answer)
-}
-
-/// Adds what a sink holds.
-fn add_held(answer: &mut Text, bytes: &[u8]) -> Result<(), Memory> {
+    let failing = numbers_or_none(alloc, failing)?;
+    let mut sink = MemSink::new(alloc, number(capacity)?, failing)?;
+    let mut answer = write_all(alloc, &mut sink, pieces)?;
     answer.extend(b" <")?;
-    answer.extend(bytes)?;
-    answer.push(b'>')
+    answer.extend(sink.bytes())?;
+    answer.push(b'>')?;
+    Ok(answer)
 }
 
 /// The answers of a sink that never fails.
@@ -59,26 +45,13 @@ pub(crate) fn sure_sink(alloc: Global, line: &str) -> Result<Text, Fault> {
 fn two_texts(alloc: Global) -> Result<(Names, Words), Memory>
     ensures { IfOk result (λ p. length p.1 ≡ length p.0) }
 {
-    let names = two_names(alloc)?;
-    Ok((names, two_words(alloc)?))
-}
-
-fn two_names(alloc: Global) -> Result<Names, Memory>
-    ensures { IfOk result (λ names. length names ≡ 2) }
-{
     let mut names = Names::new(alloc);
     names.push(Text::from_bytes(alloc, b"a")?)?;
     names.push(Text::from_bytes(alloc, b"b")?)?;
-    Ok(names)
-}
-
-fn two_words(alloc: Global) -> Result<Words, Memory>
-    ensures { IfOk result (λ words. length words ≡ 2) }
-{
-    let mut words = Words::new(alloc);
-    words.push(Text::from_bytes(alloc, b"xy")?)?;
-    words.push(Text::from_bytes(alloc, b"z")?)?;
-    Ok(words)
+    let mut texts = Words::new(alloc);
+    texts.push(Text::from_bytes(alloc, b"xy")?)?;
+    texts.push(Text::from_bytes(alloc, b"z")?)?;
+    Ok((names, texts))
 }
 
 /// Makes the calls of a script and writes their answers: `n` reads, and any other letter opens the text of that name. The
@@ -88,19 +61,14 @@ fn play<I: Inputs>(alloc: Global, inputs: &mut I, script: &str) -> Result<Text, 
 {
     let mut answers = Text::new(alloc);
     for letter in script.bytes() {
-        answers.push(answer(alloc, inputs, letter)?)?;
+        let answer = if letter == b'n' {
+            read(inputs)
+        } else {
+            open(alloc, inputs, letter)?
+        };
+        answers.push(answer)?;
     }
     Ok(answers)
-}
-
-/// Makes one call of a script, and gives its answer.
-fn answer<I: Inputs>(alloc: Global, inputs: &mut I, letter: u8) -> Result<u8, Memory>
-    requires { (name : List ℕ) → I.may_open name }
-{
-    if letter == b'n' {
-        return Ok(read(inputs));
-    }
-    open(alloc, inputs, letter)
 }
 
 fn read<I: Inputs>(inputs: &mut I) -> u8 {
@@ -126,14 +94,11 @@ fn open<I: Inputs>(alloc: Global, inputs: &mut I, letter: u8) -> Result<u8, Memo
 fn write_all<S: Sink>(alloc: Global, sink: &mut S, pieces: &str) -> Result<Text, Fault> {
     let mut answers = Text::new(alloc);
     for piece in pieces.split(',') {
-        answers.push(write(sink, piece.as_bytes()))?;
+        let answer = match sink.write(piece.as_bytes()) {
+            Ok(()) => b'+',
+            Err(_) => b'-',
+        };
+        answers.push(answer)?;
     }
     Ok(answers)
-}
-
-fn write<S: Sink>(sink: &mut S, piece: &[u8]) -> u8 {
-    match sink.write(piece) {
-        Ok(()) => b'+',
-        Err(_) => b'-',
-    }
 }

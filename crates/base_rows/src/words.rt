@@ -1,23 +1,12 @@
 //! The parts of a row's input, and of its answer.
 
 use aut_base::{Memory, Numbers, Text};
-use row_files::{Fault, number, numbers};
+use row_files::{Fault, numbers};
 use std::alloc::Global;
 
 /// The parts of a line before and after the first `; `.
 pub(crate) fn parted(line: &str) -> Result<(&str, &str), Fault> {
-    match line.split_once("; ") {
-        Some(parts) => Ok(parts),
-        None => Err(Fault::Missing),
-    }
-}
-
-/// Two numbers separated by a space.
-pub(crate) fn two_numbers(words: &str) -> Result<(u32, u32), Fault> {
-    match words.split_once(' ') {
-        Some((first, second)) => Ok((number(first)?, number(second)?)),
-        None => Err(Fault::Missing),
-    }
+    line.split_once("; ").ok_or(Fault::Missing)
 }
 
 /// Numbers separated by spaces, or none for `-`.

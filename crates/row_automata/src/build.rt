@@ -1,8 +1,7 @@
 //! Automata made of their parts.
 
 use aut_base::{
-    Description, Edge, Edges, Formula, Label, Letter, MOST_NAMES, Marks, Memory, Names, Numbers,
-    Text,
+    Description, Edge, Edges, Formula, Label, MOST_NAMES, Marks, Memory, Names, Numbers, Text,
 };
 use aut_core::Automaton;
 use row_files::Fault;
@@ -96,15 +95,6 @@ pub fn named(alloc: Global, bytes: &[u8]) -> Result<Names, Memory> {
         }
     }
     Ok(names)
-}
-
-/// The letter in which the propositions of these names hold, of one byte each.
-pub(crate) fn letter(alloc: Global, names: &[u8]) -> Result<Letter, Memory> {
-    let mut letter = Letter::new(alloc);
-    for name in names {
-        letter.add(Text::from_bytes(alloc, &[*name])?)?;
-    }
-    Ok(letter)
 }
 
 /// The marks of a bit mask: the sets below 31 whose bits are set.

@@ -1,8 +1,7 @@
 //! Acceptance of lasso words, decided by an accepting cycle in the product of the automaton and the word.
 
-use crate::build::letter;
 use crate::words::Word;
-use aut_base::{Formula, Letter, Marks, Memory};
+use aut_base::{Formula, Letter, Marks, Memory, Text};
 use aut_core::{Automaton, Link};
 use std::alloc::Global;
 
@@ -206,6 +205,15 @@ fn choices(alloc: Global, known: u32) -> Result<Vec<Letter>, Memory> {
         }
     }
     Ok(choices)
+}
+
+/// The letter in which the propositions of these names hold, of one byte each.
+fn letter(alloc: Global, names: &[u8]) -> Result<Letter, Memory> {
+    let mut letter = Letter::new(alloc);
+    for name in names {
+        letter.add(Text::from_bytes(alloc, &[*name])?)?;
+    }
+    Ok(letter)
 }
 
 /// The marks of an edge, of which there are at most two.

@@ -59,11 +59,12 @@ impl TransitionSystem for Doubling {
         if most < 2 {
             return Ok(None);
         }
-        let first = self.made.len();
+        let mut classes = Vec::new(alloc);
+        classes.push(self.made.len())?;
         self.made.push(0)?;
-        let second = self.made.len();
+        classes.push(self.made.len())?;
         self.made.push(1)?;
-        Ok(Some(vec![in alloc; first, second]?))
+        Ok(Some(classes))
     }
 
     fn step(

@@ -54,7 +54,11 @@ impl TransitionSystem for Rising {
         if most < 3 {
             return Ok(None);
         }
-        Ok(Some(vec![in alloc; 0, 1, 2]?))
+        let mut classes = Vec::new(alloc);
+        classes.push(0)?;
+        classes.push(1)?;
+        classes.push(2)?;
+        Ok(Some(classes))
     }
 
     fn step(

@@ -1,12 +1,11 @@
 //! Compares what the calls make of a condition with the truth that it should have.
 
-use crate::conditions::{Node, shown};
+use crate::conditions::{Node, pair, shown};
 use crate::forms::calls::{
     RAISED, both, count, either, holds_without_marks, opposite, raised, spread, terms,
 };
 use crate::forms::holds::truths;
-use crate::forms::shape::{ATOMS, SHAPES, pair_of_atoms};
-use acc_forms::{Literal, Terms};
+use crate::forms::shape::{ATOMS, SHAPES, atom};
 use aut_base::{Formula, Memory};
 use row_files::{Count, Fault};
 use std::alloc::Global;
@@ -39,27 +38,20 @@ fn different(alloc: Global, formula: &Formula) -> Result<Option<String>, Fault> 
 /// Whether every call on the condition is right.
 fn is_right(alloc: Global, formula: &Formula) -> Result<bool, Memory> {
     let own = truths(alloc, formula, 0)?;
-    is_right_by(alloc, formula, &own)
-}
-
-/// Whether every call on the condition is right by its truths.
-fn is_right_by(alloc: Global, formula: &Formula, own: &[bool]) -> Result<bool, Memory> {
+    if own.first() != Some(&holds_without_marks(formula)) {
+        return Ok(false);
+    }
     Ok(
-        own.first() == Some(&holds_without_marks(formula))
-            && is_turned_rightly(alloc, formula, own)?
-            && is_raised_rightly(alloc, formula, own)?
-            && is_spread_rightly(alloc, formula, own)?
-            && is_joined_rightly(alloc, formula, own)?,
+        is_turned_rightly(alloc, formula, &own)?
+            && is_raised_rightly(alloc, formula, &own)?
+            && is_spread_rightly(alloc, formula, &own)?
+            && is_joined_rightly(alloc, formula, &own)?,
     )
 }
 
 fn is_turned_rightly(alloc: Global, formula: &Formula, own: &[bool]) -> Result<bool, Memory> {
-    let opposites = truths_of_opposite(alloc, formula)?;
+    let opposites = truths(alloc, &opposite(alloc, formula)?, 0)?;
     Ok(own.len() == opposites.len() && own.iter().zip(opposites.iter()).all(|(a, b)| *a != *b))
-}
-
-fn truths_of_opposite(alloc: Global, formula: &Formula) -> Result<Vec<bool>, Memory> {
-    truths(alloc, &opposite(alloc, formula)?, 0)
 }
 
 fn is_raised_rightly(alloc: Global, formula: &Formula, own: &[bool]) -> Result<bool, Memory> {
@@ -73,47 +65,36 @@ fn is_spread_rightly(alloc: Global, formula: &Formula, own: &[bool]) -> Result<b
     let Some(found) = terms(alloc, formula)? else {
         return Ok(false);
     };
-    let truths = truths_of_terms(alloc, &found)?;
+    let truths = truths(alloc, &spread(alloc, &found)?, 0)?;
     Ok(truths.as_slice() == own && found.len() as u64 == count(formula))
-}
-
-fn truths_of_terms(alloc: Global, found: &Terms) -> Result<Vec<bool>, Memory> {
-    truths(alloc, &spread(alloc, found)?, 0)
 }
 
 /// Whether conjunctions and disjunctions with some other conditions have the right truth.
 fn is_joined_rightly(alloc: Global, formula: &Formula, own: &[bool]) -> Result<bool, Memory> {
-    Ok(
-        are_joined_with(alloc, formula, own, &Formula::True)?
-            && are_joined_with(alloc, formula, own, &Formula::False)?
-            && are_joined_with_pair(alloc, formula, own, Node::And, [ATOMS[0], ATOMS[6]])?
-            && are_joined_with_pair(alloc, formula, own, Node::Or, [ATOMS[1], ATOMS[4]])?,
+    let and = pair(alloc, Node::And, atom(ATOMS[0]), atom(ATOMS[6]))?;
+    let or = pair(alloc, Node::Or, atom(ATOMS[1]), atom(ATOMS[4]))?;
+    are_joined_with_each(
+        alloc,
+        formula,
+        own,
+        &[&Formula::True, &Formula::False, &and, &or],
     )
 }
 
-/// The same with two atoms, joined.
-fn are_joined_with_pair(
+fn are_joined_with_each(
     alloc: Global,
     formula: &Formula,
     own: &[bool],
-    node: Node,
-    atoms: [Literal; 2],
+    others: &[&Formula],
 ) -> Result<bool, Memory> {
-    let other = pair_of_atoms(alloc, node, atoms[0], atoms[1])?;
-    are_joined_with(alloc, formula, own, &other)
-}
-
-/// The same with one condition.
-fn are_joined_with(
-    alloc: Global,
-    formula: &Formula,
-    own: &[bool],
-    other: &Formula,
-) -> Result<bool, Memory> {
-    let all = truths_of_both(alloc, formula, other)?;
-    let some = truths_of_either(alloc, other, formula)?;
-    let others = truths(alloc, other, 0)?;
-    Ok(are_joined(own, &others, &all, &some))
+    for other in others {
+        let all = truths_of_both(alloc, formula, other)?;
+        let some = truths_of_either(alloc, other, formula)?;
+        if !are_joined(own, &truths(alloc, other, 0)?, &all, &some) {
+            return Ok(false);
+        }
+    }
+    Ok(true)
 }
 
 fn truths_of_both(alloc: Global, f: &Formula, g: &Formula) -> Result<Vec<bool>, Memory> {

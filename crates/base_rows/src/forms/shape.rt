@@ -73,30 +73,21 @@ impl Shape {
         second: Literal,
         third: Literal,
     ) -> Result<Formula, Memory> {
+        let (first, second, third) = (atom(first), atom(second), atom(third));
         match self {
-            Shape::One => Ok(atom(first)),
-            Shape::Two(node) => pair_of_atoms(alloc, node, first, second),
-            Shape::Three(node) => triple(alloc, node, atom(first), atom(second), atom(third)),
+            Shape::One => Ok(first),
+            Shape::Two(node) => pair(alloc, node, first, second),
+            Shape::Three(node) => triple(alloc, node, first, second, third),
             Shape::Right(outer, inner) => {
-                let others = pair_of_atoms(alloc, inner, second, third)?;
-                pair(alloc, outer, atom(first), others)
+                let others = pair(alloc, inner, second, third)?;
+                pair(alloc, outer, first, others)
             }
             Shape::Left(outer, inner) => {
-                let others = pair_of_atoms(alloc, inner, first, second)?;
-                pair(alloc, outer, others, atom(third))
+                let others = pair(alloc, inner, first, second)?;
+                pair(alloc, outer, others, third)
             }
         }
     }
-}
-
-/// Two atoms, joined.
-pub(crate) fn pair_of_atoms(
-    alloc: Global,
-    node: Node,
-    first: Literal,
-    second: Literal,
-) -> Result<Formula, Memory> {
-    pair(alloc, node, atom(first), atom(second))
 }
 
 /// The atom, of one of two sets.

@@ -22,18 +22,10 @@ pub(crate) enum Shape {
 /// last node.
 pub(crate) fn explored(alloc: Global, shape: Shape, line: &str) -> Result<Text, Fault> {
     let nodes = number(line)?;
-    let arcs = arcs(alloc, shape, nodes)?;
-    let graph = graph(alloc, nodes, &arcs)?;
-    explored_graph(alloc, &graph)
-}
-
-/// What the three calls answer on a graph.
-fn explored_graph(alloc: Global, graph: &Graph) -> Result<Text, Fault>
-    requires { HasNodes graph.now.nodes graph.now.arcs }
-{
-    let reached = count_reached(alloc, graph)?;
-    let components = count_components(alloc, graph)?;
-    let length = length(alloc, graph)?;
+    let graph = graph(alloc, nodes, &arcs(alloc, shape, nodes)?)?;
+    let reached = count_reached(alloc, &graph)?;
+    let components = count_components(alloc, &graph)?;
+    let length = length(alloc, &graph)?;
     let answer = format!(in alloc; "reached {reached}, components {components}, arcs {length}")?;
     text(alloc, answer.as_bytes())
 }
@@ -42,10 +34,10 @@ fn explored_graph(alloc: Global, graph: &Graph) -> Result<Text, Fault>
 fn count_reached(alloc: Global, graph: &Graph) -> Result<usize, Memory>
     requires { HasNodes graph.now.nodes graph.now.arcs }
 {
+    let mut from = Numbers::new(alloc);
     if graph.nodes == 0 {
         return Ok(0);
     }
-    let mut from = Numbers::new(alloc);
     from.push(0)?;
     let flags = reach(alloc, graph, &from)?;
     Ok(flags.as_slice().iter().filter(|flag| **flag).count())

@@ -27,47 +27,26 @@ pub(crate) fn count_all(rt: &HostRuntime, count: &mut Count) -> Result<(), Fault
 
 /// Whether the calls agree with the powers of the graph's matrix.
 fn agrees(alloc: Global, bits: u32) -> Result<bool, Memory> {
-    let arcs = arcs(alloc, bits)?;
-    let graph = graph(alloc, 3, &arcs)?;
+    let graph = graph(alloc, 3, &arcs(alloc, bits)?)?;
     let once = matrix(bits);
-    Ok(paths_agree(alloc, &graph, &once)? && components_agree(alloc, &graph, &once)?)
-}
-
-/// Whether `reach` and `path` agree with the powers of the matrix of the paths of at most one arc.
-fn paths_agree(alloc: Global, graph: &Graph, once: &Matrix) -> Result<bool, Memory>
-    requires nodes { graph.now.nodes ≡ 3 }
-    requires arcs { HasNodes 3 graph.now.arcs }
-{
-    let twice = squared(once);
+    let twice = squared(&once);
     let reached = squared(&twice);
+    let numbers = components(alloc, &graph)?;
     'pairs: for pair in 0..9u32 {
         let (p, q) = (pair / 3, pair % 3);
+        let there = reached[3 * p as usize + q as usize];
+        let back = reached[3 * q as usize + p as usize];
+        let together = numbers.at(p as usize) == numbers.at(q as usize);
         let length = match (p == q, once[pair as usize], twice[pair as usize]) {
             (true, _, _) => Some(0),
             (_, true, _) => Some(1),
             (_, _, true) => Some(2),
             _ => None,
         };
-        if reaches(alloc, graph, p, q)? != reached[pair as usize]
-            || shortest(alloc, graph, p, q)? != length
+        if reaches(alloc, &graph, p, q)? != there
+            || together != (there && back)
+            || shortest(alloc, &graph, p, q)? != length
         {
-            return Ok(false);
-        }
-    }
-    Ok(true)
-}
-
-/// Whether `components` agrees with the powers of this matrix.
-fn components_agree(alloc: Global, graph: &Graph, once: &Matrix) -> Result<bool, Memory>
-    requires nodes { graph.now.nodes ≡ 3 }
-    requires arcs { HasNodes 3 graph.now.arcs }
-{
-    let reached = squared(&squared(once));
-    let numbers = components(alloc, graph)?;
-    'pairs: for pair in 0..9usize {
-        let (p, q) = (pair / 3, pair % 3);
-        let together = numbers.at(p) == numbers.at(q);
-        if together != (reached[3 * p + q] && reached[3 * q + p]) {
             return Ok(false);
         }
     }

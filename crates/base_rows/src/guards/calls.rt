@@ -1,11 +1,6 @@
 //! The calls, with None where their preconditions fail. Each is in a function of its own, so that what compares their answers
 //! doesn't have to prove anything from their contracts.
 
-ghost use Rattle.std.specs.Prelude.{◌≡◌, length};
-ghost use Rattle.std.specs.List.{slice_index_or};
-ghost use Rattle.label_guards.specs.Guards.{GoesBelow};
-ghost use Rattle.label_guards.specs.Store.{Has};
-
 use aut_base::{Label, Letter, Memory, Names, Numbers, Text};
 use label_guards::{Brought, Guard, GuardList, Guards};
 use std::alloc::Global;
@@ -65,28 +60,11 @@ pub(crate) fn bring(
     if !to.as_slice().iter().all(|place| *place < store.names()) {
         return Ok(None);
     }
-    let (first, again) = bring_twice(alloc, store, other, g, to)?;
-    let alone = store.bring(alloc, other, g, to)?;
-    Ok((first == alone && again == alone).then_some(alone))
-}
-
-/// The guard of the other store, brought first and then again.
-fn bring_twice(
-    alloc: Global,
-    store: &mut Guards,
-    other: &Guards,
-    g: Guard,
-    to: &Numbers,
-) -> Result<(Guard, Guard), Memory>
-    requires has { Has other.now g }
-    requires count { length to.now ≡ other.now.names }
-    requires within { GoesBelow store.old.names (λ k. slice_index_or to.now k 0) other.now g }
-    ensures { store.new.names ≡ store.old.names }
-{
     let mut brought = Brought::new(alloc);
     let first = store.bring_more(&mut brought, other, g, to)?;
     let again = store.bring_more(&mut brought, other, g, to)?;
-    Ok((first, again))
+    let alone = store.bring(alloc, other, g, to)?;
+    Ok((first == alone && again == alone).then_some(alone))
 }
 
 /// Whether the guard holds at the letter.

@@ -1,8 +1,8 @@
 //! Truth functions of a few propositions as guards, compared with their tables.
 
-mod pairs;
-
-use crate::guards::calls::{bring, fix, holds, holds_at, is_false, meeting, not, of_label, pick};
+use crate::guards::calls::{
+    and, bring, classes, fix, holds, holds_at, is_false, meeting, not, of_label, or, pick, same,
+};
 use crate::guards::tables::{
     self, Table, bit, brought, fixed, is_letter, label, letter, names, negated,
 };
@@ -25,29 +25,18 @@ pub(crate) struct Functions {
 impl Functions {
     /// The functions of so many propositions. The first ones get their guards at once.
     pub(crate) fn new(alloc: Global, props: u8, first: u16) -> Result<Functions, Memory> {
-        let mut functions = Functions::without_guards(alloc, props)?;
-        functions.make(alloc, first)?;
-        Ok(functions)
-    }
-
-    fn without_guards(alloc: Global, props: u8) -> Result<Functions, Memory> {
         let props = props.min(4);
-        let names = names(alloc, props)?;
-        Ok(Functions {
+        let mut functions = Functions {
             props,
             store: Guards::new(alloc, u32::from(props))?,
             guards: Vec::new(alloc),
-            names,
-        })
-    }
-
-    /// Makes the guards of the first functions.
-    fn make(&mut self, alloc: Global, first: u16) -> Result<(), Memory> {
+            names: names(alloc, props)?,
+        };
         for table in 0..first {
-            let guard = self.made(alloc, table)?;
-            self.guards.push(guard)?;
+            let guard = functions.made(alloc, table)?;
+            functions.guards.push(guard)?;
         }
-        Ok(())
+        Ok(functions)
     }
 
     /// The guard of a function, from a label. It is `f` where that fails, which the comparisons show.
@@ -65,16 +54,6 @@ impl Functions {
             Some(guard) => Ok(*guard),
             None => self.made(alloc, table),
         }
-    }
-
-    /// Whether there is a guard, and it is that of this function.
-    fn has_table(
-        &mut self,
-        alloc: Global,
-        guard: Option<Guard>,
-        table: Table,
-    ) -> Result<bool, Memory> {
-        Ok(guard == Some(self.guard(alloc, table)?))
     }
 
     /// Whether each call on this function alone is right, but for `bring`.
@@ -151,7 +130,8 @@ impl Functions {
     ) -> Result<bool, Memory> {
         let g = self.guard(alloc, table)?;
         let guard = fix(alloc, &mut self.store, g, u32::from(prop), value)?;
-        self.has_table(alloc, guard, fixed(table, self.props, prop, value))
+        let wanted = self.guard(alloc, fixed(table, self.props, prop, value))?;
+        Ok(guard == Some(wanted))
     }
 
     /// Whether the guard is right after it is brought from a copy of the store, where there are three propositions.
@@ -162,35 +142,49 @@ impl Functions {
     ) -> Result<bool, Memory> {
         let g = self.guard(alloc, table)?;
         let other = self.store.copy(alloc)?;
-        self.is_brought_from(alloc, &other, g, table)
-    }
-
-    fn is_brought_from(
-        &mut self,
-        alloc: Global,
-        other: &Guards,
-        g: Guard,
-        table: Table,
-    ) -> Result<bool, Memory> {
         for to in PLACES {
-            let guard = self.brought_to(alloc, other, g, to)?;
-            if !self.has_table(alloc, guard, brought(table, to))? {
+            let places = numbers(alloc, to)?;
+            let guard = bring(alloc, &mut self.store, &other, g, &places)?;
+            if guard != Some(self.guard(alloc, brought(table, to))?) {
                 return Ok(false);
             }
         }
         Ok(true)
     }
 
-    /// The guard of the other store, brought to these propositions.
-    fn brought_to(
+    /// Whether conjunction, disjunction and comparison of two functions are right.
+    pub(crate) fn are_joined_rightly(
         &mut self,
         alloc: Global,
-        other: &Guards,
-        g: Guard,
-        to: [u16; 3],
-    ) -> Result<Option<Guard>, Memory> {
-        let places = numbers(alloc, to)?;
-        bring(alloc, &mut self.store, other, g, &places)
+        first: Table,
+        second: Table,
+    ) -> Result<bool, Memory> {
+        let g = self.guard(alloc, first)?;
+        let h = self.guard(alloc, second)?;
+        let both = and(&mut self.store, g, h)?;
+        let some = or(&mut self.store, g, h)?;
+        let is_same = same(&self.store, g, h);
+        Ok(
+            both == Some(self.guard(alloc, first & second)?)
+                && some == Some(self.guard(alloc, first | second)?)
+                && is_same == Some(first == second),
+        )
+    }
+
+    /// Whether the classes of two functions are right, and are refused where the limit is one less.
+    pub(crate) fn are_classed_rightly(
+        &mut self,
+        alloc: Global,
+        first: Table,
+        second: Table,
+    ) -> Result<bool, Memory> {
+        let wanted = tables::classes(alloc, first, second, self.props)?;
+        let list = self.list(alloc, &[first, second])?;
+        let most = wanted.len().min(16) as u32;
+        let found = classes(alloc, &mut self.store, &list, most)?;
+        let fewer = classes(alloc, &mut self.store, &list, most.saturating_sub(1))?;
+        let wanted = self.list(alloc, &wanted)?;
+        Ok(found == Some(wanted) && fewer.is_none())
     }
 
     /// The guards of these functions.

@@ -11,15 +11,12 @@ const SAMPLE: u32 = 200;
 
 /// Counts the functions of three propositions, all pairs of them and the sample, and those that are not right.
 pub(crate) fn count_all(rt: &HostRuntime, count: &mut Count) -> Result<(), Fault> {
-    count_all_of_three(rt, count)?;
-    count_samples(rt, count)
-}
-
-/// Counts the functions of three propositions, and all pairs of them.
-fn count_all_of_three(rt: &HostRuntime, count: &mut Count) -> Result<(), Fault> {
     let mut functions = Functions::new(rt.alloc(), 3, 256)?;
     count_functions(rt, &mut functions, count)?;
-    count_all_pairs(rt, &mut functions, count)
+    for first in 0..256u16 {
+        count_pairs(rt, &mut functions, first, count)?;
+    }
+    count_samples(rt, count)
 }
 
 /// Counts the functions of three propositions.
@@ -29,19 +26,9 @@ fn count_functions(
     count: &mut Count,
 ) -> Result<(), Fault> {
     for table in 0..256u16 {
-        let is_right = is_function_right(rt.alloc(), functions, table)?;
+        let is_right = functions.is_right(rt.alloc(), table)?
+            && functions.is_brought_rightly(rt.alloc(), table)?;
         take(rt, count, is_right, table, table)?;
-    }
-    Ok(())
-}
-
-fn count_all_pairs(
-    rt: &HostRuntime,
-    functions: &mut Functions,
-    count: &mut Count,
-) -> Result<(), Fault> {
-    for first in 0..256u16 {
-        count_pairs(rt, functions, first, count)?;
     }
     Ok(())
 }
@@ -65,36 +52,14 @@ fn count_samples(rt: &HostRuntime, count: &mut Count) -> Result<(), Fault> {
     let mut functions = Functions::new(rt.alloc(), 4, 0)?;
     let mut seed = 1u16;
     for _ in 0..SAMPLE {
-        seed = count_sample(rt, &mut functions, count, seed)?;
+        let first = next(seed);
+        let second = next(first);
+        seed = second;
+        let is_right = functions.is_right(rt.alloc(), first)?
+            && is_pair_right(rt.alloc(), &mut functions, first, second)?;
+        take(rt, count, is_right, first, second)?;
     }
     Ok(())
-}
-
-/// Counts the pair that follows this number of the sequence, and answers the last number of the two.
-fn count_sample(
-    rt: &HostRuntime,
-    functions: &mut Functions,
-    count: &mut Count,
-    seed: u16,
-) -> Result<u16, Fault> {
-    let first = next(seed);
-    let second = next(first);
-    let is_right = is_sample_right(rt.alloc(), functions, first, second)?;
-    take(rt, count, is_right, first, second)?;
-    Ok(second)
-}
-
-/// Whether a function and its joins and classes with another are right.
-fn is_sample_right(
-    alloc: Global,
-    functions: &mut Functions,
-    first: Table,
-    second: Table,
-) -> Result<bool, Memory> {
-    if !functions.is_right(alloc, first)? {
-        return Ok(false);
-    }
-    is_pair_right(alloc, functions, first, second)
 }
 
 /// Counts a pair, and prints it where it isn't right.
@@ -115,18 +80,6 @@ fn take(
 /// The next number of a sequence that runs through all of 16 bits.
 fn next(seed: u16) -> u16 {
     seed.wrapping_mul(25173).wrapping_add(13849)
-}
-
-/// Whether a function of three propositions is right, and is so after it is brought.
-fn is_function_right(
-    alloc: Global,
-    functions: &mut Functions,
-    table: Table,
-) -> Result<bool, Memory> {
-    if !functions.is_right(alloc, table)? {
-        return Ok(false);
-    }
-    functions.is_brought_rightly(alloc, table)
 }
 
 /// Whether joins and classes of two functions are right.
