@@ -1,6 +1,7 @@
 pub mod ClassLeasts
 pub mod ClassParts
 pub mod Classes
+pub mod Computed
 pub mod Drafts
 pub mod Guards
 pub mod Leasts

@@ -6,8 +6,9 @@ ghost use Rattle.label_guards.specs.Nodes.{Grows};
 ghost use Rattle.label_guards.specs.Operations.{IsJoin};
 ghost use Rattle.label_guards.specs.Store.{Has, HasPlace, Keeps, places};
 
+use crate::computed::Computed;
 use crate::guard::Guard;
-use crate::guards::{Guards, Operation, Results};
+use crate::guards::{Guards, Operation};
 use aut_base::Memory;
 use std::alloc::Global;
 use std::marker::Model;
@@ -19,13 +20,13 @@ pub struct Draft {
     guards: Guards,
     /// How many nodes stay, and the results that were known of them.
     count: usize,
-    results: Results,
+    results: Computed,
 }
 
 impl Model for Draft {
     ghost use Rattle.std.specs.Prelude.{◌≤◌, length, take};
     ghost use Rattle.label_guards.specs.Drafts.{Drafts};
-    ghost use Rattle.label_guards.specs.Operations.{AreJoins};
+    ghost use Rattle.label_guards.specs.Computed.{AreComputed};
 
     ghost Value = { Drafts };
 
@@ -34,7 +35,7 @@ impl Model for Draft {
       now = s.guards;
     } };
 
-    ghost invariant = { λ s. (s.count ≤ length s.guards.nodes) × AreJoins (record { names = s.guards.names; nodes = take s.count s.guards.nodes }) s.results.entries };
+    ghost invariant = { λ s. (s.count ≤ length s.guards.nodes) × AreComputed (record { names = s.guards.names; nodes = take s.count s.guards.nodes }) s.results };
 }
 
 impl Draft {

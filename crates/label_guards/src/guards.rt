@@ -1,31 +1,28 @@
 //! The store of guards: its operations, and the table of their results.
 
 ghost use Rattle.std.specs.Prelude.{◌≡◌, ◌⊎◌, ◌<◌, ◌≤◌, ℕ, [], true, false, length, take, IfNone, IfOk, IfSome, Some};
-ghost use Rattle.std.specs.Map.{lookup};
 ghost use Rattle.aut_base.specs.declared.limit.TheConstants.{MOST_NAMES};
 ghost use Rattle.label_guards.specs.declared.guard.Guard.{Guard};
 ghost use Rattle.label_guards.specs.Guards.{IsGuardOf};
 ghost use Rattle.label_guards.specs.Nodes.{AreSides, Grows, IsChoice, IsReducedDiagram, IsNodeAt, level};
-ghost use Rattle.label_guards.specs.Operations.{AreJoins, IsJoin, IsShort, key_eq};
+ghost use Rattle.label_guards.specs.Operations.{IsJoin, IsShort};
+ghost use Rattle.label_guards.specs.Computed.{AreComputed};
 ghost use Rattle.label_guards.specs.Store.{Has, HasPlace, places};
 
+use crate::computed::{Computed, Joined};
 use crate::nodes::{Node, Nodes};
 use aut_base::Memory;
-use indexmap::IndexMap;
 use std::alloc::Global;
 use std::marker::Model;
 use std::mem;
 
 /// An operation on two guards.
-#[derive(Clone, Copy, Debug, PartialEq, Eq, Hash)]
+#[derive(Clone, Copy, Debug, PartialEq, Eq)]
 pub(crate) enum Operation {
     And,
     Or,
     Xor,
 }
-
-/// The place of a result, by the operation and the two places that it was asked for.
-pub(crate) type Results = IndexMap<(Operation, usize, usize), usize>;
 
 /// A store of guards.
 #[derive(Drop)]
@@ -38,18 +35,18 @@ pub struct Guards {
 #[derive(Drop)]
 struct Fields {
     nodes: Nodes,
-    results: Results,
+    results: Computed,
 }
 
 impl Model for Guards {
     ghost use Rattle.label_guards.specs.Store.{Store};
-    ghost use Rattle.label_guards.specs.Operations.{AreJoins};
+    ghost use Rattle.label_guards.specs.Computed.{AreComputed};
 
     ghost Value = { Store };
 
     ghost view = { λ s. s.fields.value.nodes };
 
-    ghost invariant = { λ s. AreJoins s.fields.value.nodes s.fields.value.results.entries };
+    ghost invariant = { λ s. AreComputed s.fields.value.nodes s.fields.value.results };
 }
 
 impl Guards {
@@ -63,7 +60,7 @@ impl Guards {
         nodes.reduced();
         let fields = Fields {
             nodes,
-            results: IndexMap::new(alloc),
+            results: Computed::new(alloc),
         };
         Ok(Guards {
             fields: Box::new(alloc, fields)?,
@@ -76,7 +73,7 @@ impl Guards {
     {
         let fields = Fields {
             nodes: self.fields.nodes.copy()?,
-            results: IndexMap::new(alloc),
+            results: Computed::new(alloc),
         };
         Ok(Guards {
             fields: Box::new(alloc, fields)?,
@@ -105,16 +102,16 @@ impl Guards {
     }
 
     /// The results so far. The store remembers none of them any more.
-    pub(crate) fn take_results(&mut self, alloc: Global) -> Results
+    pub(crate) fn take_results(&mut self, alloc: Global) -> Computed
         ensures same { self.new ≡ self.old }
-        ensures results { AreJoins self.old result.entries }
+        ensures results { AreComputed self.old result }
     {
-        mem::replace(&mut self.fields.results, Results::new(alloc))
+        mem::replace(&mut self.fields.results, Computed::new(alloc))
     }
 
     /// Takes back the nodes behind the first ones, and remembers these results of those that stay.
-    pub(crate) fn cut(&mut self, count: usize, results: Results)
-        requires { AreJoins (record self.old { nodes = take count self.old.nodes }) results.entries }
+    pub(crate) fn cut(&mut self, count: usize, results: Computed)
+        requires { AreComputed (record self.old { nodes = take count self.old.nodes }) results }
         ensures { self.new ≡ record self.old { nodes = take count self.old.nodes } }
     {
         let fields: &mut Fields = &mut self.fields;
@@ -180,19 +177,22 @@ impl Guards {
     fn known(&self, operation: Operation, g: usize, h: usize) -> Option<usize>
         ensures { IfSome result (λ place. IsJoin self.now operation g h place) }
     {
-        match self.fields.results.get(&(operation, g, h)) {
-            Some(place) => Some(*place),
-            None => None,
-        }
+        self.fields.results.find(operation, g, h)
     }
 
     /// Puts a result into the table.
-    fn note(&mut self, operation: Operation, g: usize, h: usize, place: usize) -> Result<(), Memory>
-        requires { IsJoin self.old operation g h place }
+    fn note(&mut self, operation: Operation, left: usize, right: usize, place: usize)
+        requires { IsJoin self.old operation left right place }
         ensures { self.new ≡ self.old }
     {
-        self.fields.results.insert((operation, g, h), place)?;
-        Ok(())
+        let places = self.places();
+        let joined = Joined {
+            operation,
+            left,
+            right,
+            place,
+        };
+        self.fields.results.put(joined, places);
     }
 
     /// The place of the operation's result.
@@ -237,7 +237,7 @@ impl Guards {
         let low = self.combine(operation, g_low, h_low)?;
         let high = self.combine(operation, g_high, h_high)?;
         let place = self.choice(prop, low, high)?;
-        self.note(operation, g, h, place)?;
+        self.note(operation, g, h, place);
         Ok(place)
     }
 }

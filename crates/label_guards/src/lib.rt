@@ -4,6 +4,7 @@
 mod boolean;
 mod bring;
 mod classes;
+mod computed;
 mod conjunctions;
 mod cubes;
 mod draft;

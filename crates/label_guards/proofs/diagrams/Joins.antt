@@ -1,13 +1,8 @@
--- The results of operations, as the diagrams are gone through together, and the table that has them.
-use Rattle.std.proofs.Common.{◌≡◌, ◌⊎◌, ℕ, ◌<◌, ◌≤◌, min, ◌∙◌, Bool, true, false, cond, if◌then◌else◌, ◌&&◌, nat_eq, Some, List, sym, refl, ap, subst, inl, inr, zero, suc, rules, arith}
-use denote.Enum.Bare.{sameb, same_true}
-use Rattle.std.proofs.lemmas.Bool.{and_parts}
-use Rattle.std.specs.Map.{lookup}
-use Rattle.std.proofs.lemmas.Option.{same_Some}
-use Rattle.label_guards.specs.contracts.guards.Operation.{the_type}
+-- The results of operations, as the diagrams are gone through together.
+use Rattle.std.proofs.Common.{◌≡◌, ◌⊎◌, ℕ, ◌<◌, ◌≤◌, min, ◌∙◌, Bool, true, false, if◌then◌else◌, sym, refl, ap, inl, inr, zero, suc, arith}
 use Rattle.label_guards.specs.declared.guards.Operation.{Operation}
 use Rattle.label_guards.specs.Nodes.{level, IsReducedDiagram, Grows, IsChoice, AreSides}
-use Rattle.label_guards.specs.Operations.{joins, IsShort, IsJoin, key_eq, AreJoins}
+use Rattle.label_guards.specs.Operations.{joins, IsShort, IsJoin}
 use Rattle.label_guards.specs.Store.{Store, HasPlace, outcome}
 use Rattle.label_guards.proofs.diagrams.Growth.{has_kept, level_kept, outcome_kept, grows_on}
 use Rattle.label_guards.proofs.diagrams.Outcomes.{outcome-false, outcome-true}
@@ -26,32 +21,6 @@ join_kept {old} {new} grows operation g h place is =
       later = omega arith;
       truth = λ on. outcome_kept grows on place is.has ∙ (is.truth on ∙ (λ i. joins operation (sym (outcome_kept grows on g is.left) i) (sym (outcome_kept grows on h is.right) i)));
     }
-
-pub joins_kept : {old new : Store} → Grows old new → (entries : List ((Operation × ℕ × ℕ) × ℕ)) → AreJoins old entries → AreJoins new entries
-joins_kept grows entries are = λ key place h. join_kept grows key.0 key.1 key.2 place (are key place h)
-
-operation_same : (a b : Operation) → sameb the_type a b ≡ true → a ≡ b
-operation_same a b h = same_true the_type (search rules) a b h
-
-pub joins_insert : (s : Store) (entries now : List ((Operation × ℕ × ℕ) × ℕ)) (key : Operation × ℕ × ℕ) (place : ℕ)
-    → ((q : Operation × ℕ × ℕ) → lookup (key_eq q) now ≡ cond (key_eq key q) (Some place) (lookup (key_eq q) entries))
-    → AreJoins s entries → IsJoin s key.0 key.1 key.2 place → AreJoins s now
-joins_insert s entries now key place updates are is = λ q p h. by_cases q p (key_eq key q) refl (sym (updates q) ∙ h)
-  where
-    by_cases : (q : Operation × ℕ × ℕ) (p : ℕ) (b : Bool) → key_eq key q ≡ b → cond (key_eq key q) (Some place) (lookup (key_eq q) entries) ≡ Some p → IsJoin s q.0 q.1 q.2 p
-    by_cases q p false e h = are q p (sym (ap (λ c. cond c (Some place) (lookup (key_eq q) entries)) e) ∙ h)
-    by_cases q p true e h =
-        let same : place ≡ p = same_Some place p (sym (ap (λ c. cond c (Some place) (lookup (key_eq q) entries)) e) ∙ h) in
-        let two = and_parts (sameb the_type key.0 q.0 && nat_eq key.1 q.1) (nat_eq key.2 q.2) e in
-        let one = and_parts (sameb the_type key.0 q.0) (nat_eq key.1 q.1) two.0 in
-        let operations : key.0 ≡ q.0 = operation_same key.0 q.0 one.0 in
-        let lefts : key.1 ≡ q.1 = nat_same key.1 q.1 one.1 in
-        let rights : key.2 ≡ q.2 = nat_same key.2 q.2 two.1 in
-        subst (λ (x : ℕ). IsJoin s q.0 q.1 q.2 x) same
-        (subst (λ (x : ℕ). IsJoin s q.0 q.1 x place) rights (subst (λ (x : ℕ). IsJoin s q.0 x key.2 place) lefts (subst (λ (x : Operation). IsJoin s x key.1 key.2 place) operations is)))
-      where
-        nat_same : (a b : ℕ) → nat_eq a b ≡ true → a ≡ b
-        nat_same a b h = grind arith
 
 -- a result that needs no look
 pub join_short : (s : Store) → IsReducedDiagram s.names s.nodes → (operation : Operation) (g h place : ℕ) → HasPlace s g → HasPlace s h → IsShort operation g h place → IsJoin s operation g h place

@@ -1,5 +1,5 @@
 use Rattle.std.proofs.Common.{◌≡◌, ◌∙◌, min, subst, sym, arith}
-use Rattle.label_guards.specs.Nodes.{level}
+use Rattle.label_guards.specs.Nodes.{Grows, level}
 use Rattle.label_guards.specs.Operations.{IsJoin}
 use Rattle.label_guards.specs.Store.{Store}
 use Rattle.label_guards.proofs.diagrams.Joins.{join_short, side_later, join_step}
@@ -36,3 +36,7 @@ combine_nodes-returns-clause-joined t c =
     join_step c.combine.ensures.grows c.combine-2.ensures.grows c.choice.ensures.grows c.args.operation _ _ _ _ _ _ _ _ _ _ c.requires.left c.requires.right least c.sides-g_low.ensures
     c.sides-h_low.ensures c.in_ok-low.ensures.joined c.in_ok-high.ensures.joined c.in_ok-place.ensures.made in
     subst (λ (s : Store). IsJoin s c.args.operation c.args.g c.args.h c.in_ok-place.place) (sym c.note.ensures) joined
+
+pub combine_nodes-returns-clause-grows : goal.combine_nodes-returns-clause-grows
+combine_nodes-returns-clause-grows t c = subst (Grows c.args.self.now) (sym c.note.ensures)
+    (grows_on (grows_on c.combine.ensures.grows c.combine-2.ensures.grows) c.choice.ensures.grows)

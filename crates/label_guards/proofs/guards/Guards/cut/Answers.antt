@@ -1,5 +1,5 @@
 use Rattle.std.proofs.Common.{◌∙◌, ap, subst, sym}
-use Rattle.label_guards.specs.Operations.{AreJoins}
+use Rattle.label_guards.specs.Computed.{AreComputed}
 use Rattle.label_guards.specs.Store.{Store}
 use Rattle.label_guards.specs.declared.guards.Fields.{Fields}
 use Rattle.label_guards.proofs.diagrams.Taken.{front_of}
@@ -7,5 +7,5 @@ use Rattle.label_guards.proofs.guards.Guards.cut.Goals as goal
 
 pub invariant_of-self : goal.invariant_of-self
 invariant_of-self c =
-    subst (λ (s : Store). AreJoins s c.args.results.entries)
+    subst (λ (s : Store). AreComputed s c.args.results)
     (sym (c.cut.ensures ∙ (ap (λ (f : Fields). front_of c.args.count f.nodes) c.deref_mut-fields.ensures.value ∙ ap (front_of c.args.count) c.self.view_is))) c.requires

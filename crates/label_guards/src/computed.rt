@@ -1,0 +1,117 @@
+//! The results of operations, in a table that forgets (Brace, Rudell and Bryant 1990, the computed table of a package of diagrams).
+
+ghost use Rattle.std.specs.Prelude.{◌≡◌, IfSome, []};
+ghost use Rattle.label_guards.specs.Operations.{IsJoin};
+ghost use Rattle.label_guards.specs.Computed.{AreComputed, IsComputed};
+ghost use Rattle.label_guards.specs.Store.{Store};
+
+use crate::guards::Operation;
+use std::alloc::Global;
+use std::marker::Model;
+
+/// The place of an operation's result, with the two places that it was asked for.
+#[derive(Clone, Copy)]
+pub(crate) struct Joined {
+    pub(crate) operation: Operation,
+    pub(crate) left: usize,
+    pub(crate) right: usize,
+    pub(crate) place: usize,
+}
+
+/// What stands where nothing was put yet: it is right in each store.
+const FILLER: Joined = Joined {
+    operation: Operation::And,
+    left: 0,
+    right: 0,
+    place: 0,
+};
+
+/// How many results a table first has room for.
+const FEWEST: usize = 16;
+
+/// A table of results. Each has one place, by what was asked for, and takes it from the one that stands there. So a look-up is one
+/// comparison, and a table has at most twice as many places as its store, or a few.
+#[derive(Drop)]
+pub(crate) struct Computed {
+    table: Vec<Joined>,
+    /// How many were put since the table has its room.
+    count: usize,
+}
+
+impl Model for Computed {
+    ghost use Rattle.std.specs.Prelude.{List};
+    ghost use Rattle.label_guards.specs.declared.computed.Joined.{Joined};
+
+    ghost Value = { List Joined };
+
+    ghost view = { λ s. s.table.items };
+}
+
+impl Computed {
+    /// No result yet. It takes no memory.
+    pub(crate) fn new(alloc: Global) -> Computed
+        ensures { result ≡ [] }
+    {
+        Computed {
+            table: Vec::new(alloc),
+            count: 0,
+        }
+    }
+
+    /// The result, if it is there.
+    #[inline]
+    pub(crate) fn find(&self, operation: Operation, left: usize, right: usize) -> Option<usize>
+        ensures { IfSome result (λ place. (s : Store) → AreComputed s self.now → IsJoin s operation left right place) }
+    {
+        let joined = self.table.get(self.index(operation, left, right))?;
+        if joined.operation == operation && joined.left == left && joined.right == right {
+            return Some(joined.place);
+        }
+        None
+    }
+
+    /// Puts a result in. While it has less room than the store has places it is to have more, once that is used up. Where memory for it
+    /// is wanting the table stays as it is: it only remembers less.
+    pub(crate) fn put(&mut self, joined: Joined, places: usize)
+        ensures { (s : Store) → AreComputed s self.old → IsComputed s joined → AreComputed s self.new }
+    {
+        self.make_room(places);
+        let index = self.index(joined.operation, joined.left, joined.right);
+        if index < self.table.len() {
+            self.table[index] = joined;
+        }
+    }
+
+    /// Counts one more, and makes room for twice as many where so many were put already.
+    fn make_room(&mut self, places: usize)
+        ensures { (s : Store) → AreComputed s self.old → AreComputed s self.new }
+    {
+        let room = self.table.len();
+        if self.count < room {
+            self.count += 1;
+            return;
+        }
+        self.count = 1;
+        if room < places {
+            let _ = self
+                .table
+                .resize(room.saturating_mul(2).max(FEWEST), FILLER);
+        }
+    }
+
+    /// Where a result stands in the table. Any place would do: of results that have the same place the table knows the last.
+    #[inline]
+    fn index(&self, operation: Operation, left: usize, right: usize) -> usize {
+        let kind = match operation {
+            Operation::And => 0,
+            Operation::Or => 1,
+            Operation::Xor => 2,
+        };
+        let mixed = (left as u64)
+            .wrapping_mul(0x9E37_79B9_7F4A_7C15)
+            .wrapping_add(right as u64)
+            .wrapping_mul(0xC2B2_AE3D_27D4_EB4F)
+            .wrapping_add(kind << 32);
+        (mixed >> 32) as usize & self.table.len().wrapping_sub(1)
+    }
+}
