@@ -3,5 +3,6 @@ pub mod AtHand
 pub mod Chains
 pub mod Expecting
 pub mod Faults
+pub mod HeldEdges
 pub mod Parsing
 pub mod RuleReads

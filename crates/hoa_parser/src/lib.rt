@@ -5,6 +5,7 @@
 //! `specs/Reads` says what `read_raw` answers in these terms. `specs/inner` speaks of the inner functions only.
 #![tactic(auto)]
 
+mod edges;
 mod fault;
 mod header;
 mod laws;
@@ -12,10 +13,11 @@ mod parse;
 mod raw;
 mod read;
 
+pub use edges::RawEdges;
 pub use fault::ReadFault;
 pub use laws::{
     bad_is_hopeless, can_be_written_down, grammar_examples, one_raw, one_standing, settled_stays,
     some_standing, whole_goes_no_further, written_down_is_read,
 };
-pub use raw::{Item, Items, Raw, RawEdge, RawEdges, RawLabel, RawLabels, RawState, RawStates};
+pub use raw::{Item, Items, Raw, RawEdge, RawLabel, RawLabels, RawState, RawStates};
 pub use read::{Front, read_raw};

@@ -5,6 +5,7 @@ ghost use Rattle.std.specs.Option.{option_copied};
 ghost use Rattle.hoa_parser.specs.Naming.{name_of};
 ghost use Rattle.hoa_parser.specs.Raw.{raw_list, raw_tree, written};
 
+use crate::edges::RawEdges;
 use aut_base::{FewNumbers, Formula, Memory, Seq, Text, Words};
 use hoa_lexer::Name;
 use std::alloc::Global;
@@ -109,9 +110,6 @@ pub struct RawEdge {
     pub to: FewNumbers,
     pub marks: FewNumbers,
 }
-
-/// The edges of a state, in order.
-pub type RawEdges = Seq<RawEdge>;
 
 /// A state of the body with its edges.
 #[derive(Debug, Drop)]

@@ -258,18 +258,8 @@ fn edges<I: Inputs>(
             _ => return Ok(edges),
         }
         let edge = edge(alloc, lexer, inputs, ahead)?;
-        push_edge(alloc, &mut edges, edge)?;
+        edges.push(edge)?;
     }
-}
-
-/// Adds an edge. The first takes room for itself alone: an edge is large, and in a great automaton most states have one.
-fn push_edge(alloc: Global, edges: &mut RawEdges, edge: RawEdge) -> Result<(), Memory>
-    ensures { OnOk result (edges.new ≡ edges.old ++ edge ∷ []) }
-{
-    if edges.is_empty() {
-        *edges = RawEdges::from_vec(Vec::with_capacity(alloc, 1)?);
-    }
-    edges.push(edge)
 }
 
 // Why so: 'Plain edges and states are read from the bytes at hand' in docs/DECISIONS.md.

@@ -1,0 +1,96 @@
+//! The edges of a state as they are written.
+
+ghost use Rattle.std.specs.Prelude.{◌≡◌, ◌∷◌, ◌++◌, [], length, IfOk, OnOk};
+ghost use Rattle.hoa_parser.specs.inner.HeldEdges.{held_edges};
+
+use crate::RawEdge;
+use aut_base::{Memory, Seq};
+use std::alloc::Global;
+use std::marker::Model;
+use std::{mem, slice};
+
+/// The edges of a state, in order. One alone lies in the state itself: in a great automaton most states have one. Contracts see the
+/// list.
+#[derive(Debug, Drop)]
+pub struct RawEdges {
+    alloc: Global,
+    held: HeldEdges,
+}
+
+/// How they are stored.
+#[derive(Debug, Drop)]
+pub(crate) enum HeldEdges {
+    None,
+    One(RawEdge),
+    More(Seq<RawEdge>),
+}
+
+impl Model for RawEdges {
+    ghost use Rattle.std.specs.Coded.{codes};
+    ghost use Rattle.std.specs.Prelude.{List};
+    ghost use Rattle.hoa_parser.specs.contracts.raw.RawLabel as label;
+    ghost use Rattle.hoa_parser.specs.declared.raw.RawEdge.{RawEdge};
+    ghost use Rattle.hoa_parser.specs.inner.HeldEdges.{held_edges};
+
+    ghost Value = { List RawEdge };
+
+    ghost coded = { Prim.hlevel (codes, label.the_row.coded) };
+
+    ghost view = { λ edges. held_edges edges.held };
+}
+
+impl RawEdges {
+    /// No edge yet.
+    pub fn new(alloc: Global) -> RawEdges
+        ensures { result ≡ [] }
+    {
+        RawEdges {
+            alloc,
+            held: HeldEdges::None,
+        }
+    }
+
+    /// The edges as a slice.
+    #[inline]
+    pub fn as_slice(&self) -> &[RawEdge]
+        ensures { result.now ≡ self.now }
+    {
+        match &self.held {
+            HeldEdges::None => &[],
+            HeldEdges::One(edge) => slice::from_ref(edge),
+            HeldEdges::More(edges) => edges.as_slice(),
+        }
+    }
+
+    /// The number of edges.
+    #[inline]
+    pub fn len(&self) -> usize
+        ensures { result ≡ length self.now }
+    {
+        self.as_slice().len()
+    }
+
+    /// Adds an edge at the end. Refused for want of memory, it drops that edge and may drop others.
+    pub fn push(&mut self, edge: RawEdge) -> Result<(), Memory>
+        ensures { OnOk result (self.new ≡ self.old ++ edge ∷ []) }
+    {
+        if let HeldEdges::More(edges) = &mut self.held {
+            return edges.push(edge);
+        }
+        self.held = match mem::replace(&mut self.held, HeldEdges::None) {
+            HeldEdges::One(first) => HeldEdges::More(pair(self.alloc, first, edge)?),
+            _ => HeldEdges::One(edge),
+        };
+        Ok(())
+    }
+}
+
+/// The list of these two.
+fn pair(alloc: Global, first: RawEdge, second: RawEdge) -> Result<Seq<RawEdge>, Memory>
+    ensures { IfOk result (λ edges. edges ≡ first ∷ second ∷ []) }
+{
+    let mut edges = Seq::from_vec(Vec::with_capacity(alloc, 4)?);
+    edges.push(first)?;
+    edges.push(second)?;
+    Ok(edges)
+}
