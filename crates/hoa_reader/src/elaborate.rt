@@ -18,6 +18,7 @@ mod examined;
 mod frame;
 mod header;
 mod implicit;
+mod kept;
 mod labels;
 mod leaves;
 mod limits;

@@ -1,6 +1,6 @@
 -- Conjunctions of literals: their labels, and where these are true.
-use Rattle.std.proofs.Common.{◌≡◌, ◌⊎◌, inl, inr, ◌∙◌, ◌^◌, ◌<◌, ◌≤◌, ◌&&◌, ◌||◌, ◌++◌, ◌∷◌, [], ℕ, zero, suc, Bool, true, false, not, if◌then◌else◌, List, map, ap, arith, refl, subst, sym}
-use Rattle.std.proofs.lemmas.Bool.{cases_lt, false≢true}
+use Rattle.std.proofs.Common.{◌≡◌, inl, inr, ◌∙◌, ◌^◌, ◌<◌, ◌≤◌, ◌&&◌, ◌||◌, ◌++◌, ◌∷◌, [], ℕ, zero, suc, Bool, true, false, not, if◌then◌else◌, List, ap, arith, refl, subst, sym}
+use Rattle.std.proofs.lemmas.Bool.{cases_lt}
 use Rattle.std.proofs.lemmas.List.{append-nil, map-append}
 use Rattle.std.specs.Bool.{beq}
 use Rattle.aut_base.specs.Label.{AllBelow, EachBelow, LabelTree, LabelTrees, all_true, trees, truth}

@@ -10,10 +10,12 @@ use Rattle.aut_base.proofs.trees.LabelSizes.{label_size-at}
 use Rattle.aut_base.specs.CanonicalLabel.{canonical_label}
 use Rattle.aut_base.specs.Label.{AllBelow, EachBelow, LabelTree, LabelTrees, all_true, label_size, labels_size, some_true, trees, truth}
 use Rattle.aut_base.specs.Valuation.{holds_in, truth_on}
-use Rattle.hoa_parser.proofs.grammar.RawTrees.{raw_tree-And, raw_tree-Or}
-use Rattle.hoa_parser.specs.Raw.{RawTree, raw_list, raw_parts, raw_tree, raw_trees}
+use Rattle.hoa_parser.proofs.grammar.RawTrees.{raw_tree-And, raw_tree-Cube, raw_tree-Or}
+use Rattle.hoa_parser.specs.Raw.{RawTree, all_literals, raw_all, raw_list, raw_parts, raw_tree, raw_trees}
+use Rattle.hoa_parser.specs.declared.raw.RawLabel.{RawLabel}
 use Rattle.hoa_parser.specs.declared.raw.RawLabel.TheVariants as raw_label
 use Rattle.hoa_parser.specs.declared.raw.RawLabels.{RawLabels}
+use Rattle.hoa_reader.proofs.labels.CubeLabels.{cube_alike}
 use Rattle.hoa_reader.specs.Described.{Meaning, each_expanded, expanded}
 use Rattle.hoa_reader.specs.declared.elaborate.edges.Shared.{Shared}
 use Rattle.hoa_reader.specs.inner.Growing.{meanings_by}
@@ -33,6 +35,10 @@ guard_same s says also g same is = record { has = is.has; truth = λ on. is.trut
 -- the guard of a label that is known to be this one
 pub guard_of_label : (s : Store) (t u : LabelTree) (g : Guard) → t ≡ u → IsGuardOf s (λ on. truth on u) g → IsGuardOf s (λ on. truth on t) g
 guard_of_label s t u g e is = guard_same s (λ on. truth on u) (λ on. truth on t) g (λ on. ap (truth on) (sym e)) is
+
+-- a conjunction of literals that is given by its bits has no alias
+pub cube_written : (x : Shared) (label : RawLabel) (n v : ℕ) → label ≡ raw_label.Cube n v → replaced x (raw_tree label) ≡ expanded [] (raw_all (all_literals n v))
+cube_written x label n v is = ap (λ l. replaced x (raw_tree l)) is ∙ (ap (replaced x) (raw_tree-Cube n v) ∙ cube_alike (meanings_by x.defs.items) n v)
 
 -- a guard with the truth of a label has its canonical form
 pub canonical_guard : (s : Store) (t : LabelTree) (g : Guard) → IsGuardOf s (λ on. truth on t) g → label_in s g ≡ canonical_label s.names t

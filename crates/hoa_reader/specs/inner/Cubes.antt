@@ -1,5 +1,5 @@
 -- What conjunctions of literals tell, and their parts.
-use Rattle.std.specs.Prelude.{◌≡◌, ◌≤◌, ℕ, List, [], ◌∷◌, Bool, true, map}
+use Rattle.std.specs.Prelude.{◌≡◌, ◌≤◌, ℕ, List, [], ◌∷◌, true, map}
 use Rattle.aut_base.specs.Label.{LabelTree, label_list, label_tree}
 use Rattle.hoa_parser.specs.Raw.{RawTree, raw_trees}
 use Rattle.hoa_reader.specs.Described.{Meaning, expanded}

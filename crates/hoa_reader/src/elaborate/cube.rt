@@ -5,6 +5,7 @@ ghost use Rattle.aut_base.specs.Label.{AllBelow, label_tree, truth};
 ghost use Rattle.hoa_parser.specs.Raw.{RawTree, all_literals, has_bit, maybe_literal, raw_all, raw_literal};
 ghost use Rattle.hoa_reader.specs.Described.{Meaning, conjunction, expanded};
 ghost use Rattle.hoa_reader.specs.inner.Cubes.{Tells, TellsAll, each_of, parts_of};
+ghost use Rattle.hoa_reader.specs.inner.Kept.{cube_tree};
 ghost use Rattle.label_guards.specs.Guards.{IsGuardOf};
 ghost use Rattle.label_guards.specs.Store.{Keeps};
 
@@ -67,9 +68,9 @@ fn joined_shape(all: Shape, count: u32) -> Shape
 
 /// Its guard.
 pub(crate) fn cube_guard(guards: &mut Guards, names: u32, values: u32) -> Result<Guard, Memory>
-    requires { AllBelow guards.old.names (expanded [] (raw_all (all_literals names values))) }
+    requires { AllBelow guards.old.names (cube_tree names values) }
     ensures keeps { Keeps guards.old guards.new }
-    ensures guard { IfOk result (IsGuardOf guards.new (λ on. truth on (expanded [] (raw_all (all_literals names values))))) }
+    ensures guard { IfOk result (IsGuardOf guards.new (λ on. truth on (cube_tree names values))) }
 {
     guards.of_cube(names, values)
 }

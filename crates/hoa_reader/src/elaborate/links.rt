@@ -3,31 +3,53 @@
 ghost use Rattle.std.specs.Prelude.{◌≡◌, ◌<◌, ◌==◌, ◌++◌, All, true, flat_map, map, IfOk, OnOk};
 ghost use Rattle.std.specs.List.{AllByRecursion, list_all};
 ghost use Rattle.aut_base.specs.CanonicalLabel.{canonical_label};
-ghost use Rattle.aut_base.specs.Label.{AllBelow};
+ghost use Rattle.aut_base.specs.Label.{AllBelow, truth};
 ghost use Rattle.aut_core.specs.SymbolicAutomata.{edge_of};
 ghost use Rattle.aut_core.specs.Links.{StandFor};
-ghost use Rattle.hoa_parser.specs.Raw.{WrittenState, written_edge, written_state};
+ghost use Rattle.hoa_parser.specs.Raw.{WrittenState, raw_tree, written_edge, written_state};
 ghost use Rattle.hoa_reader.specs.Validity.{all_differ, marks_below, numbers_below};
+ghost use Rattle.hoa_reader.specs.inner.Kept.{AreKept};
 ghost use Rattle.hoa_reader.specs.inner.PickedOut.{numbers};
 ghost use Rattle.hoa_reader.specs.inner.Rising.{rises_from};
-ghost use Rattle.hoa_reader.specs.inner.TreeEdges.{HasKnown, HasLabelsBelow, edges_for, label_for, settled, tree_edge_for, tree_edges_for};
-ghost use Rattle.label_guards.specs.Letters.{AreLastPlaces};
+ghost use Rattle.hoa_reader.specs.inner.TreeEdges.{HasKnown, HasLabelsBelow, edges_for, label_for, replaced, settled, tree_edge_for, tree_edges_for};
+ghost use Rattle.label_guards.specs.Guards.{IsGuardOf};
 ghost use Rattle.label_guards.specs.Store.{Has, Keeps, label_in};
 
 use crate::elaborate::edges::{Shared, label_written, marks_of, places_of};
+use crate::elaborate::kept::Kept;
 use crate::elaborate::starts::only_state;
 use crate::elaborate::written::guard_written;
 use aut_base::Memory;
 use aut_core::{Link, Links};
-use hoa_parser::{RawEdge, RawState};
-use label_guards::{Guard, Guards, Letters};
+use hoa_parser::{RawEdge, RawLabel, RawState};
+use label_guards::{Guard, Guards};
 use std::alloc::Global;
+
+/// The guard of a label. A conjunction of literals is looked up first.
+fn kept_guard<'a>(
+    guards: &mut Guards,
+    kept: &mut Kept,
+    shared: &Shared<'a>,
+    label: &'a RawLabel,
+) -> Result<Guard, Memory>
+    requires known { HasKnown shared.now }
+    requires below { AllBelow guards.old.names (replaced shared.now (raw_tree label.now)) }
+    requires kept { AreKept guards.old kept.old }
+    ensures keeps { Keeps guards.old guards.new }
+    ensures kept { AreKept guards.new kept.new }
+    ensures guard { IfOk result (IsGuardOf guards.new (λ on. truth on (replaced shared.now (raw_tree label.now)))) }
+{
+    match label {
+        RawLabel::Cube { names, values } => kept.cubes.guard(guards, *names, *values),
+        _ => guard_written(guards, shared, label),
+    }
+}
 
 /// The guard of the edge that stands at this place in its state. Where no label is written it is made from the letter's number,
 /// beside that of the letter before.
 fn guard_of<'a>(
     guards: &mut Guards,
-    letters: &mut Letters,
+    kept: &mut Kept,
     shared: &Shared<'a>,
     state: &'a RawState,
     edge: &'a RawEdge,
@@ -36,15 +58,15 @@ fn guard_of<'a>(
     requires known { HasKnown shared.now }
     requires names { guards.old.names ≡ shared.now.names }
     requires below { AllBelow guards.old.names (label_for shared.now (written_state state.now) letter (written_edge edge.now)) }
-    requires letters { AreLastPlaces guards.old letters.old }
+    requires kept { AreKept guards.old kept.old }
     ensures keeps { Keeps guards.old guards.new }
-    ensures letters { AreLastPlaces guards.new letters.new }
+    ensures kept { AreKept guards.new kept.new }
     ensures has { IfOk result (Has guards.new) }
     ensures label { IfOk result (λ new. label_in guards.new new ≡ canonical_label guards.old.names (label_for shared.now (written_state state.now) letter (written_edge edge.now))) }
 {
     match label_written(state, edge) {
-        Some(label) => guard_written(guards, shared, label),
-        None => letters.guard(guards, letter),
+        Some(label) => kept_guard(guards, kept, shared, label),
+        None => kept.letters.guard(guards, letter),
     }
 }
 
@@ -52,7 +74,7 @@ fn guard_of<'a>(
 fn link_of<'a>(
     alloc: Global,
     guards: &mut Guards,
-    letters: &mut Letters,
+    kept: &mut Kept,
     shared: &Shared<'a>,
     state: &'a RawState,
     edge: &'a RawEdge,
@@ -63,15 +85,15 @@ fn link_of<'a>(
     requires below { AllBelow guards.old.names (label_for shared.now (written_state state.now) letter (written_edge edge.now)) }
     requires own { numbers_below shared.now.sets state.now.marks ≡ true }
     requires marks { numbers_below shared.now.sets edge.now.marks ≡ true }
-    requires letters { AreLastPlaces guards.old letters.old }
+    requires kept { AreKept guards.old kept.old }
     ensures keeps { Keeps guards.old guards.new }
-    ensures letters { AreLastPlaces guards.new letters.new }
+    ensures kept { AreKept guards.new kept.new }
     ensures has { IfOk result (λ new. Has guards.new new.guard) }
     ensures edge { IfOk result (λ new. edge_of guards.new new ≡ settled guards.old.names (tree_edge_for shared.now (written_state state.now) letter (written_edge edge.now))) }
 {
     Ok(Link {
         from: state.number,
-        guard: guard_of(guards, letters, shared, state, edge, letter)?,
+        guard: guard_of(guards, kept, shared, state, edge, letter)?,
         to: only_state(&edge.to),
         marks: marks_of(alloc, shared.sets, state, edge)?,
     })
@@ -81,7 +103,7 @@ fn link_of<'a>(
 fn add_links<'a>(
     alloc: Global,
     guards: &mut Guards,
-    letters: &mut Letters,
+    kept: &mut Kept,
     links: &mut Links,
     shared: &Shared<'a>,
     state: &'a RawState,
@@ -91,14 +113,14 @@ fn add_links<'a>(
     requires marks { marks_below shared.now.sets (written_state state.now) ≡ true }
     requires below { HasLabelsBelow shared.now guards.old.names (written_state state.now) }
     requires has { All (λ l. Has guards.old l.guard) links.old }
-    requires letters { AreLastPlaces guards.old letters.old }
+    requires kept { AreKept guards.old kept.old }
     ensures names { guards.new.names ≡ guards.old.names }
-    ensures letters { AreLastPlaces guards.new letters.new }
+    ensures kept { AreKept guards.new kept.new }
     ensures stand { OnOk result (StandFor guards.new links.new (map (edge_of guards.old) links.old ++ map (settled guards.old.names) (tree_edges_for shared.now (written_state state.now)))) }
 {
     let mut letter = 0;
     'written: for edge in state.edges.as_slice() {
-        let new = link_of(alloc, guards, letters, shared, state, edge, letter)?;
+        let new = link_of(alloc, guards, kept, shared, state, edge, letter)?;
         links.push(new)?;
         letter += 1;
     }
@@ -120,9 +142,9 @@ fn links_in_turn<'a>(
     ensures stand { IfOk result (λ links. StandFor guards.new links (map (settled guards.old.names) (flat_map (tree_edges_for shared.now) (map written_state states.now)))) }
 {
     let mut links = Links::from_vec(Vec::with_capacity(alloc, shared.edges)?);
-    let mut letters = Letters::new(alloc);
+    let mut kept = Kept::new(alloc);
     'states: for state in states {
-        add_links(alloc, guards, &mut letters, &mut links, shared, state)?;
+        add_links(alloc, guards, &mut kept, &mut links, shared, state)?;
     }
     Ok(links)
 }
@@ -170,19 +192,12 @@ fn links_by_places<'a>(
 {
     let places = places_of(alloc, states, count)?;
     let mut links = Links::from_vec(Vec::with_capacity(alloc, shared.edges)?);
-    let mut letters = Letters::new(alloc);
+    let mut kept = Kept::new(alloc);
     'numbers: for number in 0..places.len() {
         let Some(place) = places[number] else {
             continue;
         };
-        add_links(
-            alloc,
-            guards,
-            &mut letters,
-            &mut links,
-            shared,
-            &states[place],
-        )?;
+        add_links(alloc, guards, &mut kept, &mut links, shared, &states[place])?;
     }
     Ok(links)
 }

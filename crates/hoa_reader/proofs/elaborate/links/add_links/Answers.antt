@@ -40,7 +40,7 @@ written-preserved c =
     let next = next_edge x state c.as_slice-edge-items.result.now c.written.edge-index edge c.as_slice-edge-items.ensures c.written-test.true c.edge-item.is in
     let all : List LabelledEdge = map (edge_of c.args.guards.now) c.args.links.now ++ map (settled n) (tree_edges_for x (written_state state)) in
     record {
-      letters = c.link_of.ensures.letters;
+      kept = c.link_of.ensures.kept;
       letter = ap (λ i. i + 1) here.letter;
       names = c.link_of.ensures.keeps.names ∙ here.names;
       below = (subst (AllByRecursion (λ (e : LabelledEdge). AllBelow n e.label)) next here.below).1;

@@ -17,7 +17,7 @@ pub numbers-init : goal.numbers-init
 numbers-init c =
     let none : c.from_vec-links.result ≡ [] = c.from_vec-links.ensures ∙ c.in_ok-with_capacity.ensures.items in
     record {
-      letters = c.new-letters.ensures c.args.guards.now;
+      kept = c.new-kept.ensures c.args.guards.now;
       names = refl;
       stand = subst (λ (ls : List Link). StandFor c.args.guards.now ls []) (sym none) (record { has = λ k d l. absurd (omega (arith, l)); edges = refl });
     }
@@ -35,7 +35,7 @@ numbers-preserved-in_default c =
     let same : edges_for x ws (n + 1) ≡ edges_for x ws n = edges_more x ws n
     ∙ (ap (λ (ss : List WrittenState). edges_for x ws n ++ flat_map (tree_edges_for x) ss) empty ∙ append-nil (edges_for x ws n)) in
     record {
-      letters = c.numbers.invariant.letters;
+      kept = c.numbers.invariant.kept;
       names = c.numbers.invariant.names;
       stand = subst (StandFor c.numbers.guards c.numbers.links) (ap (map (settled c.args.guards.now.names)) (sym same)) c.numbers.invariant.stand;
     }
@@ -102,7 +102,7 @@ numbers-preserved c =
     ∙ (ap (λ k. map (settled m) (edges_for x ws n) ++ map (settled k) (tree_edges_for x (written_state c.index-states-place.result)))
     c.numbers.invariant.names ∙ sym more) in
     record {
-      letters = c.add_links.ensures.letters;
+      kept = c.add_links.ensures.kept;
       names = c.add_links.ensures.names
           ∙ c.numbers.invariant.names;
       stand = subst (StandFor c.add_links.new.guards c.add_links.new.links) all c.in_ok-add_links.ensures.stand;

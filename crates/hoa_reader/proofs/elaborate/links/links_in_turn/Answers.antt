@@ -1,4 +1,4 @@
-use Rattle.std.proofs.Common.{◌≡◌, ◌++◌, ◌∷◌, [], ◌+◌, ◌∙◌, All, List, Some, ap, arith, get_or, map, refl, slice_get, subst, sym, take}
+use Rattle.std.proofs.Common.{◌≡◌, ◌++◌, ◌∷◌, [], ◌+◌, ◌∙◌, List, Some, ap, arith, map, refl, slice_get, subst, sym, take}
 use Rattle.std.proofs.lemmas.Grind.{flat_map-append}
 use Rattle.std.proofs.lemmas.List.{append-nil, map-append}
 use Rattle.std.proofs.lemmas.List.Folds.{list_all-map}
@@ -11,7 +11,7 @@ use Rattle.aut_base.specs.Automaton.{LabelledEdge}
 use Rattle.aut_core.specs.SymbolicAutomata.{edge_of}
 use Rattle.aut_core.specs.Links.{StandFor}
 use Rattle.aut_core.specs.declared.link.Link.{Link}
-use Rattle.hoa_parser.specs.Raw.{WrittenState, written_state}
+use Rattle.hoa_parser.specs.Raw.{written_state}
 use Rattle.hoa_parser.specs.declared.raw.RawState.{RawState}
 use Rattle.hoa_reader.specs.Validity.{marks_below}
 use Rattle.hoa_reader.specs.inner.TreeEdges.{HasLabelsBelow, settled, tree_edges_for}
@@ -21,7 +21,7 @@ pub states-init : goal.states-init
 states-init c =
     let none : c.from_vec-links.result ≡ [] = c.from_vec-links.ensures ∙ c.in_ok-with_capacity.ensures.items in
     record {
-      letters = c.new-letters.ensures c.args.guards.now;
+      kept = c.new-kept.ensures c.args.guards.now;
       names = refl;
       stand = subst (λ (ls : List Link). StandFor c.args.guards.now ls []) (sym none) (record { has = λ k d l. absurd (omega (arith, l)); edges = refl });
     }
@@ -70,7 +70,7 @@ states-preserved c =
     ap (λ es. es ++ map (settled old) here) c.states.invariant.stand.edges
     ∙ (ap (λ k. map (settled m) (E (take i states)) ++ map (settled k) here) c.states.invariant.names ∙ sym more) in
     record {
-      letters = c.add_links.ensures.letters;
+      kept = c.add_links.ensures.kept;
       names = c.add_links.ensures.names ∙ c.states.invariant.names;
       stand = subst (StandFor c.add_links.new.guards c.add_links.new.links) all c.in_ok-add_links.ensures.stand;
     }

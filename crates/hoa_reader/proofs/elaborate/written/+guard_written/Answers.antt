@@ -1,20 +1,19 @@
-use Rattle.std.proofs.Common.{◌≡◌, ◌∙◌, ◌+◌, ◌-◌, ◌&&◌, ◌||◌, ℕ, List, Option, Some, [], map, false, ap, arith, subst, sym}
+use Rattle.std.proofs.Common.{◌≡◌, ◌∙◌, ◌+◌, ◌-◌, ◌&&◌, ◌||◌, ℕ, List, Option, Some, map, false, ap, arith, subst, sym}
 use Rattle.std.proofs.lemmas.Option.{get_or_from_slice_get}
 use Rattle.std.proofs.lemmas.Result.{IfOk-weaker}
 use Rattle.std.specs.Global.{Global}
 use Rattle.std.specs.declared.boxed.Box.{Box}
 use Rattle.aut_base.specs.Label.{AllBelow, EachBelow, LabelTree, all_true, label_size, labels_size, some_true, trees, truth}
 use Rattle.aut_core.proofs.Growth.{keeps_none, keeps_on}
-use Rattle.hoa_parser.proofs.grammar.RawTrees.{raw_tree-Alias, raw_tree-Cube}
-use Rattle.hoa_parser.specs.Raw.{all_literals, raw_all, raw_parts, raw_tree}
+use Rattle.hoa_parser.proofs.grammar.RawTrees.{raw_tree-Alias}
+use Rattle.hoa_parser.specs.Raw.{raw_parts, raw_tree}
 use Rattle.hoa_parser.specs.declared.raw.RawLabel.{RawLabel}
 use Rattle.hoa_parser.specs.declared.raw.RawLabel.TheVariants as raw_label
 use Rattle.hoa_parser.specs.declared.raw.RawLabels.{RawLabels}
-use Rattle.hoa_reader.proofs.labels.CubeLabels.{cube_alike}
 use Rattle.hoa_reader.proofs.labels.ExpandedLabels.{bit_small}
 use Rattle.hoa_reader.proofs.labels.Meanings.{meaning_missing}
-use Rattle.hoa_reader.proofs.labels.WrittenGuards.{all_more, all_none, and_replaced, guard_beside, guard_of_label, guard_same, or_replaced, part_is_below, part_is_smaller, some_more, some_none}
-use Rattle.hoa_reader.specs.Described.{expanded, meaning_of}
+use Rattle.hoa_reader.proofs.labels.WrittenGuards.{all_more, all_none, and_replaced, cube_written, guard_beside, guard_of_label, guard_same, or_replaced, part_is_below, part_is_smaller, some_more, some_none}
+use Rattle.hoa_reader.specs.Described.{meaning_of}
 use Rattle.hoa_reader.specs.Validity.{is_listed}
 use Rattle.hoa_reader.specs.declared.elaborate.aliases.Known.{Known}
 use Rattle.hoa_reader.specs.declared.elaborate.edges.Shared.{Shared}
@@ -187,15 +186,11 @@ guard_written-returns-in-Some-clause-guard t c =
     IfOk-weaker c.guard_written.result _ _
     (λ g is. guard_same _ _ (λ on. truth on (replaced x (raw_tree c.args.label.now))) g (λ on. ap (truth on) e) is) c.guard_written.ensures.guard
 
--- a conjunction of literals, whose label has no aliases
-cube_is : (x : Shared) (label : RawLabel) (n v : ℕ) → label ≡ raw_label.Cube n v → replaced x (raw_tree label) ≡ expanded [] (raw_all (all_literals n v))
-cube_is x label n v is = ap (λ l. replaced x (raw_tree l)) is ∙ (ap (replaced x) (raw_tree-Cube n v) ∙ cube_alike (meanings_by x.defs.items) n v)
-
 pub guard_written-cube_guard-requires : goal.guard_written-cube_guard-requires
-guard_written-cube_guard-requires t c = subst (AllBelow c.args.guards.now.names) (cube_is c.args.shared.now c.args.label.now _ _ c.in-Cube.is) c.requires.below
+guard_written-cube_guard-requires t c = subst (AllBelow c.args.guards.now.names) (cube_written c.args.shared.now c.args.label.now _ _ c.in-Cube.is) c.requires.below
 
 pub guard_written-returns-in-Cube-clause-guard : goal.guard_written-returns-in-Cube-clause-guard
 guard_written-returns-in-Cube-clause-guard t c =
     let x = c.args.shared.now in
     IfOk-weaker c.cube_guard.result _ _
-    (λ g made. guard_same _ _ (λ on. truth on (replaced x (raw_tree c.args.label.now))) g (λ on. ap (truth on) (sym (cube_is x c.args.label.now _ _ c.in-Cube.is))) made) c.cube_guard.ensures.guard
+    (λ g made. guard_same _ _ (λ on. truth on (replaced x (raw_tree c.args.label.now))) g (λ on. ap (truth on) (sym (cube_written x c.args.label.now _ _ c.in-Cube.is))) made) c.cube_guard.ensures.guard
