@@ -26,11 +26,13 @@ const FILLER: Joined = Joined {
     place: 0,
 };
 
-/// How many results a table first has room for.
+/// How many results a table first has room for, and to how many it grows in a small store.
 const FEWEST: usize = 16;
 
+const ROOMY: usize = 4_096;
+
 /// A table of results. Each has one place, by what was asked for, and takes it from the one that stands there. So a look-up is one
-/// comparison, and a table has at most twice as many places as its store, or a few.
+/// comparison, and a table has at most some thousand places, or twice as many as a larger store.
 #[derive(Drop)]
 pub(crate) struct Computed {
     table: Vec<Joined>,
@@ -70,8 +72,8 @@ impl Computed {
         None
     }
 
-    /// Puts a result in. While it has less room than the store has places it is to have more, once that is used up. Where memory for it
-    /// is wanting the table stays as it is: it only remembers less.
+    /// Puts a result in. Once so many were put as there is room for, there is to be more, up to some thousand places or those of the store.
+    /// Where memory for it is wanting the table stays as it is: it only remembers less.
     pub(crate) fn put(&mut self, joined: Joined, places: usize)
         ensures { (s : Store) → AreComputed s self.old → IsComputed s joined → AreComputed s self.new }
     {
@@ -92,7 +94,7 @@ impl Computed {
             return;
         }
         self.count = 1;
-        if room < places {
+        if room < places.max(ROOMY) {
             let _ = self
                 .table
                 .resize(room.saturating_mul(2).max(FEWEST), FILLER);

@@ -39,7 +39,8 @@ filler_computed s = record {
 pub computed_filled : (s : Store) (old : List Joined) (n m : ℕ) (filler : Joined) → IsComputed s filler → AreComputed s old → AreComputed s (take n old ++ replicate m filler)
 computed_filled s old n m filler is are = All-append (IsComputed s) (take n old) (replicate m filler) (All-take (IsComputed s) n old are) (All-replicate (IsComputed s) m filler is)
 
-pub computed_after : (s : Store) (old new : List Joined) (n m : ℕ) (filler : Joined) (grew : Bool) → new ≡ (if grew then take n old ++ replicate m filler else old) → IsComputed s filler → AreComputed s old
+pub computed_after : (s : Store) (old new : List Joined) (n m : ℕ) (filler : Joined) (grew : Bool) → new ≡ (if grew then take n old ++ replicate m filler else old) → IsComputed s filler
+    → AreComputed s old
     → AreComputed s new
 computed_after s old new n m filler true e is are = subst (AreComputed s) (sym e) (computed_filled s old n m filler is are)
 computed_after s old new n m filler false e is are = subst (AreComputed s) (sym e) are

@@ -12,7 +12,8 @@ use Rattle.hoa_parser.specs.declared.raw.RawLabel.TheVariants as raw_label
 use Rattle.hoa_parser.specs.declared.raw.RawLabels.{RawLabels}
 use Rattle.hoa_reader.proofs.labels.ExpandedLabels.{bit_small}
 use Rattle.hoa_reader.proofs.labels.Meanings.{meaning_missing}
-use Rattle.hoa_reader.proofs.labels.WrittenGuards.{all_more, all_none, and_replaced, cube_written, guard_beside, guard_of_label, guard_same, or_replaced, part_is_below, part_is_smaller, some_more, some_none}
+use Rattle.hoa_reader.proofs.labels.WrittenGuards.{all_more, all_none, and_replaced, cube_written, guard_beside, guard_of_label, guard_same}
+use Rattle.hoa_reader.proofs.labels.WrittenGuards.{or_replaced, part_is_below, part_is_smaller, some_more, some_none}
 use Rattle.hoa_reader.specs.Described.{meaning_of}
 use Rattle.hoa_reader.specs.Validity.{is_listed}
 use Rattle.hoa_reader.specs.declared.elaborate.aliases.Known.{Known}
@@ -193,4 +194,5 @@ pub guard_written-returns-in-Cube-clause-guard : goal.guard_written-returns-in-C
 guard_written-returns-in-Cube-clause-guard t c =
     let x = c.args.shared.now in
     IfOk-weaker c.cube_guard.result _ _
-    (λ g made. guard_same _ _ (λ on. truth on (replaced x (raw_tree c.args.label.now))) g (λ on. ap (truth on) (sym (cube_written x c.args.label.now _ _ c.in-Cube.is))) made) c.cube_guard.ensures.guard
+    (λ g made. guard_same _ _ (λ on. truth on (replaced x (raw_tree c.args.label.now))) g (λ on. ap (truth on) (sym (cube_written x c.args.label.now _ _ c.in-Cube.is))) made)
+    c.cube_guard.ensures.guard

@@ -3,6 +3,6 @@ use Rattle.label_guards.specs.Computed.{AreComputed}
 use Rattle.label_guards.proofs.diagrams.Computed.{filler_computed, computed_after}
 use Rattle.label_guards.proofs.computed.Computed.make_room.Goals as goal
 
-pub returns-then-room-places : goal.returns-then-room-places
-returns-then-room-places c = λ s are. computed_after s c.self.inside.table.items c.resize.new.self.items _ _ _ _ c.resize.ensures.items (filler_computed s)
+pub returns-then-room-max : goal.returns-then-room-max
+returns-then-room-max c = λ s are. computed_after s c.self.inside.table.items c.resize.new.self.items _ _ _ _ c.resize.ensures.items (filler_computed s)
     (subst (AreComputed s) (sym c.self.view_is) are)
