@@ -1,7 +1,7 @@
 -- Definitions that only inner functions speak in.
 pub mod Built
 pub mod Cubes
-pub mod Examined
+pub mod Frames
 pub mod Gathered
 pub mod Growing
 pub mod Headers

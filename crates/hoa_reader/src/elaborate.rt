@@ -4,11 +4,11 @@ ghost use Rattle.std.specs.Prelude.{◌≡◌, IfOk};
 ghost use Rattle.aut_base.specs.Automaton.{automaton};
 ghost use Rattle.hoa_parser.specs.Raw.{written};
 ghost use Rattle.hoa_reader.specs.Described.{described};
-ghost use Rattle.hoa_reader.specs.Elaborating.{Builds, Elaborates};
-ghost use Rattle.hoa_reader.specs.inner.Built.{BuildsBody};
-ghost use Rattle.hoa_reader.specs.inner.Examined.{IsExamined};
+ghost use Rattle.hoa_reader.specs.Elaborating.{Builds, Elaborates, IsBuilt};
+ghost use Rattle.hoa_reader.specs.inner.Frames.{IsFrameOf};
 
 mod aliases;
+mod blocks;
 mod body;
 mod broken;
 mod counts;
@@ -36,13 +36,12 @@ mod written;
 
 use aut_base::{Description, Limit, Memory, Text};
 use aut_core::Automaton;
-use body::{Body, automaton, body_of};
+use body::{automaton, body_of};
 use edges::edges_of;
-use examined::{Examined, examine};
-use frame::{condition, frame_of};
+use examined::examine;
+use frame::{Frame, condition, shared_of};
 use header::header_of;
 use hoa_parser::Raw;
-use starts::names_of;
 use std::alloc::Global;
 
 /// The rules that an automaton has to keep, in the order in which they are examined.
@@ -95,53 +94,52 @@ pub struct Named {
 pub fn describe(alloc: Global, raw: &Raw) -> Result<Description, ElabFault>
     ensures { Elaborates result (written raw.now) }
 {
-    let examined = examine(alloc, raw)?;
-    Ok(description(alloc, raw, examined)?)
+    let frame = examine(alloc, raw)?;
+    Ok(description(alloc, raw, frame)?)
 }
 
 // Why so: 'An automaton can be built straight from what was read' in docs/DECISIONS.md.
 /// The automaton that is described by what was read, with guards in place of labels, and its name. The automaton is the same as
-/// `Automaton::from_description` of what `describe` answers, but no description is made. Names and condition are moved, and all else
-/// that was read is let go, also where it is refused.
+/// `Automaton::from_description` of what `describe` answers, but no description is made. Names and condition are moved, states are let
+/// go while edges grow, and all else that was read afterwards, also where it is refused.
 pub fn build(alloc: Global, raw: Raw) -> Result<Named, ElabFault>
     ensures { Builds result (written raw) }
 {
-    let body = examined_body(alloc, &raw)?;
-    let header = header_of(alloc, raw);
-    let automaton = automaton(alloc, header.names, header.formula, body)?;
-    Ok(Named {
-        automaton,
-        name: header.name,
-    })
+    let frame = examine(alloc, &raw)?;
+    Ok(built(alloc, raw, frame)?)
 }
 
 /// The description, where no rule is broken and no limit passed.
-fn description<'a>(
-    alloc: Global,
-    raw: &'a Raw,
-    examined: Examined<'a>,
-) -> Result<Description, Memory>
-    requires { IsExamined (written raw.now) examined }
+fn description(alloc: Global, raw: &Raw, frame: Frame) -> Result<Description, Memory>
+    requires { IsFrameOf (written raw.now) frame }
     ensures { IfOk result (λ d. automaton d ≡ described (written raw.now)) }
 {
-    let names = names_of(alloc, examined.parts.names)?;
-    let formula = condition(alloc, raw, &examined.parts)?;
-    let frame = frame_of(alloc, raw, examined)?;
-    let edges = edges_of(alloc, &frame.shared, raw.states.as_slice(), frame.states)?;
+    let items = raw.items.as_slice();
+    let texts = parts::names_of(items);
+    let names = starts::names_of(alloc, texts)?;
+    let formula = condition(alloc, items)?;
+    let shared = shared_of(alloc, items, &frame)?;
+    let edges = edges_of(alloc, &shared, raw.states.as_slice(), frame.states)?;
     Ok(Description {
         names,
         starts: frame.starts,
         states: frame.states,
         edges,
-        sets: frame.shared.sets,
+        sets: frame.sets,
         formula,
     })
 }
 
-/// What is built beside names and condition, where no rule is broken and no limit passed.
-fn examined_body(alloc: Global, raw: &Raw) -> Result<Body, ElabFault>
-    ensures { BuildsBody result (written raw.now) }
+/// The automaton and its name, where no rule is broken and no limit passed.
+fn built(alloc: Global, raw: Raw, frame: Frame) -> Result<Named, Memory>
+    requires { IsFrameOf (written raw) frame }
+    ensures { IfOk result (IsBuilt (written raw)) }
 {
-    let examined = examine(alloc, raw)?;
-    Ok(body_of(alloc, raw, examined)?)
+    let (items, body) = body_of(alloc, raw, frame)?;
+    let header = header_of(alloc, items);
+    let automaton = automaton(alloc, header.names, header.formula, body)?;
+    Ok(Named {
+        automaton,
+        name: header.name,
+    })
 }

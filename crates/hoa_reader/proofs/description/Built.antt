@@ -10,7 +10,7 @@ use Rattle.aut_core.specs.SymbolicAutomata.{AreSymbolicParts, automaton_of}
 use Rattle.aut_core.specs.Deterministic.{GoesOneWay}
 use Rattle.aut_core.specs.Links.{StandFor}
 use Rattle.aut_core.specs.declared.link.Link.{Link}
-use Rattle.hoa_parser.specs.Raw.{Written, WrittenState}
+use Rattle.hoa_parser.specs.Raw.{Written}
 use Rattle.hoa_reader.proofs.description.Framed.{framed_edges}
 use Rattle.hoa_reader.proofs.description.OneWay.{one_way}
 use Rattle.hoa_reader.proofs.description.WellFormed.{valid_is_well_formed}
@@ -18,10 +18,11 @@ use Rattle.hoa_reader.specs.Counts.{PassesNone}
 use Rattle.hoa_reader.specs.Described.{described, edges_of}
 use Rattle.hoa_reader.specs.Validity.{IsValid, written_names}
 use Rattle.hoa_reader.specs.declared.elaborate.body.Body.{Body}
+use Rattle.hoa_reader.specs.declared.elaborate.edges.Shared.{Shared}
 use Rattle.hoa_reader.specs.declared.elaborate.frame.Frame.{Frame}
 use Rattle.hoa_reader.specs.declared.elaborate.header.Header.{Header}
 use Rattle.hoa_reader.specs.inner.Built.{IsBodyOf, symbolic_of_body}
-use Rattle.hoa_reader.specs.inner.Examined.{IsFrameOf}
+use Rattle.hoa_reader.specs.inner.Frames.{IsFrameOf, IsSharedBy}
 use Rattle.hoa_reader.specs.inner.Headers.{IsHeaderOf}
 use Rattle.hoa_reader.specs.inner.TreeEdges.{edges_for, settled}
 use Rattle.label_guards.specs.Store.{Store}
@@ -30,18 +31,16 @@ pub few_names : (w : Written) → PassesNone w → length (written_names w) ≤ 
 few_names w within = ltb-false MOST_NAMES (length (written_names w)) within.0
 
 -- the links of a frame stand for the edges that are described
-pub stand_for : (w : Written) (f : Frame) (ws : List WrittenState) (links : List Link) (n : ℕ) (s : Store) → IsFrameOf w f → ws ≡ w.states → n ≡ f.shared.names
-    → StandFor s links (map (settled n) (edges_for f.shared ws f.states)) → StandFor s links (map (settled (length (written_names w))) (edges_of w))
-stand_for w f ws links n s of same count stand =
-    subst (StandFor s links)
-    (ap (λ xs. map (settled n) (edges_for f.shared xs f.states)) same
-    ∙ (ap (map (settled n)) (framed_edges w f of) ∙ ap (λ m. map (settled m) (edges_of w)) (count ∙ of.count))) stand
+pub stand_for : (w : Written) (f : Frame) (x : Shared) (links : List Link) (n : ℕ) (s : Store) → IsFrameOf w f → IsSharedBy f w.items x → n ≡ f.names
+    → StandFor s links (map (settled n) (edges_for x w.states f.states)) → StandFor s links (map (settled (length (written_names w))) (edges_of w))
+stand_for w f x links n s of by count stand =
+    subst (StandFor s links) (ap (map (settled n)) (framed_edges w f x of by) ∙ ap (λ m. map (settled m) (edges_of w)) (count ∙ of.count)) stand
 
 -- it is what is described, with canonical labels
-pub built : (w : Written) (h : Header) (b : Body) → IsHeaderOf w h → IsBodyOf w b → automaton_of (symbolic_of_body h.names h.formula b) ≡ canonical (described w)
+pub built : (w : Written) (h : Header) (b : Body) → IsHeaderOf w.items h → IsBodyOf w b → automaton_of (symbolic_of_body h.names h.formula b) ≡ canonical (described w)
 built w h b head of = λ i. record { names = head.names i; starts = of.starts i; states = of.states i; edges = of.stand.edges i; sets = of.sets i; formula = head.formula i }
 
-pub built_parts : (w : Written) (h : Header) (b : Body) → IsHeaderOf w h → IsBodyOf w b → AreSymbolicParts (symbolic_of_body h.names h.formula b)
+pub built_parts : (w : Written) (h : Header) (b : Body) → IsHeaderOf w.items h → IsBodyOf w b → AreSymbolicParts (symbolic_of_body h.names h.formula b)
 built_parts w h b head of =
     let few = few_names w of.within in
     let count = ap length head.names in
@@ -50,5 +49,5 @@ built_parts w h b head of =
     (omega (arith, few, count)) (of.count ∙ sym count) of.stand.has
 
 -- each letter meets just one edge of every state where labels are implicit
-pub built_one_way : (w : Written) (h : Header) (b : Body) → IsHeaderOf w h → IsBodyOf w b → b.implicit ≡ true → GoesOneWay (automaton_of (symbolic_of_body h.names h.formula b))
+pub built_one_way : (w : Written) (h : Header) (b : Body) → IsHeaderOf w.items h → IsBodyOf w b → b.implicit ≡ true → GoesOneWay (automaton_of (symbolic_of_body h.names h.formula b))
 built_one_way w h b head of implicit = subst GoesOneWay (sym (built w h b head of)) (one_way w (of.implicit implicit))

@@ -9,9 +9,10 @@ use Rattle.aut_base.specs.Label.{AllBelow}
 use Rattle.hoa_parser.specs.Raw.{Written, WrittenEdge, WrittenState}
 use Rattle.hoa_reader.proofs.description.WellFormed.{valid_labels}
 use Rattle.hoa_reader.specs.Described.{Meaning, below, edges_of, expanded, letter_label, marks_in_order, meanings_of, only_state}
-use Rattle.hoa_reader.specs.Validity.{IsValid, marks_below, written_names}
+use Rattle.hoa_reader.specs.Validity.{marks_below, written_names}
+use Rattle.hoa_reader.specs.declared.elaborate.edges.Shared.{Shared}
 use Rattle.hoa_reader.specs.declared.elaborate.frame.Frame.{Frame}
-use Rattle.hoa_reader.specs.inner.Examined.{IsFrameOf}
+use Rattle.hoa_reader.specs.inner.Frames.{IsFrameOf, IsSharedBy}
 use Rattle.hoa_reader.specs.inner.TreeEdges.{HasLabelsBelow, edges_for}
 
 -- the edges of a state, by all that they depend on
@@ -26,18 +27,18 @@ edges_by ms names sets s = map (λ (p : ℕ × WrittenEdge). record {
 abbrev all_by : (WrittenState → List LabelledEdge) → List WrittenState → ℕ → List LabelledEdge
 all_by of_state states count = flat_map (λ q. flat_map of_state (filter (λ (s : WrittenState). s.number == q) states)) (below count)
 
-pub framed_edges : (w : Written) (f : Frame) → IsFrameOf w f → edges_for f.shared w.states f.states ≡ edges_of w
-framed_edges w f of = λ i. all_by (edges_by (of.meanings i) (of.count i) (of.sets i)) w.states (of.states i)
+pub framed_edges : (w : Written) (f : Frame) (x : Shared) → IsFrameOf w f → IsSharedBy f w.items x → edges_for x w.states f.states ≡ edges_of w
+framed_edges w f x of by = λ i. all_by (edges_by (by.meanings i) ((by.count ∙ of.count) i) ((by.sets ∙ of.sets) i)) w.states (of.states i)
 
 -- the marks of the states are below the number of sets
-pub framed_marks : (w : Written) (f : Frame) → IsFrameOf w f → IsValid w → list_all (marks_below f.shared.sets) w.states ≡ true
-framed_marks w f of valid = ap (λ n. list_all (marks_below n) w.states) of.sets ∙ (and_parts _ _ valid.1.1.1.1.1.1.1.1.0).1
+pub framed_marks : (w : Written) (f : Frame) (x : Shared) → IsFrameOf w f → IsSharedBy f w.items x → list_all (marks_below x.sets) w.states ≡ true
+framed_marks w f x of by = ap (λ n. list_all (marks_below n) w.states) (by.sets ∙ of.sets) ∙ (and_parts _ _ of.valid.1.1.1.1.1.1.1.1.0).1
 
 -- and the labels of their edges speak of the names
-pub framed_labels : (w : Written) (f : Frame) → IsFrameOf w f → IsValid w → All (HasLabelsBelow f.shared (length (written_names w))) w.states
-framed_labels w f of valid =
+pub framed_labels : (w : Written) (f : Frame) (x : Shared) → IsFrameOf w f → IsSharedBy f w.items x → All (HasLabelsBelow x (length (written_names w))) w.states
+framed_labels w f x of by =
     let n = length (written_names w) in
     let T : List Meaning → ℕ → ℕ → Type 0 = λ ms names sets.
     All (λ (s : WrittenState). AllByRecursion (λ (e : LabelledEdge). AllBelow n e.label) (edges_by ms names sets s)) w.states in
-    subst (λ ms. T ms f.shared.names f.shared.sets) (sym of.meanings)
-    (subst (λ names. T (meanings_of w) names f.shared.sets) (sym of.count) (subst (T (meanings_of w) n) (sym of.sets) (valid_labels w valid)))
+    subst (λ ms. T ms x.names x.sets) (sym by.meanings)
+    (subst (λ names. T (meanings_of w) names x.sets) (sym (by.count ∙ of.count)) (subst (T (meanings_of w) n) (sym (by.sets ∙ of.sets)) (valid_labels w of.valid)))

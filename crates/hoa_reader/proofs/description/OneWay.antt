@@ -21,7 +21,7 @@ use Rattle.hoa_reader.proofs.labels.LettersApart.{letter_of_all, number_small, n
 use Rattle.hoa_reader.specs.Described.{below, described, edges_of, expanded, edge_label, letter_label, meanings_of, state_count, tree_edge_of, tree_edges_from, tree_edges_of}
 use Rattle.hoa_reader.specs.Validity.{has_no_label, written_names}
 use Rattle.hoa_reader.specs.declared.elaborate.frame.Frame.{Frame}
-use Rattle.hoa_reader.specs.inner.Examined.{IsFrameOf}
+use Rattle.hoa_reader.specs.inner.Frames.{IsFrameOf}
 use Rattle.hoa_reader.specs.inner.Implicit.{AreImplicit, each_implicit, is_implicit}
 use Rattle.hoa_reader.specs.inner.TreeEdges.{settled}
 use Rattle.label_guards.specs.Numbers.{is_at}
@@ -238,6 +238,6 @@ one_way w are =
     }
 
 -- in the words of the frame
-pub implicit_in : (w : Written) (f : Frame) (ws : List WrittenState) → IsFrameOf w f → ws ≡ w.states → AreImplicit f.shared.names f.states ws → AreImplicit (width w) (state_count w) w.states
+pub implicit_in : (w : Written) (f : Frame) (ws : List WrittenState) → IsFrameOf w f → ws ≡ w.states → AreImplicit f.names f.states ws → AreImplicit (width w) (state_count w) w.states
 implicit_in w f ws of same are =
-    subst (λ n. AreImplicit n (state_count w) w.states) of.count (subst (λ m. AreImplicit f.shared.names m w.states) of.states (subst (AreImplicit f.shared.names f.states) same are))
+    subst (λ n. AreImplicit n (state_count w) w.states) of.count (subst (λ m. AreImplicit f.names m w.states) of.states (subst (AreImplicit f.names f.states) same are))

@@ -6,8 +6,8 @@ use Rattle.hoa_parser.specs.Raw.{Written}
 use Rattle.hoa_reader.specs.Elaborating.{Builds, Elaborates, IsRefusedFor}
 use Rattle.hoa_reader.specs.declared.elaborate.ElabFault.{ElabFault}
 use Rattle.hoa_reader.specs.declared.elaborate.Named.{Named}
-use Rattle.hoa_reader.specs.declared.elaborate.body.Body.{Body}
-use Rattle.hoa_reader.specs.inner.Built.{BuildsBody}
+use Rattle.hoa_reader.specs.declared.elaborate.frame.Frame.{Frame}
+use Rattle.hoa_reader.specs.inner.Frames.{ExaminesText}
 
 same_fault : (g f : ElabFault) (w : Written) → g ≡ f → IsRefusedFor f w → IsRefusedFor g w
 same_fault g f w same is = subst (λ (x : ElabFault). IsRefusedFor x w) (sym same) is
@@ -20,6 +20,6 @@ pub builds_none : (r : Result Named ElabFault) (f : ElabFault) (w : Written) →
 builds_none (Ok named) f w never is = absurd never
 builds_none (Err g) f w same is = same_fault g f w same is
 
-pub body_none : (r : Result Body ElabFault) (f : ElabFault) (w : Written) → IsErrAnd r (λ y. y ≡ f) → IsRefusedFor f w → BuildsBody r w
-body_none (Ok body) f w never is = absurd never
-body_none (Err g) f w same is = same_fault g f w same is
+pub frame_none : (r : Result Frame ElabFault) (f : ElabFault) (w : Written) → IsErrAnd r (λ y. y ≡ f) → IsRefusedFor f w → ExaminesText r w
+frame_none (Ok frame) f w never is = absurd never
+frame_none (Err g) f w same is = same_fault g f w same is

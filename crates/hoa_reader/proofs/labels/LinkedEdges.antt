@@ -1,10 +1,14 @@
 -- Links that are made edge by edge, where it is known which edges are still to come.
-use Rattle.std.proofs.Common.{◌≡◌, ◌++◌, ◌∷◌, ◌∙◌, ◌+◌, ◌<◌, ◌≤◌, [], ℕ, List, All, ap, drop, get_or, length, map, subst, sym}
-use Rattle.std.proofs.lemmas.List.{append-nil, append_assoc, drop_all}
+use Rattle.std.proofs.Common.{◌≡◌, ◌++◌, ◌∷◌, ◌∙◌, ◌+◌, ◌<◌, ◌≤◌, [], ℕ, true, Bool, List, All, ap, drop, get_or, length, map, subst, sym}
+use Rattle.std.proofs.lemmas.Bool.{and_parts}
+use Rattle.std.proofs.lemmas.Grind.{flat_map-append}
+use Rattle.std.proofs.lemmas.List.{append-nil, append_assoc, drop_all, map-append}
+use Rattle.std.proofs.lemmas.List.Folds.{list_all-append}
 use Rattle.std.proofs.lemmas.Option.{get_or_from_slice_get, slice_get_within}
-use Rattle.std.specs.List.{enumerate_from}
+use Rattle.std.specs.List.{enumerate_from, list_all}
 use Rattle.std.specs.Prelude.{flat_map}
 use Rattle.aut_base.proofs.lists.Lists.{drop-at}
+use Rattle.aut_base.proofs.lists.Members.{all_of_first, all_of_second}
 use Rattle.aut_base.specs.Automaton.{LabelledEdge}
 use Rattle.aut_core.proofs.Following.{stand_itself, stand_kept, stand_push}
 use Rattle.aut_core.specs.SymbolicAutomata.{edge_of}
@@ -15,7 +19,7 @@ use Rattle.hoa_parser.specs.declared.raw.RawEdge.{RawEdge}
 use Rattle.hoa_parser.specs.declared.raw.RawState.{RawState}
 use Rattle.hoa_reader.proofs.labels.StatePlaces.{edges_more}
 use Rattle.hoa_reader.specs.declared.elaborate.edges.Shared.{Shared}
-use Rattle.hoa_reader.specs.inner.TreeEdges.{IsDefinedAt, edges_for, tree_edge_for, tree_edges_for}
+use Rattle.hoa_reader.specs.inner.TreeEdges.{IsDefinedAt, edges_for, settled, tree_edge_for, tree_edges_for}
 use Rattle.label_guards.specs.Store.{Has, Keeps, Store}
 
 -- the edges of a state from this one on
@@ -59,3 +63,37 @@ pub edges_of_one : (x : Shared) (ws : List WrittenState) (n place : ℕ) (one : 
     → edges_for x ws (n + 1) ≡ edges_for x ws n ++ tree_edges_for x one.state
 edges_of_one x ws n place one =
     edges_more x ws n ∙ ap (λ es. edges_for x ws n ++ es) (ap (flat_map (tree_edges_for x)) one.alone ∙ append-nil (tree_edges_for x one.state))
+
+-- the states of blocks
+abbrev pub states_left : List (List RawState) → List WrittenState
+states_left blocks = map written_state (flat_map (λ (block : List RawState). block) blocks)
+
+-- what holds of all that are left holds of a block, and of those of the other blocks
+pub parts_below : (P : WrittenState → Type 0) (block : List RawState) (blocks : List (List RawState)) → All P (states_left (block ∷ blocks))
+    → All P (map written_state block) × All P (states_left blocks)
+parts_below P block blocks all =
+    let both = subst (All P) (map-append written_state block (flat_map (λ (b : List RawState). b) blocks)) all in
+    (all_of_first P (map written_state block) (states_left blocks) both, all_of_second P (map written_state block) (states_left blocks) both)
+
+pub parts_pass : (p : WrittenState → Bool) (block : List RawState) (blocks : List (List RawState)) → list_all p (states_left (block ∷ blocks)) ≡ true
+    → (list_all p (map written_state block) ≡ true) × (list_all p (states_left blocks) ≡ true)
+parts_pass p block blocks all = and_parts _ _ (sym (list_all-append p (map written_state block) (states_left blocks))
+    ∙ (ap (list_all p) (sym (map-append written_state block (flat_map (λ (b : List RawState). b) blocks))) ∙ all))
+
+-- with a block's edges among the links, those of the other blocks are left
+pub link_block : (x : Shared) (n : ℕ) (s t : Store) (old new : List Link) (block : List RawState) (blocks : List (List RawState)) (all : List LabelledEdge)
+    → AreOnTheWay s old (map (settled n) (flat_map (tree_edges_for x) (states_left (block ∷ blocks)))) all
+    → StandFor t new (map (edge_of s) old ++ map (settled n) (flat_map (tree_edges_for x) (map written_state block)))
+    → AreOnTheWay t new (map (settled n) (flat_map (tree_edges_for x) (states_left blocks))) all
+link_block x n s t old new block blocks all way stand =
+    let some = map (settled n) (flat_map (tree_edges_for x) (map written_state block)) in
+    let rest = map (settled n) (flat_map (tree_edges_for x) (states_left blocks)) in
+    let both : map (settled n) (flat_map (tree_edges_for x) (states_left (block ∷ blocks))) ≡ some ++ rest =
+    ap (λ (ss : List WrittenState). map (settled n) (flat_map (tree_edges_for x) ss))
+    (map-append written_state block (flat_map (λ (b : List RawState). b) blocks))
+    ∙ (ap (map (settled n)) (flat_map-append (tree_edges_for x) (map written_state block) (states_left blocks))
+    ∙ map-append (settled n) (flat_map (tree_edges_for x) (map written_state block)) (flat_map (tree_edges_for x) (states_left blocks))) in
+    record {
+      has = stand.has;
+      edges = ap (λ es. es ++ rest) stand.edges ∙ (append_assoc (map (edge_of s) old) some rest ∙ (ap (λ es. map (edge_of s) old ++ es) (sym both) ∙ way.edges));
+    }

@@ -1,5 +1,5 @@
 -- The automaton that is built but for what is moved out of the header, and what both make together.
-use Rattle.std.specs.Prelude.{◌≡◌, ℕ, IsTrue, List, length, map, Result, Ok, Err}
+use Rattle.std.specs.Prelude.{◌≡◌, ℕ, IsTrue, List, length, map}
 use Rattle.aut_base.specs.Formula.{formula_tree}
 use Rattle.aut_base.specs.declared.formula.Formula.{Formula}
 use Rattle.aut_core.specs.SymbolicAutomata.{SymbolicAutomaton}
@@ -7,9 +7,7 @@ use Rattle.aut_core.specs.Links.{StandFor}
 use Rattle.hoa_parser.specs.Raw.{Written}
 use Rattle.hoa_reader.specs.Counts.{PassesNone}
 use Rattle.hoa_reader.specs.Described.{edges_of, starts_of, state_count}
-use Rattle.hoa_reader.specs.Elaborating.{IsRefusedFor}
 use Rattle.hoa_reader.specs.Validity.{IsValid, acceptance_of, written_names}
-use Rattle.hoa_reader.specs.declared.elaborate.ElabFault.{ElabFault}
 use Rattle.hoa_reader.specs.declared.elaborate.body.Body.{Body}
 use Rattle.hoa_reader.specs.inner.Implicit.{AreImplicit}
 use Rattle.hoa_reader.specs.inner.TreeEdges.{settled}
@@ -25,10 +23,6 @@ pub record IsBodyOf (w : Written) (b : Body) : Type 0 where
   pub count : b.guards.names ≡ length (written_names w)
   pub stand : StandFor b.guards b.links (map (settled (length (written_names w))) (edges_of w))
   pub implicit : IsTrue b.implicit → AreImplicit (length (written_names w)) (state_count w) w.states
-
-abbrev pub BuildsBody : Result Body ElabFault → Written → Type 0
-BuildsBody (Ok b) w = IsBodyOf w b
-BuildsBody (Err why) w = IsRefusedFor why w
 
 -- the automaton of names, of a condition and of the rest
 abbrev pub symbolic_of_body : List (List ℕ) → Formula → Body → SymbolicAutomaton

@@ -1,10 +1,10 @@
 -- What is moved out of a header: the names, the condition and the name, each as it stands first.
-use Rattle.std.specs.Prelude.{◌≡◌, List, [], ◌∷◌, Option, Some, None}
+use Rattle.std.specs.Prelude.{◌≡◌, ℕ, List, [], ◌∷◌, filter_map, get_or, slice_get, Option, Some, None}
 use Rattle.std.specs.Option.{option_map}
 use Rattle.aut_base.specs.Formula.{FormulaTree, formula_tree}
-use Rattle.hoa_parser.specs.Naming.{name_of}
-use Rattle.hoa_parser.specs.Raw.{Written, WrittenItem}
-use Rattle.hoa_reader.specs.Validity.{acceptance_item, acceptance_of, written_names}
+use Rattle.hoa_parser.specs.Naming.{name_item}
+use Rattle.hoa_parser.specs.Raw.{WrittenItem}
+use Rattle.hoa_reader.specs.Validity.{acceptance_item, names_item, no_acceptance}
 use Rattle.hoa_reader.specs.declared.elaborate.header.Header.{Header}
 
 -- the first of both, where there is one
@@ -16,7 +16,11 @@ first_given None other = other
 abbrev pub formula_item : WrittenItem → Option FormulaTree
 formula_item i = option_map (λ a. a.formula) (acceptance_item i)
 
-pub record IsHeaderOf (w : Written) (h : Header) : Type 0 where
-  pub names : h.names ≡ written_names w
-  pub formula : formula_tree h.formula ≡ (acceptance_of w).formula
-  pub name : h.name ≡ name_of w
+-- the names of the first line that has some
+abbrev pub first_names : List WrittenItem → List (List ℕ)
+first_names items = get_or (filter_map names_item items) 0 []
+
+pub record IsHeaderOf (items : List WrittenItem) (h : Header) : Type 0 where
+  pub names : h.names ≡ first_names items
+  pub formula : formula_tree h.formula ≡ (get_or (filter_map acceptance_item items) 0 no_acceptance).formula
+  pub name : h.name ≡ slice_get (filter_map name_item items) 0

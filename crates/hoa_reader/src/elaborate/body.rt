@@ -5,15 +5,14 @@ ghost use Rattle.aut_core.specs.SymbolicAutomata.{AreSymbolicParts, automaton_of
 ghost use Rattle.aut_core.specs.Deterministic.{GoesOneWay};
 ghost use Rattle.hoa_parser.specs.Raw.{written};
 ghost use Rattle.hoa_reader.specs.inner.Built.{IsBodyOf, symbolic_of_body};
-ghost use Rattle.hoa_reader.specs.inner.Examined.{IsExamined};
+ghost use Rattle.hoa_reader.specs.inner.Frames.{IsFrameOf};
 
-use crate::elaborate::examined::Examined;
-use crate::elaborate::frame::frame_of;
+use crate::elaborate::frame::{Frame, shared_of};
 use crate::elaborate::implicit::are_implicit;
 use crate::elaborate::links::links_of;
 use aut_base::{Formula, Memory, Names, Numbers};
 use aut_core::{Automaton, Links};
-use hoa_parser::Raw;
+use hoa_parser::{Items, Raw};
 use label_guards::Guards;
 use std::alloc::Global;
 
@@ -29,34 +28,37 @@ pub(crate) struct Body {
     pub(crate) implicit: bool,
 }
 
-/// The edges under guards, with starts and counts.
-pub(crate) fn body_of<'a>(
-    alloc: Global,
-    raw: &'a Raw,
-    examined: Examined<'a>,
-) -> Result<Body, Memory>
-    requires { IsExamined (written raw.now) examined }
-    ensures { IfOk result (IsBodyOf (written raw.now)) }
+/// The edges under guards, with starts and counts, and the items of the header. What was read of the body is let go while the edges
+/// grow.
+pub(crate) fn body_of(alloc: Global, raw: Raw, frame: Frame) -> Result<(Items, Body), Memory>
+    requires { IsFrameOf (written raw) frame }
+    ensures items { IfOk result (λ made. made.0 ≡ raw.items) }
+    ensures body { IfOk result (λ made. IsBodyOf (written raw) made.1) }
 {
-    let frame = frame_of(alloc, raw, examined)?;
-    let mut guards = Guards::new(alloc, frame.shared.names)?;
-    let states = raw.states.as_slice();
-    let links = links_of(
-        alloc,
-        &mut guards,
-        &frame.shared,
-        states,
-        frame.states,
-        frame.rising,
-    )?;
-    Ok(Body {
+    let items = raw.items;
+    let states = raw.states;
+    let mut guards = Guards::new(alloc, frame.names)?;
+    let implicit = are_implicit(states.as_slice(), frame.states, frame.names);
+    let links = {
+        let shared = shared_of(alloc, items.as_slice(), &frame)?;
+        links_of(
+            alloc,
+            &mut guards,
+            &shared,
+            states,
+            frame.states,
+            frame.rising,
+        )?
+    };
+    let body = Body {
         starts: frame.starts,
         states: frame.states,
-        sets: frame.shared.sets,
+        sets: frame.sets,
         guards,
         links,
-        implicit: are_implicit(states, frame.states, frame.shared.names),
-    })
+        implicit,
+    };
+    Ok((items, body))
 }
 
 /// The automaton of these parts. Where labels are implicit no guard is looked at.

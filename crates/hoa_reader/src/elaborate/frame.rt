@@ -1,66 +1,81 @@
-//! What is described but for edges, names and condition, and the condition held apart.
+//! What is described but for edges, names and condition, what edges share, and the condition held apart.
 
-ghost use Rattle.std.specs.Prelude.{◌≡◌, IfOk};
+ghost use Rattle.std.specs.Prelude.{◌≡◌, true, filter_map, get_or, map, IfOk};
 ghost use Rattle.aut_base.specs.Formula.{formula_tree};
-ghost use Rattle.hoa_parser.specs.Raw.{written};
-ghost use Rattle.hoa_reader.specs.Validity.{acceptance_of};
-ghost use Rattle.hoa_reader.specs.inner.Examined.{IsExamined, IsFrameOf};
+ghost use Rattle.hoa_parser.specs.Raw.{written, written_item};
+ghost use Rattle.hoa_reader.specs.Counts.{PassesNone};
+ghost use Rattle.hoa_reader.specs.Validity.{IsValid, acceptance_item, alias_item, no_acceptance};
+ghost use Rattle.hoa_reader.specs.inner.Frames.{IsFrameOf, IsSharedBy};
 ghost use Rattle.hoa_reader.specs.inner.Gathered.{ArePartsOf};
+ghost use Rattle.hoa_reader.specs.inner.PickedOut.{are_defined};
 
+use crate::elaborate::aliases::known_aliases;
 use crate::elaborate::edges::Shared;
-use crate::elaborate::examined::Examined;
-use crate::elaborate::parts::Parts;
+use crate::elaborate::parts::{Parts, acceptance_of, aliases_of};
 use crate::elaborate::sizes::{set_count, state_count};
 use crate::elaborate::starts::starts_of;
 use aut_base::{Formula, Memory, Numbers};
-use hoa_parser::Raw;
+use hoa_parser::{Item, Raw};
 use std::alloc::Global;
 
-/// What is described but for edges, names and condition, and what edges share.
+/// What is described but for edges, names and condition. Nothing of it lies in what was read.
 #[derive(Drop)]
-pub(crate) struct Frame<'a> {
+pub(crate) struct Frame {
     pub(crate) starts: Numbers,
     pub(crate) states: u32,
     /// Whether the numbers of the states rise.
     pub(crate) rising: bool,
-    pub(crate) shared: Shared<'a>,
+    pub(crate) names: u32,
+    pub(crate) sets: u32,
+    pub(crate) edges: usize,
 }
 
-/// What is described but for edges, names and condition. What only the rules speak of is let go.
-pub(crate) fn frame_of<'a>(
-    alloc: Global,
-    raw: &'a Raw,
-    examined: Examined<'a>,
-) -> Result<Frame<'a>, Memory>
-    requires { IsExamined (written raw.now) examined }
+/// What is described but for edges, names and condition.
+pub(crate) fn frame_of(alloc: Global, raw: &Raw, parts: &Parts<'_>) -> Result<Frame, Memory>
+    requires valid { IsValid (written raw.now) }
+    requires within { PassesNone (written raw.now) }
+    requires parts { ArePartsOf (written raw.now) parts.now }
     ensures { IfOk result (IsFrameOf (written raw.now)) }
 {
-    let parts = examined.parts;
-    let sets = set_count(raw, &parts);
-    let states = state_count(raw, &parts) as u32;
+    let sets = set_count(raw, parts);
+    let states = state_count(raw, parts) as u32;
     let starts = starts_of(alloc, &parts.starts)?;
-    let shared = Shared {
-        names: parts.names.len() as u32,
-        sets,
-        edges: parts.sums.edges,
-        defs: parts.defs,
-        known: examined.known,
-    };
     Ok(Frame {
         starts,
         states,
         rising: parts.rising,
-        shared,
+        names: parts.names.len() as u32,
+        sets,
+        edges: parts.sums.edges,
+    })
+}
+
+/// What edges share, with the aliases of these items.
+pub(crate) fn shared_of<'a>(
+    alloc: Global,
+    items: &'a [Item],
+    frame: &Frame,
+) -> Result<Shared<'a>, Memory>
+    requires { are_defined (filter_map alias_item (map written_item items.now)) ≡ true }
+    ensures { IfOk result (IsSharedBy frame.now (map written_item items.now)) }
+{
+    let defs = aliases_of(alloc, items)?;
+    let known = known_aliases(alloc, &defs)?;
+    Ok(Shared {
+        names: frame.names,
+        sets: frame.sets,
+        edges: frame.edges,
+        defs,
+        known,
     })
 }
 
 /// The acceptance condition, held apart.
 #[tactic(auto, using(aut_base::proofs::trees::FormulaTrees::formula_trees))]
-pub(crate) fn condition(alloc: Global, raw: &Raw, parts: &Parts<'_>) -> Result<Formula, Memory>
-    requires { ArePartsOf (written raw.now) parts.now }
-    ensures { IfOk result (λ formula. formula_tree formula ≡ (acceptance_of (written raw.now)).formula) }
+pub(crate) fn condition(alloc: Global, items: &[Item]) -> Result<Formula, Memory>
+    ensures { IfOk result (λ formula. formula_tree formula ≡ (get_or (filter_map acceptance_item (map written_item items.now)) 0 no_acceptance).formula) }
 {
-    match &parts.acceptance {
+    match acceptance_of(items) {
         Some(acceptance) => acceptance.formula.copy(alloc),
         None => Ok(Formula::True),
     }

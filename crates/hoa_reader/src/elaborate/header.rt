@@ -1,15 +1,15 @@
 //! What is moved out of the header: names, condition and name.
 
-ghost use Rattle.std.specs.Prelude.{◌≡◌, ◌≢◌, [], AllPairs, Some};
+ghost use Rattle.std.specs.Prelude.{◌≡◌, ◌≢◌, [], AllPairs, Some, map};
 ghost use Rattle.std.specs.Option.{option_map, option_map_or};
 ghost use Rattle.aut_base.specs.Formula.{formula_tree};
 ghost use Rattle.hoa_parser.specs.Naming.{name_item};
-ghost use Rattle.hoa_parser.specs.Raw.{written, written_item};
-ghost use Rattle.hoa_reader.specs.Validity.{IsValid, names_item};
-ghost use Rattle.hoa_reader.specs.inner.Headers.{IsHeaderOf, first_given, formula_item};
+ghost use Rattle.hoa_parser.specs.Raw.{written_item};
+ghost use Rattle.hoa_reader.specs.Validity.{names_item};
+ghost use Rattle.hoa_reader.specs.inner.Headers.{IsHeaderOf, first_given, first_names, formula_item};
 
 use aut_base::{Formula, Names, Text, Words};
-use hoa_parser::{Item, Raw};
+use hoa_parser::{Item, Items};
 use std::alloc::Global;
 
 /// What is moved out of the header of an automaton.
@@ -84,12 +84,12 @@ fn names_found(alloc: Global, texts: Option<Words>) -> Names
 }
 
 /// What the header says, moved out of it. All else that was read is let go.
-pub(crate) fn header_of(alloc: Global, raw: Raw) -> Header
-    requires { IsValid (written raw) }
-    ensures { IsHeaderOf (written raw) result }
+pub(crate) fn header_of(alloc: Global, items: Items) -> Header
+    requires { AllPairs (λ a b. a ≢ b) (first_names (map written_item items)) }
+    ensures { IsHeaderOf (map written_item items) result }
 {
     let mut found = Found::nothing();
-    'items: for item in raw.items.into_vec() {
+    'items: for item in items.into_vec() {
         found.take(item);
     }
     Header {

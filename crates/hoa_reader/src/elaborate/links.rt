@@ -15,22 +15,23 @@ ghost use Rattle.hoa_reader.specs.inner.TreeEdges.{HasKnown, HasLabelsBelow, edg
 ghost use Rattle.label_guards.specs.Guards.{IsGuardOf};
 ghost use Rattle.label_guards.specs.Store.{Has, Keeps, label_in};
 
+use crate::elaborate::blocks::Blocks;
 use crate::elaborate::edges::{Shared, label_written, marks_of, places_of};
 use crate::elaborate::kept::Kept;
 use crate::elaborate::starts::only_state;
 use crate::elaborate::written::guard_written;
 use aut_base::Memory;
 use aut_core::{Link, Links};
-use hoa_parser::{RawEdge, RawLabel, RawState};
+use hoa_parser::{RawEdge, RawLabel, RawState, RawStates};
 use label_guards::{Guard, Guards};
 use std::alloc::Global;
 
 /// The guard of a label. A conjunction of literals is looked up first.
-fn kept_guard<'a>(
+fn kept_guard(
     guards: &mut Guards,
     kept: &mut Kept,
-    shared: &Shared<'a>,
-    label: &'a RawLabel,
+    shared: &Shared<'_>,
+    label: &RawLabel,
 ) -> Result<Guard, Memory>
     requires known { HasKnown shared.now }
     requires below { AllBelow guards.old.names (replaced shared.now (raw_tree label.now)) }
@@ -47,12 +48,12 @@ fn kept_guard<'a>(
 
 /// The guard of the edge that stands at this place in its state. Where no label is written it is made from the letter's number,
 /// beside that of the letter before.
-fn guard_of<'a>(
+fn guard_of(
     guards: &mut Guards,
     kept: &mut Kept,
-    shared: &Shared<'a>,
-    state: &'a RawState,
-    edge: &'a RawEdge,
+    shared: &Shared<'_>,
+    state: &RawState,
+    edge: &RawEdge,
     letter: u64,
 ) -> Result<Guard, Memory>
     requires known { HasKnown shared.now }
@@ -71,13 +72,13 @@ fn guard_of<'a>(
 }
 
 /// The edge that stands at this place in its state, under its guard.
-fn link_of<'a>(
+fn link_of(
     alloc: Global,
     guards: &mut Guards,
     kept: &mut Kept,
-    shared: &Shared<'a>,
-    state: &'a RawState,
-    edge: &'a RawEdge,
+    shared: &Shared<'_>,
+    state: &RawState,
+    edge: &RawEdge,
     letter: u64,
 ) -> Result<Link, Memory>
     requires known { HasKnown shared.now }
@@ -100,13 +101,13 @@ fn link_of<'a>(
 }
 
 /// Adds the edges of the state.
-fn add_links<'a>(
+fn add_links(
     alloc: Global,
     guards: &mut Guards,
     kept: &mut Kept,
     links: &mut Links,
-    shared: &Shared<'a>,
-    state: &'a RawState,
+    shared: &Shared<'_>,
+    state: &RawState,
 ) -> Result<(), Memory>
     requires known { HasKnown shared.now }
     requires names { guards.old.names ≡ shared.now.names }
@@ -127,59 +128,93 @@ fn add_links<'a>(
     Ok(())
 }
 
-/// The edges of the states, in the order in which these stand.
-fn links_in_turn<'a>(
+/// Adds the edges of the states, in the order in which these stand.
+fn add_all(
     alloc: Global,
     guards: &mut Guards,
-    shared: &Shared<'a>,
-    states: &'a [RawState],
-) -> Result<Links, Memory>
+    kept: &mut Kept,
+    links: &mut Links,
+    shared: &Shared<'_>,
+    states: &[RawState],
+) -> Result<(), Memory>
     requires known { HasKnown shared.now }
     requires names { guards.old.names ≡ shared.now.names }
     requires marks { list_all (marks_below shared.now.sets) (map written_state states.now) ≡ true }
     requires below { All (HasLabelsBelow shared.now guards.old.names) (map written_state states.now) }
+    requires has { All (λ l. Has guards.old l.guard) links.old }
+    requires kept { AreKept guards.old kept.old }
     ensures names { guards.new.names ≡ guards.old.names }
-    ensures stand { IfOk result (λ links. StandFor guards.new links (map (settled guards.old.names) (flat_map (tree_edges_for shared.now) (map written_state states.now)))) }
+    ensures kept { AreKept guards.new kept.new }
+    ensures stand { OnOk result (StandFor guards.new links.new (map (edge_of guards.old) links.old ++ map (settled guards.old.names) (flat_map (tree_edges_for shared.now) (map written_state states.now)))) }
 {
+    'states: for state in states {
+        add_links(alloc, guards, kept, links, shared, state)?;
+    }
+    Ok(())
+}
+
+// Why so: 'What is written goes while edges grow' in docs/DECISIONS.md.
+/// The edges of the states, in the order in which these stand. Each block of states is let go once it has its edges.
+fn links_in_turn(
+    alloc: Global,
+    guards: &mut Guards,
+    shared: &Shared<'_>,
+    states: RawStates,
+) -> Result<Links, Memory>
+    requires known { HasKnown shared.now }
+    requires names { guards.old.names ≡ shared.now.names }
+    requires marks { list_all (marks_below shared.now.sets) (map written_state states) ≡ true }
+    requires below { All (HasLabelsBelow shared.now guards.old.names) (map written_state states) }
+    ensures names { guards.new.names ≡ guards.old.names }
+    ensures stand { IfOk result (λ links. StandFor guards.new links (map (settled guards.old.names) (flat_map (tree_edges_for shared.now) (map written_state states)))) }
+{
+    let mut blocks = Blocks::new(alloc, states)?;
     let mut links = Links::from_vec(Vec::with_capacity(alloc, shared.edges)?);
     let mut kept = Kept::new(alloc);
-    'states: for state in states {
-        add_links(alloc, guards, &mut kept, &mut links, shared, state)?;
+    'left: while let Some(block) = blocks.next() {
+        add_all(
+            alloc,
+            guards,
+            &mut kept,
+            &mut links,
+            shared,
+            block.as_slice(),
+        )?;
     }
     Ok(links)
 }
 
 /// The edges, in the order of the states that they leave. Numbers mostly rise, so that no place of a state is looked for.
-pub(crate) fn links_of<'a>(
+pub(crate) fn links_of(
     alloc: Global,
     guards: &mut Guards,
-    shared: &Shared<'a>,
-    states: &'a [RawState],
+    shared: &Shared<'_>,
+    states: RawStates,
     count: u32,
     rising: bool,
 ) -> Result<Links, Memory>
     requires known { HasKnown shared.now }
     requires names { guards.old.names ≡ shared.now.names }
-    requires rising { rising ≡ rises_from 0 (numbers (map written_state states.now)) }
-    requires differ { all_differ ◌==◌ (numbers (map written_state states.now)) ≡ true }
-    requires within { AllByRecursion (λ (s : WrittenState). s.number < count) (map written_state states.now) }
-    requires marks { list_all (marks_below shared.now.sets) (map written_state states.now) ≡ true }
-    requires below { All (HasLabelsBelow shared.now guards.old.names) (map written_state states.now) }
+    requires rising { rising ≡ rises_from 0 (numbers (map written_state states)) }
+    requires differ { all_differ ◌==◌ (numbers (map written_state states)) ≡ true }
+    requires within { AllByRecursion (λ (s : WrittenState). s.number < count) (map written_state states) }
+    requires marks { list_all (marks_below shared.now.sets) (map written_state states) ≡ true }
+    requires below { All (HasLabelsBelow shared.now guards.old.names) (map written_state states) }
     ensures names { guards.new.names ≡ guards.old.names }
-    ensures stand { IfOk result (λ links. StandFor guards.new links (map (settled guards.old.names) (edges_for shared.now (map written_state states.now) count))) }
+    ensures stand { IfOk result (λ links. StandFor guards.new links (map (settled guards.old.names) (edges_for shared.now (map written_state states) count))) }
 {
     if rising {
         return links_in_turn(alloc, guards, shared, states);
     }
-    links_by_places(alloc, guards, shared, states, count)
+    links_by_places(alloc, guards, shared, states.as_slice(), count)
 }
 
 /// The same, whatever order the states stand in.
-fn links_by_places<'a>(
+fn links_by_places(
     alloc: Global,
     guards: &mut Guards,
-    shared: &Shared<'a>,
-    states: &'a [RawState],
+    shared: &Shared<'_>,
+    states: &[RawState],
     count: u32,
 ) -> Result<Links, Memory>
     requires known { HasKnown shared.now }

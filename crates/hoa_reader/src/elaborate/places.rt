@@ -27,10 +27,10 @@ impl<'a, V: Copy> Places<'a, V> {
     }
 
     /// What is known of the name, if it is there.
-    pub(crate) fn find(&self, name: &'a Name) -> Option<V>
+    pub(crate) fn find(&self, name: &Name) -> Option<V>
         ensures { result ≡ place_in self.now name.now }
     {
-        self.places.get(&name.as_bytes()).copied()
+        self.places.get(name.as_bytes()).copied()
     }
 
     /// Says this of the text of these bytes, and answers whether it is new.

@@ -17,10 +17,10 @@ use label_guards::{Guard, Guards};
 /// The guard of the label with each alias replaced by what it stands for. No label is made.
 #[cycle(guard_written)]
 #[tactic(auto, using(hoa_parser::proofs::grammar::RawTrees::raw_tree_rules))]
-pub(crate) fn guard_written<'a>(
+pub(crate) fn guard_written(
     guards: &mut Guards,
-    shared: &Shared<'a>,
-    label: &'a RawLabel,
+    shared: &Shared<'_>,
+    label: &RawLabel,
 ) -> Result<Guard, Memory>
     requires known { HasKnown shared.now }
     requires below { AllBelow guards.old.names (replaced shared.now (raw_tree label.now)) }
@@ -49,10 +49,10 @@ pub(crate) fn guard_written<'a>(
 /// The guard of a conjunction. It goes from the last part to the first: mostly the parts are literals whose propositions rise,
 /// and each is one node above those behind it.
 #[cycle(guard_written)]
-fn guard_of_all<'a>(
+fn guard_of_all(
     guards: &mut Guards,
-    shared: &Shared<'a>,
-    parts: &'a RawLabels,
+    shared: &Shared<'_>,
+    parts: &RawLabels,
 ) -> Result<Guard, Memory>
     requires known { HasKnown shared.now }
     requires below { EachBelow guards.old.names (parts_replaced shared.now parts.now) }
@@ -70,10 +70,10 @@ fn guard_of_all<'a>(
 
 /// The guard of a disjunction, from its last part to its first.
 #[cycle(guard_written)]
-fn guard_of_some<'a>(
+fn guard_of_some(
     guards: &mut Guards,
-    shared: &Shared<'a>,
-    parts: &'a RawLabels,
+    shared: &Shared<'_>,
+    parts: &RawLabels,
 ) -> Result<Guard, Memory>
     requires known { HasKnown shared.now }
     requires below { EachBelow guards.old.names (parts_replaced shared.now parts.now) }
@@ -92,10 +92,10 @@ fn guard_of_some<'a>(
 /// The guard that is true where both the label and this guard are.
 #[cycle(guard_written)]
 #[tactic(auto, using(hoa_parser::proofs::grammar::RawTrees::raw_tree_rules))]
-fn met<'a>(
+fn met(
     guards: &mut Guards,
-    shared: &Shared<'a>,
-    label: &'a RawLabel,
+    shared: &Shared<'_>,
+    label: &RawLabel,
     guard: Guard,
 ) -> Result<Guard, Memory>
     requires known { HasKnown shared.now }
@@ -117,10 +117,10 @@ fn met<'a>(
 /// The guard that is true where the label or this guard is.
 #[cycle(guard_written)]
 #[tactic(auto, using(hoa_parser::proofs::grammar::RawTrees::raw_tree_rules))]
-fn joined<'a>(
+fn joined(
     guards: &mut Guards,
-    shared: &Shared<'a>,
-    label: &'a RawLabel,
+    shared: &Shared<'_>,
+    label: &RawLabel,
     guard: Guard,
 ) -> Result<Guard, Memory>
     requires known { HasKnown shared.now }

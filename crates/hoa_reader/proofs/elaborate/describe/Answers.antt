@@ -6,10 +6,10 @@ use Rattle.hoa_reader.proofs.description.WellFormed.{valid_is_well_formed}
 use Rattle.hoa_reader.specs.declared.elaborate.ElabFault.TheVariants as fault
 use Rattle.hoa_reader.proofs.elaborate.describe.Goals as goal
 
-pub returns-in_err-examined : goal.returns-in_err-examined
-returns-in_err-examined c =
-    describes_none c.from_residual.result c.in_err-examined.field-0.0 (written c.args.raw.now) c.from_residual.ensures.1
-    c.in_err-examined.ensures
+pub returns-in_err-frame : goal.returns-in_err-frame
+returns-in_err-frame c =
+    describes_none c.from_residual.result c.in_err-frame.field-0.0 (written c.args.raw.now) c.from_residual.ensures.1
+    c.in_err-frame.ensures
 
 pub returns-in_err-description : goal.returns-in_err-description
 returns-in_err-description c =
@@ -17,8 +17,8 @@ returns-in_err-description c =
 
 pub returns : goal.returns
 returns c = record {
-  valid = c.in_ok-examined.ensures.valid;
-  within = c.in_ok-examined.ensures.within;
+  valid = c.in_ok-frame.ensures.valid;
+  within = c.in_ok-frame.ensures.within;
   same = c.in_ok-description.ensures;
-  formed = subst IsWellFormed (sym c.in_ok-description.ensures) (valid_is_well_formed (written c.args.raw.now) c.in_ok-examined.ensures.valid);
+  formed = subst IsWellFormed (sym c.in_ok-description.ensures) (valid_is_well_formed (written c.args.raw.now) c.in_ok-frame.ensures.valid);
 }

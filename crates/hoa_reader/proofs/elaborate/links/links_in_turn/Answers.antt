@@ -1,76 +1,63 @@
-use Rattle.std.proofs.Common.{◌≡◌, ◌++◌, ◌∷◌, [], ◌+◌, ◌∙◌, List, Some, ap, arith, map, refl, slice_get, subst, sym, take}
-use Rattle.std.proofs.lemmas.Grind.{flat_map-append}
-use Rattle.std.proofs.lemmas.List.{append-nil, map-append}
-use Rattle.std.proofs.lemmas.List.Folds.{list_all-map}
-use Rattle.std.proofs.lemmas.Option.{get_or_from_slice_get, slice_get-map, slice_get_within}
-use Rattle.std.specs.Option.{option_map}
+use Rattle.std.proofs.Common.{◌≡◌, ◌++◌, ◌∷◌, ◌∙◌, [], true, All, List, ap, arith, map, refl, subst, sym}
+use Rattle.std.specs.List.{list_all}
 use Rattle.std.specs.Prelude.{flat_map}
-use Rattle.aut_base.proofs.lists.Lists.{slice_get-at, take-push}
-use Rattle.aut_base.proofs.lists.Members.{all_passes_at}
 use Rattle.aut_base.specs.Automaton.{LabelledEdge}
-use Rattle.aut_core.specs.SymbolicAutomata.{edge_of}
 use Rattle.aut_core.specs.Links.{StandFor}
+use Rattle.aut_core.specs.SymbolicAutomata.{edge_of}
 use Rattle.aut_core.specs.declared.link.Link.{Link}
 use Rattle.hoa_parser.specs.Raw.{written_state}
 use Rattle.hoa_parser.specs.declared.raw.RawState.{RawState}
+use Rattle.hoa_reader.proofs.labels.LinkedEdges.{AreOnTheWay, link_block, parts_below, parts_pass, states_left}
 use Rattle.hoa_reader.specs.Validity.{marks_below}
 use Rattle.hoa_reader.specs.inner.TreeEdges.{HasLabelsBelow, settled, tree_edges_for}
 use Rattle.hoa_reader.proofs.elaborate.links.links_in_turn.Goals as goal
 
-pub states-init : goal.states-init
-states-init c =
+pub left-init : goal.left-init
+left-init c =
+    let x = c.args.shared.now in
+    let n = c.args.guards.now.names in
+    let edges : List RawState → List LabelledEdge = λ ss. map (settled n) (flat_map (tree_edges_for x) (map written_state ss)) in
     let none : c.from_vec-links.result ≡ [] = c.from_vec-links.ensures ∙ c.in_ok-with_capacity.ensures.items in
+    let all = c.in_ok-blocks.ensures in
     record {
       kept = c.new-kept.ensures c.args.guards.now;
       names = refl;
-      stand = subst (λ (ls : List Link). StandFor c.args.guards.now ls []) (sym none) (record { has = λ k d l. absurd (omega (arith, l)); edges = refl });
+      marks = ap (λ (ss : List RawState). list_all (marks_below x.sets) (map written_state ss)) all ∙ c.requires.marks;
+      below = subst (λ (ss : List RawState). All (HasLabelsBelow x n) (map written_state ss)) (sym all) c.requires.below;
+      way = subst (λ (ls : List Link). AreOnTheWay c.args.guards.now ls (map (settled n) (flat_map (tree_edges_for x) (states_left c.in_ok-blocks.blocks))) (edges c.args.states))
+          (sym none) (record { has = λ k d l. absurd (omega (arith, l)); edges = ap edges all });
     }
 
-pub add_links-requires-clause-names : goal.add_links-requires-clause-names
-add_links-requires-clause-names c = c.states.invariant.names ∙ c.requires.names
-
-pub add_links-requires-clause-marks : goal.add_links-requires-clause-marks
-add_links-requires-clause-marks c =
-    let sets = c.args.shared.now.sets in
-    let states = c.args.states.now in
-    all_passes_at (λ (s : RawState). marks_below sets (written_state s)) states c.states.state-index c.state-item.result
-    (slice_get-at states c.states.state-index c.state-item.result c.states-test.true c.state-item.is)
-    (sym (list_all-map (marks_below sets) written_state states) ∙ c.requires.marks)
-
-pub add_links-requires-clause-below : goal.add_links-requires-clause-below
-add_links-requires-clause-below c =
+pub add_all-requires-clause-below : goal.add_all-requires-clause-below
+add_all-requires-clause-below c =
     let x = c.args.shared.now in
-    let states = c.args.states.now in
-    let ws = map written_state states in
-    let i = c.states.state-index in
-    let s = written_state c.state-item.result in
-    let there : slice_get ws i ≡ Some s = slice_get-map written_state states i
-    ∙ ap (option_map written_state) (slice_get-at states i c.state-item.result c.states-test.true c.state-item.is) in
-    subst (λ m. HasLabelsBelow x m s) (sym c.states.invariant.names)
-    (subst (HasLabelsBelow x c.args.guards.now.names) (get_or_from_slice_get ws i s s there) (c.requires.below i s (slice_get_within ws i s there)))
+    let here = c.left.invariant in
+    let left = subst (λ (bs : List (List RawState)). All (HasLabelsBelow x c.args.guards.now.names) (states_left bs)) c.in-Some.ensures here.below in
+    subst (λ (ss : List RawState). All (HasLabelsBelow x c.left.guards.names) (map written_state ss)) (sym c.as_slice.ensures)
+    (subst (λ m. All (HasLabelsBelow x m) (map written_state c.in-Some.block)) (sym here.names)
+    (parts_below (HasLabelsBelow x c.args.guards.now.names) c.in-Some.block c.next.new.self left).0)
 
-pub states-preserved : goal.states-preserved
-states-preserved c =
+pub left-preserved : goal.left-preserved
+left-preserved c =
     let x = c.args.shared.now in
-    let m = c.args.guards.now.names in
-    let states = c.args.states.now in
-    let i = c.states.state-index in
-    let state = c.state-item.result in
-    let E : List RawState → List LabelledEdge = λ ss. flat_map (tree_edges_for x) (map written_state ss) in
-    let old = c.states.guards.names in
-    let here = tree_edges_for x (written_state state) in
-    let pushed : E (take (i + 1) states) ≡ E (take i states) ++ here =
-    ap E (take-push states i state c.states-test.true c.state-item.is)
-    ∙ (ap (flat_map (tree_edges_for x)) (map-append written_state (take i states) (state ∷ []))
-    ∙ (flat_map-append (tree_edges_for x) (map written_state (take i states)) (written_state state ∷ [])
-    ∙ ap (λ es. E (take i states) ++ es) (append-nil here))) in
-    let more : map (settled m) (E (take (i + 1) states)) ≡ map (settled m) (E (take i states)) ++ map (settled m) here =
-    ap (map (settled m)) pushed ∙ map-append (settled m) (E (take i states)) here in
-    let all : map (edge_of c.states.guards) c.states.links ++ map (settled old) here ≡ map (settled m) (E (take (i + 1) states)) =
-    ap (λ es. es ++ map (settled old) here) c.states.invariant.stand.edges
-    ∙ (ap (λ k. map (settled m) (E (take i states)) ++ map (settled k) here) c.states.invariant.names ∙ sym more) in
+    let n = c.args.guards.now.names in
+    let here = c.left.invariant in
+    let block = c.in-Some.block in
+    let rest = c.next.new.self in
+    let at = c.in-Some.ensures in
+    let all = map (settled n) (flat_map (tree_edges_for x) (map written_state c.args.states)) in
+    let edges : List RawState → List LabelledEdge = λ ss. flat_map (tree_edges_for x) (map written_state ss) in
+    let before = map (edge_of c.left.guards) c.left.links in
     record {
-      kept = c.add_links.ensures.kept;
-      names = c.add_links.ensures.names ∙ c.states.invariant.names;
-      stand = subst (StandFor c.add_links.new.guards c.add_links.new.links) all c.in_ok-add_links.ensures.stand;
+      kept = c.add_all.ensures.kept;
+      names = c.add_all.ensures.names ∙ here.names;
+      marks = (parts_pass (marks_below x.sets) block rest
+          (subst (λ (bs : List (List RawState)). list_all (marks_below x.sets) (states_left bs) ≡ true) at here.marks)).1;
+      below = (parts_below (HasLabelsBelow x n) block rest
+          (subst (λ (bs : List (List RawState)). All (HasLabelsBelow x n) (states_left bs)) at here.below)).1;
+      way = link_block x n c.left.guards c.add_all.new.guards c.left.links c.add_all.new.links block rest all
+          (subst (λ (bs : List (List RawState)). AreOnTheWay c.left.guards c.left.links (map (settled n) (flat_map (tree_edges_for x) (states_left bs))) all) at here.way)
+          (subst (λ m. StandFor c.add_all.new.guards c.add_all.new.links (before ++ map (settled m) (edges block))) here.names
+          (subst (λ (ss : List RawState). StandFor c.add_all.new.guards c.add_all.new.links (before ++ map (settled c.left.guards.names) (edges ss))) c.as_slice.ensures
+          c.in_ok-add_all.ensures.stand));
     }

@@ -1,14 +1,24 @@
-use Rattle.std.proofs.Common.{◌≡◌, map, take}
+use Rattle.std.proofs.Common.{◌≡◌, true, All, length, map}
+use Rattle.std.specs.List.{list_all}
 use Rattle.std.specs.Prelude.{flat_map}
-use Rattle.aut_core.specs.Links.{StandFor}
-use Rattle.hoa_parser.specs.Raw.{written_state}
-use Rattle.hoa_reader.specs.inner.TreeEdges.{settled, tree_edges_for}
+use Rattle.hoa_reader.proofs.labels.LinkedEdges.{AreOnTheWay, states_left}
+use Rattle.hoa_reader.specs.Validity.{marks_below}
+use Rattle.hoa_reader.specs.inner.TreeEdges.{HasLabelsBelow, settled, tree_edges_for}
 use Rattle.hoa_reader.specs.inner.Kept.{AreKept}
+use Rattle.hoa_parser.specs.Raw.{written_state}
 use Rattle.hoa_reader.proofs.elaborate.links.links_in_turn.Given as goal
 
-abbrev pub invariant-states : goal.invariant-states
-invariant-states l = record {
-  kept : AreKept l.guards l.kept;
-  names : l.guards.names ≡ l.fn.guards.names;
-  stand : StandFor l.guards l.links (map (settled l.fn.guards.names) (flat_map (tree_edges_for l.shared) (map written_state (take l.state-index l.states))));
-}
+abbrev pub invariant-left : goal.invariant-left
+invariant-left l =
+    let n = l.fn.guards.names in
+    record {
+      kept : AreKept l.guards l.kept;
+      names : l.guards.names ≡ n;
+      marks : list_all (marks_below l.shared.sets) (states_left l.blocks) ≡ true;
+      below : All (HasLabelsBelow l.shared n) (states_left l.blocks);
+      way : AreOnTheWay l.guards l.links (map (settled n) (flat_map (tree_edges_for l.shared) (states_left l.blocks)))
+          (map (settled n) (flat_map (tree_edges_for l.shared) (map written_state l.fn.states)));
+    }
+
+abbrev pub decreases-left : goal.decreases-left
+decreases-left l = length l.blocks

@@ -8,7 +8,7 @@ use Rattle.hoa_reader.proofs.elaborate.links.links_of.Goals as goal
 
 pub returns-then-rising-clause-stand : goal.returns-then-rising-clause-stand
 returns-then-rising-clause-stand c =
-    let ws = map written_state c.args.states.now in
+    let ws = map written_state c.args.states in
     let all = rising_edges c.args.shared.now c.args.count ws (sym c.requires.rising ∙ c.if-rising.true) c.requires.within in
     IfOk-weaker c.links_in_turn.result _ _
     (λ links is. subst (StandFor c.links_in_turn.new.guards links) (sym (ap (map (settled c.args.guards.now.names)) all)) is) c.links_in_turn.ensures.stand
