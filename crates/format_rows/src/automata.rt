@@ -139,8 +139,8 @@ fn show_maybe(answer: &mut Answer, label: &Option<RawLabel>) {
 fn show_edge(answer: &mut Answer, edge: &RawEdge) {
     answer.add(b",");
     show_maybe(answer, &edge.label);
-    answer.add_numbers(edge.to.as_slice());
-    answer.add_marks(edge.marks.as_slice());
+    answer.add_numbers(edge.ends.to());
+    answer.add_marks(edge.ends.marks());
 }
 
 /// Adds a state with its edges.

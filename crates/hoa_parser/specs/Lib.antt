@@ -1,3 +1,4 @@
+pub mod Ends
 pub mod Grammar
 pub mod GrammarExamples
 pub mod GrammarLaws

@@ -136,7 +136,7 @@ written_item (Item.Properties words) = Properties words
 written_item (Item.Other name) = Other name
 
 abbrev pub written_edge : RawEdge → WrittenEdge
-written_edge e = record { label = option_map raw_tree e.label; to = e.to; marks = e.marks }
+written_edge e = record { label = option_map raw_tree e.label; to = e.ends.to; marks = e.ends.marks }
 
 abbrev pub written_state : RawState → WrittenState
 written_state s = record { label = option_map raw_tree s.label; number = s.number; marks = s.marks; edges = map written_edge s.edges }

@@ -4,5 +4,6 @@ pub mod Chains
 pub mod Expecting
 pub mod Faults
 pub mod HeldEdges
+pub mod HeldEnds
 pub mod Parsing
 pub mod RuleReads

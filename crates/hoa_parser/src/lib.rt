@@ -6,6 +6,7 @@
 #![tactic(auto)]
 
 mod edges;
+mod ends;
 mod fault;
 mod header;
 mod laws;
@@ -14,6 +15,7 @@ mod raw;
 mod read;
 
 pub use edges::RawEdges;
+pub use ends::EdgeEnds;
 pub use fault::ReadFault;
 pub use laws::{
     bad_is_hopeless, can_be_written_down, grammar_examples, one_raw, one_standing, settled_stays,

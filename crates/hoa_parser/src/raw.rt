@@ -6,6 +6,7 @@ ghost use Rattle.hoa_parser.specs.Naming.{name_of};
 ghost use Rattle.hoa_parser.specs.Raw.{raw_list, raw_tree, written};
 
 use crate::edges::RawEdges;
+use crate::ends::EdgeEnds;
 use aut_base::{FewNumbers, Formula, Memory, Seq, Text, Words};
 use hoa_lexer::Name;
 use std::alloc::Global;
@@ -106,9 +107,7 @@ pub type Items = Seq<Item>;
 #[derive(Debug, Drop)]
 pub struct RawEdge {
     pub label: Option<RawLabel>,
-    /// The goals, joined by `&`.
-    pub to: FewNumbers,
-    pub marks: FewNumbers,
+    pub ends: EdgeEnds,
 }
 
 /// A state of the body with its edges.

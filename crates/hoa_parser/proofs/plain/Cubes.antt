@@ -1,9 +1,9 @@
 -- Conjunctions of literals whose propositions rise, as two masks.
-use Rattle.std.proofs.Common.{◌≡◌, ◌⊎◌, inl, inr, ℕ, zero, suc, ◌+◌, ◌*◌, ◌/◌, ◌%◌, ◌^◌, ◌==◌, ◌<◌, ◌≤◌, ◌∙◌, Bool, true, false, List, [], ◌∷◌, ◌++◌, ap, arith, refl, subst, sym}
+use Rattle.std.proofs.Common.{◌≡◌, inl, inr, ℕ, zero, suc, ◌+◌, ◌*◌, ◌/◌, ◌%◌, ◌^◌, ◌==◌, ◌<◌, ◌≤◌, ◌∙◌, Bool, true, false, [], ◌∷◌, ◌++◌, ap, arith, refl, sym}
 use Rattle.std.proofs.Math.Nat.{div-div-eq-div-mul, pow-suc}
 use Rattle.std.proofs.lemmas.Bool.{cases_lt}
 use Rattle.std.proofs.lemmas.List.{append-nil}
-use Rattle.hoa_parser.specs.Raw.{RawTree, all_literals, cube_literals, has_bit, maybe_literal, raw_literal}
+use Rattle.hoa_parser.specs.Raw.{all_literals, cube_literals, has_bit, maybe_literal, raw_literal}
 
 -- the next bit is that of the half
 pub half_bit : (n k : ℕ) → has_bit n (suc k) ≡ has_bit (n / 2) k

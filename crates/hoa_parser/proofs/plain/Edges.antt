@@ -4,6 +4,7 @@ use Rattle.std.proofs.lemmas.List.{map-append}
 use Rattle.hoa_lexer.specs.inner.Steps.{PassesBlanks}
 use Rattle.hoa_lexer.specs.declared.token.Token.TheVariants as token
 use Rattle.hoa_lexer.proofs.next_token.Fronts.{skips_none}
+use Rattle.hoa_parser.specs.Ends.{WrittenEnds}
 use Rattle.hoa_parser.specs.Grammar.{label_tokens, optional_marks}
 use Rattle.hoa_parser.specs.Raw.{RawTree, WrittenEdge}
 use Rattle.hoa_parser.specs.declared.raw.RawLabel.{RawLabel}
@@ -38,9 +39,9 @@ edge_means : (l k : RawTree) (to to' marks marks' : List ℕ) → l ≡ k → to
     → (let e : WrittenEdge = record { label = Some l; to = to; marks = marks } in e) ≡ record { label = Some k; to = to'; marks = marks' }
 edge_means l k to to' marks marks' same_label same_to same_marks = cc
 
-pub plain : (l : RawLabel) (to marks : List ℕ) (n : ℕ) (x x' y z u w next : List ℕ) → PassesBlanks x x' → IsLabel l x' y → IsSigned 93 y z → IsIntText n z u → AreMaybeMarks marks u w → to ≡ n ∷ []
-    → w ≡ next → IsPlain (record { label = Some l; to = to; marks = marks }) x next
-plain l to marks n x x' y z u w next blanks labelled sign goes marked is behind = subst (IsPlain (record { label = Some l; to = to; marks = marks }) x) behind (record {
+pub plain : (l : RawLabel) (marks : List ℕ) (ends : WrittenEnds) (n : ℕ) (x x' y z u w next : List ℕ) → PassesBlanks x x' → IsLabel l x' y → IsSigned 93 y z → IsIntText n z u → AreMaybeMarks marks u w
+    → ends ≡ record { to = n ∷ []; marks = marks } → w ≡ next → IsPlain (record { label = Some l; ends = ends }) x next
+plain l marks ends n x x' y z u w next blanks labelled sign goes marked is behind = subst (IsPlain (record { label = Some l; ends = ends }) x) behind (record {
   label = labelled.phrase;
   goal = n;
   marks = marked.phrase;
@@ -49,7 +50,7 @@ plain l to marks n x x' y z u w next blanks labelled sign goes marked is behind 
       (spelled_behind (label_tokens labelled.phrase ++ token.RightBracket ∷ []) x x' z blanks
       (spelled_then (label_tokens labelled.phrase) (token.RightBracket ∷ []) x' y z labelled.spelled (sign_alone token.RightBracket 93 y z refl sign)))
       (spelled_then (token.Int n ∷ []) (optional_marks marked.phrase) z u w goes marked.spelled);
-  means = edge_means _ _ _ _ _ _ labelled.means is marked.means;
+  means = edge_means _ _ _ _ _ _ labelled.means (ap (λ (e : WrittenEnds). e.to) is) (ap (λ (e : WrittenEnds). e.marks) is ∙ marked.means);
 })
 
 head_means : (l : Option RawTree) (n : ℕ) (marks marks' : List ℕ) → marks ≡ marks'

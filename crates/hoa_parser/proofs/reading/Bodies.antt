@@ -7,6 +7,7 @@ use Rattle.hoa_lexer.specs.declared.token.Token.TheVariants as token
 use Rattle.hoa_parser.proofs.grammar.HeaderNames.{IsNamed, named}
 use Rattle.hoa_parser.proofs.reading.FrontParts.{passed_then}
 use Rattle.hoa_parser.proofs.reading.Steps.{Read}
+use Rattle.hoa_parser.specs.Ends.{WrittenEnds}
 use Rattle.hoa_parser.specs.inner.Expecting as part
 use Rattle.hoa_parser.specs.inner.Expecting.{Part, parts_behind, if_header, move}
 use Rattle.hoa_parser.specs.Grammar.{conj_tokens, edge_tokens, header_of, label_tokens, optional_label, optional_marks, optional_text}
@@ -42,12 +43,13 @@ edge_means : (l k : Option RawTree) (to to' marks marks' : List ℕ) → l ≡ k
     → (let e : WrittenEdge = record { label = l; to = to; marks = marks } in e) ≡ record { label = k; to = to'; marks = marks' }
 edge_means l k to to' marks marks' same_label same_to same_marks = cc
 
-pub edge_is : (l : Option RawLabel) (to marks : List ℕ) (a b c d : Cursor) → IsMaybeLabel l a b → IsConj to b c → AreMarks marks c d → IsEdge (record { label = l; to = to; marks = marks }) a d
-edge_is l to marks a b c d labelled goes marked = record {
+pub edge_is : (l : Option RawLabel) (to marks : List ℕ) (ends : WrittenEnds) (a b c d : Cursor) → IsMaybeLabel l a b → IsConj to b c → AreMarks marks c d
+    → ends ≡ record { to = to; marks = marks } → IsEdge (record { label = l; ends = ends }) a d
+edge_is l to marks ends a b c d labelled goes marked is = record {
   phrase = record { label = labelled.phrase; to = goes.phrase; marks = marked.phrase };
   within = labelled.within;
   passed = passed_then a b d (optional_label labelled.phrase) _ labelled.passed (passed_then b c d (conj_tokens goes.phrase) (optional_marks marked.phrase) goes.passed marked.passed);
-  means = edge_means _ _ _ _ _ _ labelled.means goes.means marked.means;
+  means = edge_means _ _ _ _ _ _ labelled.means (ap (λ (e : WrittenEnds). e.to) is ∙ goes.means) (ap (λ (e : WrittenEnds). e.marks) is ∙ marked.means);
 }
 
 -- the name that opens a state, and what is expected behind it

@@ -13,7 +13,7 @@ use super::lists::{conj, maybe_marks};
 use super::plain::{Next, plain_edge, plain_head, plain_label, size_of};
 use super::tokens::{advance, closing_bracket, maybe_quoted, number, refused};
 use crate::header::{Header, header_named};
-use crate::{RawEdge, RawEdges, RawLabel, RawState, RawStates, ReadFault};
+use crate::{EdgeEnds, RawEdge, RawEdges, RawLabel, RawState, RawStates, ReadFault};
 use aut_base::{FewNumbers, Memory};
 use aut_io::Inputs;
 use hoa_lexer::{Lexer, Name, Token};
@@ -324,5 +324,6 @@ fn edge_of_tokens<I: Inputs>(
     let label = maybe_label(alloc, lexer, inputs, ahead)?;
     let to = conj(alloc, lexer, inputs, ahead)?;
     let marks = maybe_marks(alloc, lexer, inputs, ahead)?;
-    Ok(RawEdge { label, to, marks })
+    let ends = EdgeEnds::new(alloc, to, marks)?;
+    Ok(RawEdge { label, ends })
 }

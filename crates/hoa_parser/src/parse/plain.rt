@@ -12,7 +12,7 @@ ghost use Rattle.hoa_parser.specs.inner.AtHand.{IsLiteral, IsLiteralOf, IsIntTex
 
 use super::body::StateHead;
 use super::cube::{Cube, literal_of, no_literal, with_literal};
-use crate::{RawEdge, RawLabel, RawLabels};
+use crate::{EdgeEnds, RawEdge, RawLabel, RawLabels};
 use aut_base::FewNumbers;
 use std::alloc::Global;
 
@@ -368,14 +368,14 @@ fn maybe_marks(alloc: Global, bytes: &[u8]) -> Option<(FewNumbers, &[u8])>
     }
 }
 
-/// The list of this number.
+/// This state alone, and these sets.
 #[inline(always)]
-fn alone(alloc: Global, number: u32) -> Option<FewNumbers>
-    ensures { MatchOption result (Unit {0}) (λ numbers. numbers ≡ number ∷ []) }
+fn ends_at(alloc: Global, goal: u32, marks: FewNumbers) -> Option<EdgeEnds>
+    ensures { MatchOption result (Unit {0}) (λ ends. ends ≡ record { to = goal ∷ []; marks = marks }) }
 {
-    let mut numbers = FewNumbers::new(alloc);
-    numbers.push(number).ok()?;
-    Some(numbers)
+    let mut to = FewNumbers::new(alloc);
+    to.push(goal).ok()?;
+    EdgeEnds::new(alloc, to, marks).ok()
 }
 
 /// What begins here, and what stands behind its first token.
@@ -399,9 +399,9 @@ pub(super) fn plain_edge(alloc: Global, bytes: &[u8]) -> Option<(RawEdge, Next, 
     let (goal, rest) = next_number(rest)?;
     let (marks, rest) = maybe_marks(alloc, rest)?;
     let (next, left) = next_up(rest)?;
-    let to = alone(alloc, goal)?;
+    let ends = ends_at(alloc, goal, marks)?;
     let label = Some(label);
-    Some((RawEdge { label, to, marks }, next, left))
+    Some((RawEdge { label, ends }, next, left))
 }
 
 /// INT sig?: a state behind its `State:`, up to what begins behind that, and what stands behind the first token of it.
