@@ -75,16 +75,32 @@ impl RawEdges {
     pub fn push(&mut self, edge: RawEdge) -> Result<(), Memory>
         ensures { OnOk result (self.new ≡ self.old ++ edge ∷ []) }
     {
+        match &mut self.held {
+            HeldEdges::More(edges) => edges.push(edge),
+            _ => self.push_first(edge),
+        }
+    }
+
+    /// The same where there is no list yet. It says it of any list, so that nothing has to be asked for.
+    fn push_first(&mut self, edge: RawEdge) -> Result<(), Memory>
+        ensures { OnOk result (self.new ≡ self.old ++ edge ∷ []) }
+    {
         self.held = match mem::replace(&mut self.held, HeldEdges::None) {
             HeldEdges::None => HeldEdges::One(edge),
             HeldEdges::One(first) => HeldEdges::More(pair(self.alloc, first, edge)?),
-            HeldEdges::More(mut edges) => {
-                edges.push(edge)?;
-                HeldEdges::More(edges)
-            }
+            HeldEdges::More(edges) => HeldEdges::More(longer(edges, edge)?),
         };
         Ok(())
     }
+}
+
+/// The list with this edge at its end.
+fn longer(edges: Seq<RawEdge>, edge: RawEdge) -> Result<Seq<RawEdge>, Memory>
+    ensures { IfOk result (λ longer. longer ≡ edges ++ edge ∷ []) }
+{
+    let mut edges = edges;
+    edges.push(edge)?;
+    Ok(edges)
 }
 
 /// The list of these two.
