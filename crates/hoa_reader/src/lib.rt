@@ -11,7 +11,7 @@ mod laws;
 
 pub use elaborate::{ElabFault, Named, Rule, build, describe};
 pub use hoa_parser::{
-    Front, Item, Items, Raw, RawEdge, RawEdges, RawLabel, RawLabels, RawState, RawStates,
+    EdgeEnds, Front, Item, Items, Raw, RawEdge, RawEdges, RawLabel, RawLabels, RawState, RawStates,
     ReadFault, bad_is_hopeless, can_be_written_down, grammar_examples, one_raw, one_standing,
     read_raw, settled_stays, some_standing, whole_goes_no_further, written_down_is_read,
 };

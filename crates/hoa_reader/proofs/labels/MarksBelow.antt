@@ -11,8 +11,8 @@ use Rattle.hoa_parser.specs.declared.raw.RawState.{RawState}
 use Rattle.hoa_reader.specs.Validity.{marks_below, numbers_below}
 
 pub edge_marks_below : (n : ℕ) (state : RawState) (edges : List RawEdge) (i : ℕ) (edge : RawEdge) → marks_below n (written_state state) ≡ true → edges ≡ state.edges → i < length edges
-    → edge ≡ get_or edges i edge → numbers_below n edge.marks ≡ true
+    → edge ≡ get_or edges i edge → numbers_below n edge.ends.marks ≡ true
 edge_marks_below n state edges i edge below same l is =
-    let Below : RawEdge → Bool = λ e. numbers_below n e.marks in
+    let Below : RawEdge → Bool = λ e. numbers_below n e.ends.marks in
     all_passes_at Below edges i edge (slice_get-at edges i edge l is)
     (ap (list_all Below) same ∙ sym (list_all-map (λ (e : WrittenEdge). numbers_below n e.marks) written_edge state.edges) ∙ (and_parts _ _ below).1)

@@ -69,11 +69,11 @@ pub(crate) fn marks_of(
     edge: &RawEdge,
 ) -> Result<Marks, Memory>
     requires own { numbers_below sets state.now.marks ≡ true }
-    requires marks { numbers_below sets edge.now.marks ≡ true }
-    ensures { IfOk result (λ all. all ≡ marks_in_order sets (state.now.marks ++ edge.now.marks)) }
+    requires marks { numbers_below sets edge.now.ends.marks ≡ true }
+    ensures { IfOk result (λ all. all ≡ marks_in_order sets (state.now.marks ++ edge.now.ends.marks)) }
 {
     let own = state.marks.as_slice();
-    marks_of_both(alloc, sets, own, edge.marks.as_slice())
+    marks_of_both(alloc, sets, own, edge.ends.marks())
 }
 
 /// The edge that stands at this place in its state.
@@ -86,13 +86,13 @@ fn edge_of<'a>(
 ) -> Result<Edge, Memory>
     requires known { HasKnown shared.now }
     requires own { numbers_below shared.now.sets state.now.marks ≡ true }
-    requires marks { numbers_below shared.now.sets edge.now.marks ≡ true }
+    requires marks { numbers_below shared.now.sets edge.now.ends.marks ≡ true }
     ensures { IfOk result (λ new. labelled_edge new ≡ tree_edge_for shared.now (written_state state.now) letter (written_edge edge.now)) }
 {
     Ok(Edge {
         from: state.number,
         label: label_of(alloc, shared, state, edge, letter)?,
-        to: only_state(&edge.to),
+        to: only_state(edge.ends.to()),
         marks: marks_of(alloc, shared.sets, state, edge)?,
     })
 }

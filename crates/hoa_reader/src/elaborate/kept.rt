@@ -21,9 +21,10 @@ pub(crate) struct GuardedCube {
     pub(crate) guard: Guard,
 }
 
-/// How many conjunctions the table first has room for, and how many at most.
+/// How many conjunctions the table first has room for.
 const FEWEST: usize = 16;
 
+/// How many it has room for at most.
 const MOST: usize = 512;
 
 // Why so: 'Conjunctions are kept with their guards' in docs/DECISIONS.md.

@@ -85,7 +85,7 @@ fn link_of(
     requires names { guards.old.names ≡ shared.now.names }
     requires below { AllBelow guards.old.names (label_for shared.now (written_state state.now) letter (written_edge edge.now)) }
     requires own { numbers_below shared.now.sets state.now.marks ≡ true }
-    requires marks { numbers_below shared.now.sets edge.now.marks ≡ true }
+    requires marks { numbers_below shared.now.sets edge.now.ends.marks ≡ true }
     requires kept { AreKept guards.old kept.old }
     ensures keeps { Keeps guards.old guards.new }
     ensures kept { AreKept guards.new kept.new }
@@ -95,7 +95,7 @@ fn link_of(
     Ok(Link {
         from: state.number,
         guard: guard_of(guards, kept, shared, state, edge, letter)?,
-        to: only_state(&edge.to),
+        to: only_state(edge.ends.to()),
         marks: marks_of(alloc, shared.sets, state, edge)?,
     })
 }

@@ -13,12 +13,12 @@ pub(crate) fn starts_of(alloc: Global, groups: &[&FewNumbers]) -> Result<Numbers
 {
     let mut starts = Numbers::new(alloc);
     if let [group] = groups {
-        starts.push(only_state(group))?;
+        starts.push(only_state(group.as_slice()))?;
         return Ok(starts);
     }
     let mut seen = BTreeSet::new(alloc);
     'groups: for group in groups {
-        let start = only_state(group);
+        let start = only_state(group.as_slice());
         if !seen.insert(start)? {
             continue;
         }
@@ -29,10 +29,10 @@ pub(crate) fn starts_of(alloc: Global, groups: &[&FewNumbers]) -> Result<Numbers
 
 /// The state that a start or an edge names.
 #[inline]
-pub(crate) fn only_state(states: &FewNumbers) -> u32
+pub(crate) fn only_state(states: &[u32]) -> u32
     ensures { result ≡ only_state states.now }
 {
-    match states.as_slice() {
+    match states {
         [state, ..] => *state,
         [] => 0,
     }

@@ -87,11 +87,11 @@ fn edge_sums(edge: &RawEdge) -> Sums
 {
     let label = shape_in(&edge.label);
     Sums {
-        single: edge.to.len() == 1,
-        after: after_numbers(edge.to.as_slice(), 0),
+        single: edge.ends.to().len() == 1,
+        after: after_numbers(edge.ends.to(), 0),
         props: label.props,
         plain: label.plain,
-        marks: after_numbers(edge.marks.as_slice(), 0),
+        marks: after_numbers(edge.ends.marks(), 0),
         labelled: edge.label.is_some(),
         bare: edge.label.is_none(),
         one_way: true,

@@ -1,5 +1,5 @@
 -- A table of results with one more, with more room, or under a larger store.
-use Rattle.std.proofs.Common.{◌≡◌, ℕ, ◌∙◌, ◌<◌, ◌++◌, ◌&&◌, Bool, true, false, List, get_or, if◌then◌else◌, length, take, replicate, ap, arith, rules, subst, sym}
+use Rattle.std.proofs.Common.{◌≡◌, ℕ, ◌<◌, ◌++◌, Bool, true, false, List, get_or, if◌then◌else◌, length, take, replicate, rules, subst, sym}
 use denote.Enum.Bare.{sameb, same_true}
 use Rattle.std.proofs.lemmas.List.Elements.{All-append, All-replicate, All-take, All-weaker}
 use Rattle.label_guards.specs.contracts.guards.Operation.{the_type}
@@ -10,7 +10,6 @@ use Rattle.label_guards.specs.Operations.{IsJoin}
 use Rattle.label_guards.specs.Computed.{AreComputed, IsComputed}
 use Rattle.label_guards.specs.Store.{Store}
 use Rattle.label_guards.proofs.diagrams.Joins.{join_kept}
-use Rattle.label_guards.proofs.diagrams.Outcomes.{outcome-false}
 
 pub computed_kept : {old new : Store} → Grows old new → (results : List Joined) → AreComputed old results → AreComputed new results
 computed_kept {old} {new} grows = All-weaker (IsComputed old) (IsComputed new) (λ joined. join_kept grows joined.operation joined.left joined.right joined.place)
@@ -25,16 +24,6 @@ computed_at s results k joined operation left right are within at a b c =
     let is : IsComputed s joined = subst (IsComputed s) (sym at) (are k joined within) in
     subst (λ (x : ℕ). IsJoin s operation left x joined.place) c
     (subst (λ (x : ℕ). IsJoin s operation x joined.right joined.place) b (subst (λ (x : Operation). IsJoin s x joined.left joined.right joined.place) a is))
-
--- false and false is false
-pub filler_computed : (s : Store) → IsJoin s Operation.And 0 0 0
-filler_computed s = record {
-  left = omega arith;
-  right = omega arith;
-  has = omega arith;
-  later = omega arith;
-  truth = λ on. outcome-false s.nodes on ∙ sym (ap (λ b. b && b) (outcome-false s.nodes on));
-}
 
 pub computed_filled : (s : Store) (old : List Joined) (n m : ℕ) (filler : Joined) → IsComputed s filler → AreComputed s old → AreComputed s (take n old ++ replicate m filler)
 computed_filled s old n m filler is are = All-append (IsComputed s) (take n old) (replicate m filler) (All-take (IsComputed s) n old are) (All-replicate (IsComputed s) m filler is)

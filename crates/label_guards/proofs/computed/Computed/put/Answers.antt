@@ -6,4 +6,4 @@ use Rattle.label_guards.proofs.computed.Computed.put.Goals as goal
 
 pub returns-then-index-len : goal.returns-then-index-len
 returns-then-index-len c = λ s are is. subst (λ (results : List Joined). AreComputed s (slice_set results c.index-index.result c.args.joined)) (sym c.self.view_is)
-    (All-set (IsComputed s) c.make_room.new.self c.index-index.result c.args.joined is (c.make_room.ensures s are))
+    (All-set (IsComputed s) c.make_room.new.self c.index-index.result c.args.joined is (c.make_room.ensures s are is))
