@@ -5,6 +5,7 @@ pub mod CanonicalLabel
 pub mod Examples
 pub mod FewNumbers
 pub mod Formula
+pub mod HeldMarks
 pub mod Label
 pub mod LabelExamples
 pub mod LabelLaws

@@ -85,11 +85,5 @@ fn is_edge(description: &Description, edge: &Edge) -> bool
     edge.from < description.states
         && edge.to < description.states
         && edge.label.is_below(description.names.len())
-        && are_marks(edge.marks.as_slice(), description.sets)
-}
-
-fn are_marks(marks: &[u32], sets: u32) -> bool
-    ensures { IsTrue result ↔ All (λ mark. mark < sets) marks.now }
-{
-    marks.iter().all(|mark| *mark < sets)
+        && edge.marks.are_below(description.sets)
 }

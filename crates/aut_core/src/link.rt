@@ -56,6 +56,6 @@ pub(crate) fn marks_rise(links: &[Link])
     ensures { All (λ l. AllPairs (λ m n. m < n) l.marks) links.now }
 {
     'links: for link in links {
-        let _marks = link.marks.as_slice();
+        let _count = link.marks.len();
     }
 }

@@ -3,7 +3,6 @@
 ghost use Rattle.std.specs.Prelude.{◌≡◌, ◌+◌, ◌<◌, ◌^◌, ◌++◌, All, IfOk, map};
 
 use aut_base::{Marks, Memory};
-use aut_core::copy_marks;
 
 /// The marks, and after them the others raised by this number, which is greater than each of the first.
 pub fn joint_marks(marks: &Marks, others: &Marks, by: u32) -> Result<Marks, Memory>
@@ -11,9 +10,5 @@ pub fn joint_marks(marks: &Marks, others: &Marks, by: u32) -> Result<Marks, Memo
     requires others { All (λ mark. mark + by < 2 ^ 32) others.now }
     ensures { IfOk result (λ all. all ≡ marks.now ++ map (λ mark. mark + by) others.now) }
 {
-    let mut all = copy_marks(marks)?;
-    'others: for mark in others.as_slice() {
-        all.push(*mark + by)?;
-    }
-    Ok(all)
+    marks.joint(others, by)
 }

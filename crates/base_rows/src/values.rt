@@ -31,7 +31,7 @@ fn marks(alloc: Global, words: &str) -> Result<Marks, Fault> {
     }
     for word in words.split(',') {
         let mark = number(word)?;
-        if !marks.as_slice().iter().all(|other| *other < mark) {
+        if !marks.are_below(mark) {
             return Err(Fault::Misplaced);
         }
         marks.push(mark)?;

@@ -1,7 +1,7 @@
 //! What `describe` answers, in words: the automaton that is described, or the fault.
 
 use crate::conditions::show_formula;
-use aut_base::{Description, Edge, Label, Labels};
+use aut_base::{Description, Edge, Label, Labels, Marks};
 use hoa_parser::Raw;
 use hoa_reader::{ElabFault, describe};
 use row_files::Answer;
@@ -66,6 +66,18 @@ fn show_label(answer: &mut Answer, label: &Label) {
     }
 }
 
+/// Adds the numbers of sets, in braces, where there are any.
+fn show_marks(answer: &mut Answer, marks: &Marks) {
+    if marks.is_empty() {
+        return;
+    }
+    answer.add(b" {");
+    for place in 0..marks.len() {
+        answer.add_count(b"", *marks.at(place));
+    }
+    answer.add(b" }");
+}
+
 /// Adds an edge.
 fn show_edge(answer: &mut Answer, edge: &Edge) {
     answer.add_count(b";", edge.from);
@@ -73,7 +85,7 @@ fn show_edge(answer: &mut Answer, edge: &Edge) {
     show_label(answer, &edge.label);
     answer.add(b"]");
     answer.add_count(b"", edge.to);
-    answer.add_marks(edge.marks.as_slice());
+    show_marks(answer, &edge.marks);
 }
 
 /// Adds what is described.

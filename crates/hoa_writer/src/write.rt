@@ -154,6 +154,6 @@ fn push_link(alloc: Global, out: &mut Text, guards: &Guards, link: &Link) -> Res
     guards.push_cubes(alloc, out, link.guard)?;
     out.extend(b"] ")?;
     push_number(out, link.to)?;
-    push_marks(out, link.marks.as_slice())?;
+    push_marks(out, &link.marks)?;
     out.push(b'\n')
 }

@@ -185,9 +185,18 @@ fn arc_at(alloc: Global, link: &Link, word: &Word, place: usize) -> Result<Arc, 
     Ok(Arc {
         from: node(link.from as usize, length, place),
         to: node(link.to as usize, length, next),
-        sets: link.marks.as_slice().to_vec(alloc)?,
+        sets: sets(alloc, &link.marks)?,
         kinds: kinds(link.marks.has(0), link.marks.has(1)),
     })
+}
+
+/// The sets of an edge.
+fn sets(alloc: Global, marks: &Marks) -> Result<Vec<u32>, Memory> {
+    let mut sets = Vec::new(alloc);
+    for place in 0..marks.len() {
+        sets.push(*marks.at(place))?;
+    }
+    Ok(sets)
 }
 
 fn kinds(in_first: bool, in_second: bool) -> u32 {

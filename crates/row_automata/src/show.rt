@@ -116,9 +116,9 @@ fn push_link(alloc: Global, text: &mut Text, a: &Automaton, link: &Link) -> Resu
     push_number(alloc, text, link.from)?;
     push_label(alloc, text, a, link)?;
     push_number(alloc, text, link.to)?;
-    for mark in link.marks.as_slice() {
+    for place in 0..link.marks.len() {
         text.push(b'+')?;
-        push_number(alloc, text, *mark)?;
+        push_number(alloc, text, *link.marks.at(place))?;
     }
     Ok(())
 }

@@ -48,10 +48,13 @@ fn read_link(a: &Automaton, link: &Link, letters: &[Letter]) -> Step {
         }
         bit = bit.wrapping_mul(2);
     }
-    let sets = link.marks.as_slice().iter();
+    let mut sets = 0;
+    for place in 0..link.marks.len() {
+        sets |= 1u32 << (*link.marks.at(place)).min(31);
+    }
     Step {
         to: link.to,
-        sets: sets.fold(0, |bits, set| bits | 1u32 << (*set).min(31)),
+        sets,
         letters: read,
     }
 }
