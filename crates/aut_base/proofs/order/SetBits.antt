@@ -72,7 +72,8 @@ count_more w n so_far =
     let parts : ones (last * 2 ^ n + w % 2 ^ n) ≡ ones last + ones (w % 2 ^ n) = ones_cat n last (w % 2 ^ n) (mod_below w (2 ^ n) (pow_pos n)) in
     let whole : w % 2 ^ (1 + n) ≡ last * 2 ^ n + w % 2 ^ n = mod-pow-add w 1 n in
     let turned : n + 1 ≡ 1 + n = omega arith in
-    let long : length (bits_below (n + 1) w) ≡ length (bits_below n w) + length (cond (last == 1) (n ∷ []) []) = ap length (bits_more w n) ∙ length-append (bits_below n w) (cond (last == 1) (n ∷ []) []) in
+    let long : length (bits_below (n + 1) w) ≡ length (bits_below n w) + length (cond (last == 1) (n ∷ []) []) =
+    ap length (bits_more w n) ∙ length-append (bits_below n w) (cond (last == 1) (n ∷ []) []) in
     let sum : length (bits_below n w) + length (cond (last == 1) (n ∷ []) []) ≡ ones last + ones (w % 2 ^ n) = omega (arith, own, so_far) in
     long ∙ (sum ∙ (sym parts ∙ (ap ones (sym whole) ∙ ap (λ k. ones (w % 2 ^ k)) (sym turned))))
 
