@@ -81,16 +81,33 @@ impl RawEdges {
         }
     }
 
-    /// The same where there is no list yet. It says it of any list, so that nothing has to be asked for.
+    /// The same where there is no list yet.
     fn push_first(&mut self, edge: RawEdge) -> Result<(), Memory>
         ensures { OnOk result (self.new ≡ self.old ++ edge ∷ []) }
     {
         self.held = match mem::replace(&mut self.held, HeldEdges::None) {
             HeldEdges::None => HeldEdges::One(edge),
-            HeldEdges::One(first) => HeldEdges::More(pair(self.alloc, first, edge)?),
-            HeldEdges::More(edges) => HeldEdges::More(longer(edges, edge)?),
+            some => HeldEdges::More(longer(listed(self.alloc, some)?, edge)?),
         };
         Ok(())
+    }
+
+    /// The edges as a list of its own.
+    pub fn into_list(self) -> Result<Seq<RawEdge>, Memory>
+        ensures { IfOk result (λ edges. edges ≡ self) }
+    {
+        listed(self.alloc, self.held)
+    }
+}
+
+/// These edges as a list.
+fn listed(alloc: Global, held: HeldEdges) -> Result<Seq<RawEdge>, Memory>
+    ensures { IfOk result (λ edges. edges ≡ held_edges held) }
+{
+    match held {
+        HeldEdges::None => Ok(Seq::new(alloc)),
+        HeldEdges::One(edge) => longer(Seq::new(alloc), edge),
+        HeldEdges::More(edges) => Ok(edges),
     }
 }
 
@@ -100,15 +117,5 @@ fn longer(edges: Seq<RawEdge>, edge: RawEdge) -> Result<Seq<RawEdge>, Memory>
 {
     let mut edges = edges;
     edges.push(edge)?;
-    Ok(edges)
-}
-
-/// The list of these two.
-fn pair(alloc: Global, first: RawEdge, second: RawEdge) -> Result<Seq<RawEdge>, Memory>
-    ensures { IfOk result (λ edges. edges ≡ first ∷ second ∷ []) }
-{
-    let mut edges = Seq::from_vec(Vec::with_capacity(alloc, 4)?);
-    edges.push(first)?;
-    edges.push(second)?;
     Ok(edges)
 }
