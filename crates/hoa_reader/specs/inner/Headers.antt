@@ -1,5 +1,5 @@
 -- What is moved out of a header: the names, the condition and the name, each as it stands first.
-use Rattle.std.specs.Prelude.{◌≡◌, ℕ, List, [], ◌∷◌, filter_map, get_or, slice_get, Option, Some, None}
+use Rattle.std.specs.Prelude.{◌≡◌, ℕ, List, [], filter_map, get_or, slice_get, Option, Some, None}
 use Rattle.std.specs.Option.{option_map}
 use Rattle.aut_base.specs.Formula.{FormulaTree, formula_tree}
 use Rattle.hoa_parser.specs.Naming.{name_item}

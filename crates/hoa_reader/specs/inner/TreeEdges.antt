@@ -36,8 +36,12 @@ label_for x s i e = option_map_or (expanded (meanings_by x.defs.items)) s.label
 abbrev pub tree_edge_for : Shared → WrittenState → ℕ → WrittenEdge → LabelledEdge
 tree_edge_for x s i e = record { from = s.number; label = label_for x s i e; to = only_state e.to; marks = marks_in_order x.sets (s.marks ++ e.marks) }
 
+-- of edges of the state, from this place in it on
+abbrev pub tree_edges_at : Shared → WrittenState → ℕ → List WrittenEdge → List LabelledEdge
+tree_edges_at x s i es = map (λ p. tree_edge_for x s p.0 p.1) (enumerate_from i es)
+
 abbrev pub tree_edges_for : Shared → WrittenState → List LabelledEdge
-tree_edges_for x s = map (λ p. tree_edge_for x s p.0 p.1) (enumerate_from 0 s.edges)
+tree_edges_for x s = tree_edges_at x s 0 s.edges
 
 abbrev pub states_at : List WrittenState → ℕ → List WrittenState
 states_at states q = filter (λ s. s.number == q) states

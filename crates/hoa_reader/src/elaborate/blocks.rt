@@ -7,9 +7,9 @@ use aut_base::{Memory, Seq};
 use std::alloc::Global;
 use std::marker::Model;
 
-/// So many items are in a block, and in the first at most. Of states these are some 400 kB, which the allocator gives back to the
-/// system at once.
-const BLOCK: usize = 4_096;
+/// So many items are in a block, and in the first at most. Of edges these are 160 kB, of states some more, which the allocator gives
+/// back to the system at once.
+pub(crate) const BLOCK: usize = 4_096;
 
 /// Items in order, in blocks, so that who takes one after the other lets each go by itself. What is short is one block. Contracts see
 /// the list of the blocks.

@@ -1,6 +1,6 @@
 //! The edges of the described automaton, with guards in place of labels.
 
-ghost use Rattle.std.specs.Prelude.{◌≡◌, ◌<◌, ◌==◌, ◌++◌, All, true, flat_map, map, IfOk, OnOk};
+ghost use Rattle.std.specs.Prelude.{◌≡◌, ◌+◌, ◌<◌, ◌^◌, ◌==◌, ◌++◌, All, true, flat_map, length, map, IfOk, OnOk};
 ghost use Rattle.std.specs.List.{AllByRecursion, list_all};
 ghost use Rattle.aut_base.specs.CanonicalLabel.{canonical_label};
 ghost use Rattle.aut_base.specs.Label.{AllBelow, truth};
@@ -11,18 +11,18 @@ ghost use Rattle.hoa_reader.specs.Validity.{all_differ, marks_below, numbers_bel
 ghost use Rattle.hoa_reader.specs.inner.Kept.{AreKept};
 ghost use Rattle.hoa_reader.specs.inner.PickedOut.{numbers};
 ghost use Rattle.hoa_reader.specs.inner.Rising.{rises_from};
-ghost use Rattle.hoa_reader.specs.inner.TreeEdges.{HasKnown, HasLabelsBelow, edges_for, label_for, replaced, settled, tree_edge_for, tree_edges_for};
+ghost use Rattle.hoa_reader.specs.inner.TreeEdges.{HasKnown, HasLabelsBelow, edges_for, label_for, replaced, settled, tree_edge_for, tree_edges_at, tree_edges_for};
 ghost use Rattle.label_guards.specs.Guards.{IsGuardOf};
 ghost use Rattle.label_guards.specs.Store.{Has, Keeps, label_in};
 
-use crate::elaborate::blocks::Blocks;
+use crate::elaborate::blocks::{BLOCK, Blocks};
 use crate::elaborate::edges::{Shared, label_written, marks_of, places_of};
 use crate::elaborate::kept::Kept;
 use crate::elaborate::starts::only_state;
 use crate::elaborate::written::guard_written;
 use aut_base::Memory;
 use aut_core::{Link, Links};
-use hoa_parser::{RawEdge, RawLabel, RawState, RawStates};
+use hoa_parser::{RawEdge, RawEdges, RawLabel, RawState, RawStates};
 use label_guards::{Guard, Guards};
 use std::alloc::Global;
 
@@ -100,6 +100,38 @@ fn link_of(
     })
 }
 
+/// Adds some edges of the state. The first of them has this place in it.
+fn add_some(
+    alloc: Global,
+    guards: &mut Guards,
+    kept: &mut Kept,
+    links: &mut Links,
+    shared: &Shared<'_>,
+    state: &RawState,
+    edges: &[RawEdge],
+    first: u64,
+) -> Result<(), Memory>
+    requires known { HasKnown shared.now }
+    requires names { guards.old.names ≡ shared.now.names }
+    requires few { first + length edges.now < 2 ^ 64 }
+    requires own { numbers_below shared.now.sets state.now.marks ≡ true }
+    requires marks { list_all (λ e. numbers_below shared.now.sets e.marks) (map written_edge edges.now) ≡ true }
+    requires below { AllByRecursion (λ e. AllBelow guards.old.names e.label) (tree_edges_at shared.now (written_state state.now) first (map written_edge edges.now)) }
+    requires has { All (λ l. Has guards.old l.guard) links.old }
+    requires kept { AreKept guards.old kept.old }
+    ensures names { guards.new.names ≡ guards.old.names }
+    ensures kept { AreKept guards.new kept.new }
+    ensures stand { OnOk result (StandFor guards.new links.new (map (edge_of guards.old) links.old ++ map (settled guards.old.names) (tree_edges_at shared.now (written_state state.now) first (map written_edge edges.now)))) }
+{
+    let mut letter = first;
+    'written: for edge in edges {
+        let new = link_of(alloc, guards, kept, shared, state, edge, letter)?;
+        links.push(new)?;
+        letter += 1;
+    }
+    Ok(())
+}
+
 /// Adds the edges of the state.
 fn add_links(
     alloc: Global,
@@ -119,11 +151,42 @@ fn add_links(
     ensures kept { AreKept guards.new kept.new }
     ensures stand { OnOk result (StandFor guards.new links.new (map (edge_of guards.old) links.old ++ map (settled guards.old.names) (tree_edges_for shared.now (written_state state.now)))) }
 {
-    let mut letter = 0;
-    'written: for edge in state.edges.as_slice() {
-        let new = link_of(alloc, guards, kept, shared, state, edge, letter)?;
-        links.push(new)?;
-        letter += 1;
+    let edges = state.edges.as_slice();
+    add_some(alloc, guards, kept, links, shared, state, edges, 0)
+}
+
+/// The same, where they are many. Each block of them is let go once its links are made.
+fn add_many(
+    alloc: Global,
+    guards: &mut Guards,
+    kept: &mut Kept,
+    links: &mut Links,
+    shared: &Shared<'_>,
+    state: RawState,
+) -> Result<(), Memory>
+    requires known { HasKnown shared.now }
+    requires names { guards.old.names ≡ shared.now.names }
+    requires marks { marks_below shared.now.sets (written_state state) ≡ true }
+    requires below { HasLabelsBelow shared.now guards.old.names (written_state state) }
+    requires has { All (λ l. Has guards.old l.guard) links.old }
+    requires kept { AreKept guards.old kept.old }
+    ensures names { guards.new.names ≡ guards.old.names }
+    ensures kept { AreKept guards.new kept.new }
+    ensures stand { OnOk result (StandFor guards.new links.new (map (edge_of guards.old) links.old ++ map (settled guards.old.names) (tree_edges_for shared.now (written_state state)))) }
+{
+    let head = RawState {
+        label: state.label,
+        number: state.number,
+        marks: state.marks,
+        edges: RawEdges::new(alloc),
+    };
+    let count = state.edges.len();
+    let mut blocks = Blocks::new(alloc, state.edges.into_list()?)?;
+    let mut first = 0;
+    'left: while let Some(block) = blocks.next() {
+        let edges = block.as_slice();
+        add_some(alloc, guards, kept, links, shared, &head, edges, first)?;
+        first += edges.len() as u64;
     }
     Ok(())
 }
@@ -153,9 +216,8 @@ fn add_all(
     Ok(())
 }
 
-// Why so: 'What is written goes while edges grow' in docs/DECISIONS.md.
-/// The edges of the states, in the order in which these stand. Each block of states is let go once it has its edges.
-fn links_in_turn(
+/// The edges of the states, in the order in which these stand. Each block of states is let go once its edges are made.
+fn links_in_blocks(
     alloc: Global,
     guards: &mut Guards,
     shared: &Shared<'_>,
@@ -182,6 +244,49 @@ fn links_in_turn(
         )?;
     }
     Ok(links)
+}
+
+/// The same. Each state goes by itself, and of one with many edges each block of these.
+fn links_one_by_one(
+    alloc: Global,
+    guards: &mut Guards,
+    shared: &Shared<'_>,
+    states: RawStates,
+) -> Result<Links, Memory>
+    requires known { HasKnown shared.now }
+    requires names { guards.old.names ≡ shared.now.names }
+    requires marks { list_all (marks_below shared.now.sets) (map written_state states) ≡ true }
+    requires below { All (HasLabelsBelow shared.now guards.old.names) (map written_state states) }
+    ensures names { guards.new.names ≡ guards.old.names }
+    ensures stand { IfOk result (λ links. StandFor guards.new links (map (settled guards.old.names) (flat_map (tree_edges_for shared.now) (map written_state states)))) }
+{
+    let mut links = Links::from_vec(Vec::with_capacity(alloc, shared.edges)?);
+    let mut kept = Kept::new(alloc);
+    'states: for state in states.into_vec() {
+        add_many(alloc, guards, &mut kept, &mut links, shared, state)?;
+    }
+    Ok(links)
+}
+
+// Why so: 'What is written goes while edges grow' in docs/DECISIONS.md.
+/// The edges of the states, in the order in which these stand. What is done with is let go.
+fn links_in_turn(
+    alloc: Global,
+    guards: &mut Guards,
+    shared: &Shared<'_>,
+    states: RawStates,
+) -> Result<Links, Memory>
+    requires known { HasKnown shared.now }
+    requires names { guards.old.names ≡ shared.now.names }
+    requires marks { list_all (marks_below shared.now.sets) (map written_state states) ≡ true }
+    requires below { All (HasLabelsBelow shared.now guards.old.names) (map written_state states) }
+    ensures names { guards.new.names ≡ guards.old.names }
+    ensures stand { IfOk result (λ links. StandFor guards.new links (map (settled guards.old.names) (flat_map (tree_edges_for shared.now) (map written_state states)))) }
+{
+    if states.len() <= BLOCK && shared.edges > BLOCK {
+        return links_one_by_one(alloc, guards, shared, states);
+    }
+    links_in_blocks(alloc, guards, shared, states)
 }
 
 /// The edges, in the order of the states that they leave. Numbers mostly rise, so that no place of a state is looked for.

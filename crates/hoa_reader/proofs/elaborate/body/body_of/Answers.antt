@@ -1,8 +1,7 @@
-use Rattle.std.proofs.Common.{◌∙◌, ◌<◌, All, List, ap, arith, length, map, subst, sym}
-use Rattle.std.specs.List.{AllByRecursion, list_all}
+use Rattle.std.proofs.Common.{◌∙◌, ◌<◌, All, List, ap, arith, map, subst, sym}
+use Rattle.std.specs.List.{AllByRecursion}
 use Rattle.hoa_parser.specs.Raw.{WrittenState, written, written_item, written_state}
 use Rattle.hoa_parser.specs.declared.raw.Item.{Item}
-use Rattle.hoa_parser.specs.declared.raw.RawState.{RawState}
 use Rattle.hoa_reader.proofs.counting.EdgeCounts.{states_below}
 use Rattle.hoa_reader.proofs.description.Built.{few_names, stand_for}
 use Rattle.hoa_reader.proofs.description.Framed.{framed_labels, framed_marks}

@@ -1,4 +1,4 @@
-use Rattle.std.proofs.Common.{◌∙◌, arith, sym}
+use Rattle.std.proofs.Common.{arith}
 use Rattle.hoa_reader.proofs.labels.CubeShapes.{tells_joined_more, tells_joined_one}
 use Rattle.hoa_reader.proofs.elaborate.cube.joined_shape.Goals as goal
 

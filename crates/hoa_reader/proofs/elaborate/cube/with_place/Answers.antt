@@ -1,8 +1,6 @@
-use Rattle.std.proofs.Common.{◌∙◌, ap, sym}
+use Rattle.std.proofs.Common.{◌∙◌, sym}
 use Rattle.hoa_parser.specs.Raw.{has_bit}
 use Rattle.hoa_reader.proofs.labels.CubeShapes.{tells_added}
-use Rattle.hoa_reader.specs.inner.Cubes.{Tells}
-use Rattle.hoa_parser.specs.Raw.{raw_literal}
 use Rattle.hoa_reader.proofs.elaborate.cube.with_place.Goals as goal
 
 pub returns : goal.returns

@@ -1,4 +1,8 @@
+use Rattle.std.proofs.Common.{◌∙◌, ap}
+use Rattle.hoa_reader.specs.Described.{only_state}
 use Rattle.hoa_reader.proofs.elaborate.edges.edge_of.Goals as goal
 
 pub returns : goal.returns
-returns c = λ i. record { from = c.args.state.now.number; label = c.in_ok-label_of.ensures i; to = c.only_state.ensures i; marks = c.in_ok-marks_of.ensures i }
+returns c =
+    let to = c.only_state.ensures ∙ ap only_state c.to.ensures in
+    λ i. record { from = c.args.state.now.number; label = c.in_ok-label_of.ensures i; to = to i; marks = c.in_ok-marks_of.ensures i }

@@ -1,8 +1,5 @@
-use Rattle.std.proofs.Common.{List, subst}
 use Rattle.hoa_parser.specs.Raw.{written}
 use Rattle.hoa_reader.proofs.description.Refusals.{frame_none}
-use Rattle.hoa_reader.specs.Counts.{PassesNone}
-use Rattle.hoa_reader.specs.Validity.{IsValid}
 use Rattle.hoa_reader.specs.declared.elaborate.ElabFault.TheVariants as fault
 use Rattle.hoa_reader.proofs.elaborate.examined.examine.Goals as goal
 

@@ -1,4 +1,4 @@
-use Rattle.std.proofs.Common.{◌≡◌, ◌++◌, ◌∷◌, [], ◌+◌, ◌∙◌, List, Some, ap, arith, map, refl, slice_get, subst, sym, take}
+use Rattle.std.proofs.Common.{◌≡◌, ◌++◌, ◌∷◌, [], ◌+◌, ◌∙◌, List, Some, ap, map, refl, slice_get, subst, sym, take}
 use Rattle.std.proofs.lemmas.Grind.{flat_map-append}
 use Rattle.std.proofs.lemmas.List.{append-nil, append_assoc, map-append}
 use Rattle.std.proofs.lemmas.List.Folds.{list_all-map}
@@ -11,7 +11,6 @@ use Rattle.aut_base.specs.Automaton.{LabelledEdge}
 use Rattle.aut_core.proofs.Following.{stand_itself}
 use Rattle.aut_core.specs.SymbolicAutomata.{edge_of}
 use Rattle.aut_core.specs.Links.{StandFor}
-use Rattle.aut_core.specs.declared.link.Link.{Link}
 use Rattle.hoa_parser.specs.Raw.{written_state}
 use Rattle.hoa_parser.specs.declared.raw.RawState.{RawState}
 use Rattle.hoa_reader.specs.Validity.{marks_below}

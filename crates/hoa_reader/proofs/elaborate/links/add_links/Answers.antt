@@ -1,64 +1,33 @@
-use Rattle.std.proofs.Common.{◌++◌, ◌+◌, ◌∙◌, List, ap, arith, map, subst, sym}
+use Rattle.std.proofs.Common.{◌++◌, List, map, subst, sym}
+use Rattle.std.proofs.lemmas.Bool.{and_parts}
+use Rattle.std.proofs.lemmas.Result.{on_ok_weaker}
 use Rattle.std.specs.List.{AllByRecursion}
 use Rattle.aut_base.specs.Automaton.{LabelledEdge}
 use Rattle.aut_base.specs.Label.{AllBelow}
+use Rattle.aut_core.specs.Links.{StandFor}
 use Rattle.aut_core.specs.SymbolicAutomata.{edge_of}
 use Rattle.hoa_parser.specs.Raw.{written_edge, written_state}
-use Rattle.hoa_reader.proofs.labels.LinkedEdges.{AreOnTheWay, all_linked, edges_from, link_more, next_edge, no_edge}
-use Rattle.hoa_reader.proofs.labels.MarksBelow.{edge_marks_below}
-use Rattle.hoa_reader.specs.inner.TreeEdges.{label_for, settled, tree_edge_for, tree_edges_for}
+use Rattle.hoa_parser.specs.declared.raw.RawEdge.{RawEdge}
+use Rattle.hoa_reader.proofs.labels.MarksBelow.{marks_of_edges}
+use Rattle.hoa_reader.specs.inner.TreeEdges.{settled, tree_edges_at}
 use Rattle.hoa_reader.proofs.elaborate.links.add_links.Goals as goal
 
-pub link_of-requires-clause-names : goal.link_of-requires-clause-names
-link_of-requires-clause-names c = c.written.invariant.names ∙ c.requires.names
+pub add_some-requires-clause-own : goal.add_some-requires-clause-own
+add_some-requires-clause-own c = (and_parts _ _ c.requires.marks).0
 
-pub link_of-requires-clause-marks : goal.link_of-requires-clause-marks
-link_of-requires-clause-marks c =
-    edge_marks_below c.args.shared.now.sets c.args.state.now c.as_slice-edge-items.result.now c.written.edge-index c.edge-item.result c.requires.marks
-    c.as_slice-edge-items.ensures
-    c.written-test.true c.edge-item.is
+pub add_some-requires-clause-marks : goal.add_some-requires-clause-marks
+add_some-requires-clause-marks c = marks_of_edges c.args.shared.now.sets c.args.state.now c.as_slice-edges.result.now c.requires.marks c.as_slice-edges.ensures
 
-pub link_of-requires-clause-below : goal.link_of-requires-clause-below
-link_of-requires-clause-below c =
-    let x = c.args.shared.now in
-    let state = c.args.state.now in
-    let edge = c.edge-item.result in
+pub add_some-requires-clause-below : goal.add_some-requires-clause-below
+add_some-requires-clause-below c =
     let n = c.args.guards.now.names in
-    let here = c.written.invariant in
-    let next = next_edge x state c.as_slice-edge-items.result.now c.written.edge-index edge c.as_slice-edge-items.ensures c.written-test.true c.edge-item.is in
-    let all = subst (AllByRecursion (λ (e : LabelledEdge). AllBelow n e.label)) next here.below in
-    subst (λ m. AllBelow m (label_for x (written_state state) c.written.letter (written_edge edge))) (sym here.names)
-    (subst (λ i. AllBelow n (label_for x (written_state state) i (written_edge edge))) (sym here.letter) all.0)
-
-pub written-preserved : goal.written-preserved
-written-preserved c =
-    let x = c.args.shared.now in
-    let state = c.args.state.now in
-    let edge = c.edge-item.result in
-    let n = c.args.guards.now.names in
-    let here = c.written.invariant in
-    let next = next_edge x state c.as_slice-edge-items.result.now c.written.edge-index edge c.as_slice-edge-items.ensures c.written-test.true c.edge-item.is in
-    let all : List LabelledEdge = map (edge_of c.args.guards.now) c.args.links.now ++ map (settled n) (tree_edges_for x (written_state state)) in
-    record {
-      kept = c.link_of.ensures.kept;
-      letter = ap (λ i. i + 1) here.letter;
-      names = c.link_of.ensures.keeps.names ∙ here.names;
-      below = (subst (AllByRecursion (λ (e : LabelledEdge). AllBelow n e.label)) next here.below).1;
-      way = link_more c.written.guards c.link_of.new.guards c.written.links c.push.new.self c.in_ok-new.new
-          (settled n (tree_edge_for x (written_state state) c.written.edge-index (written_edge edge)))
-          (map (settled n) (edges_from x state (c.written.edge-index + 1))) all
-          (subst (λ (es : List LabelledEdge). AreOnTheWay c.written.guards c.written.links (map (settled n) es) all) next here.way)
-          c.link_of.ensures.keeps c.in_ok-new.ensures.has
-          (c.in_ok-new.ensures.edge ∙ ap (λ m. settled m (tree_edge_for x (written_state state) c.written.letter (written_edge edge))) here.names
-          ∙ ap (λ i. settled n (tree_edge_for x (written_state state) i (written_edge edge))) here.letter) c.in_ok-push.ensures.ok;
-    }
+    subst (λ (es : List RawEdge). AllByRecursion (λ (e : LabelledEdge). AllBelow n e.label)
+    (tree_edges_at c.args.shared.now (written_state c.args.state.now) 0 (map written_edge es))) (sym c.as_slice-edges.ensures) c.requires.below
 
 pub returns-clause-stand : goal.returns-clause-stand
 returns-clause-stand c =
-    let x = c.args.shared.now in
-    let state = c.args.state.now in
-    let n = c.args.guards.now.names in
-    let all : List LabelledEdge = map (edge_of c.args.guards.now) c.args.links.now ++ map (settled n) (tree_edges_for x (written_state state)) in
-    let none = no_edge x state c.as_slice-edge-items.result.now c.written.edge-index c.as_slice-edge-items.ensures (omega (arith, c.written-test.false)) in
-    all_linked c.written.guards c.written.links all
-    (subst (λ (es : List LabelledEdge). AreOnTheWay c.written.guards c.written.links (map (settled n) es) all) none c.written.invariant.way)
+    let before = map (edge_of c.args.guards.now) c.args.links.now in
+    on_ok_weaker c.add_some.result
+    (λ stand. subst (λ (es : List RawEdge). StandFor c.add_some.new.guards c.add_some.new.links
+    (before ++ map (settled c.args.guards.now.names) (tree_edges_at c.args.shared.now (written_state c.args.state.now) 0 (map written_edge es))))
+    c.as_slice-edges.ensures stand) c.add_some.ensures.stand

@@ -1,5 +1,8 @@
+use Rattle.std.proofs.Common.{◌∙◌, ap}
+use Rattle.hoa_reader.specs.Described.{only_state}
 use Rattle.hoa_reader.proofs.elaborate.links.link_of.Goals as goal
 
 pub returns-clause-edge : goal.returns-clause-edge
 returns-clause-edge c =
-    λ i. record { from = c.args.state.now.number; label = c.in_ok-guard_of.ensures.label i; to = c.only_state.ensures i; marks = c.in_ok-marks_of.ensures i }
+    let to = c.only_state.ensures ∙ ap only_state c.to.ensures in
+    λ i. record { from = c.args.state.now.number; label = c.in_ok-guard_of.ensures.label i; to = to i; marks = c.in_ok-marks_of.ensures i }

@@ -6,7 +6,7 @@ use Rattle.hoa_reader.specs.Validity.{marks_below}
 use Rattle.hoa_reader.specs.inner.TreeEdges.{HasLabelsBelow, settled, tree_edges_for}
 use Rattle.hoa_reader.specs.inner.Kept.{AreKept}
 use Rattle.hoa_parser.specs.Raw.{written_state}
-use Rattle.hoa_reader.proofs.elaborate.links.links_in_turn.Given as goal
+use Rattle.hoa_reader.proofs.elaborate.links.links_in_blocks.Given as goal
 
 abbrev pub invariant-left : goal.invariant-left
 invariant-left l =

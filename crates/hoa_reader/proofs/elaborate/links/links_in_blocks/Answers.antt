@@ -1,4 +1,4 @@
-use Rattle.std.proofs.Common.{◌≡◌, ◌++◌, ◌∷◌, ◌∙◌, [], true, All, List, ap, arith, map, refl, subst, sym}
+use Rattle.std.proofs.Common.{◌≡◌, ◌++◌, ◌∙◌, [], true, All, List, ap, arith, map, refl, subst, sym}
 use Rattle.std.specs.List.{list_all}
 use Rattle.std.specs.Prelude.{flat_map}
 use Rattle.aut_base.specs.Automaton.{LabelledEdge}
@@ -10,7 +10,7 @@ use Rattle.hoa_parser.specs.declared.raw.RawState.{RawState}
 use Rattle.hoa_reader.proofs.labels.LinkedEdges.{AreOnTheWay, link_block, parts_below, parts_pass, states_left}
 use Rattle.hoa_reader.specs.Validity.{marks_below}
 use Rattle.hoa_reader.specs.inner.TreeEdges.{HasLabelsBelow, settled, tree_edges_for}
-use Rattle.hoa_reader.proofs.elaborate.links.links_in_turn.Goals as goal
+use Rattle.hoa_reader.proofs.elaborate.links.links_in_blocks.Goals as goal
 
 pub left-init : goal.left-init
 left-init c =
