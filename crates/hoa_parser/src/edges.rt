@@ -76,19 +76,21 @@ impl RawEdges {
         ensures { OnOk result (self.new ≡ self.old ++ edge ∷ []) }
     {
         match &mut self.held {
+            HeldEdges::None => {
+                self.held = HeldEdges::One(edge);
+                Ok(())
+            }
+            HeldEdges::One(_) => self.push_second(edge),
             HeldEdges::More(edges) => edges.push(edge),
-            _ => self.push_first(edge),
         }
     }
 
-    /// The same where there is no list yet.
-    fn push_first(&mut self, edge: RawEdge) -> Result<(), Memory>
+    /// The same where one stands there alone.
+    fn push_second(&mut self, edge: RawEdge) -> Result<(), Memory>
         ensures { OnOk result (self.new ≡ self.old ++ edge ∷ []) }
     {
-        self.held = match mem::replace(&mut self.held, HeldEdges::None) {
-            HeldEdges::None => HeldEdges::One(edge),
-            some => HeldEdges::More(longer(listed(self.alloc, some)?, edge)?),
-        };
+        let first = mem::replace(&mut self.held, HeldEdges::None);
+        self.held = HeldEdges::More(longer(listed(self.alloc, first)?, edge)?);
         Ok(())
     }
 

@@ -1,6 +1,6 @@
 //! Where an edge leads, and its acceptance sets, as they are written.
 
-ghost use Rattle.std.specs.Prelude.{◌≡◌, IfOk};
+ghost use Rattle.std.specs.Prelude.{◌≡◌, [], ◌∷◌, IfOk};
 
 use aut_base::{FewNumbers, Memory};
 use std::alloc::Global;
@@ -44,12 +44,41 @@ impl EdgeEnds {
     pub fn new(alloc: Global, to: FewNumbers, marks: FewNumbers) -> Result<EdgeEnds, Memory>
         ensures { IfOk result (λ ends. ends ≡ record { to = to; marks = marks }) }
     {
-        let held = match (to.as_slice(), marks.as_slice()) {
-            ([state], []) => HeldEnds::One([*state]),
-            ([state], [set]) => HeldEnds::Two([*state, *set]),
-            ([state], [set, other]) => HeldEnds::Three([*state, *set, *other]),
-            _ => HeldEnds::More(Box::new(alloc, EndLists { to, marks })?),
+        match to.as_slice() {
+            [state] => EdgeEnds::at_state(alloc, *state, marks),
+            _ => EdgeEnds::listed(alloc, to, marks),
+        }
+    }
+
+    /// This state alone, and these sets.
+    #[inline]
+    pub(crate) fn at_state(alloc: Global, state: u32, marks: FewNumbers) -> Result<EdgeEnds, Memory>
+        ensures { IfOk result (λ ends. ends ≡ record { to = state ∷ []; marks = marks }) }
+    {
+        let held = match marks.as_slice() {
+            [] => HeldEnds::One([state]),
+            [set] => HeldEnds::Two([state, *set]),
+            [set, other] => HeldEnds::Three([state, *set, *other]),
+            _ => return EdgeEnds::with_many(alloc, state, marks),
         };
+        Ok(EdgeEnds { held })
+    }
+
+    /// The same, where the sets are many.
+    #[cold]
+    fn with_many(alloc: Global, state: u32, marks: FewNumbers) -> Result<EdgeEnds, Memory>
+        ensures { IfOk result (λ ends. ends ≡ record { to = state ∷ []; marks = marks }) }
+    {
+        let mut to = FewNumbers::new(alloc);
+        to.push(state)?;
+        EdgeEnds::listed(alloc, to, marks)
+    }
+
+    /// These states and these sets as two lists.
+    fn listed(alloc: Global, to: FewNumbers, marks: FewNumbers) -> Result<EdgeEnds, Memory>
+        ensures { IfOk result (λ ends. ends ≡ record { to = to; marks = marks }) }
+    {
+        let held = HeldEnds::More(Box::new(alloc, EndLists { to, marks })?);
         Ok(EdgeEnds { held })
     }
 

@@ -373,9 +373,7 @@ fn maybe_marks(alloc: Global, bytes: &[u8]) -> Option<(FewNumbers, &[u8])>
 fn ends_at(alloc: Global, goal: u32, marks: FewNumbers) -> Option<EdgeEnds>
     ensures { MatchOption result (Unit {0}) (λ ends. ends ≡ record { to = goal ∷ []; marks = marks }) }
 {
-    let mut to = FewNumbers::new(alloc);
-    to.push(goal).ok()?;
-    EdgeEnds::new(alloc, to, marks).ok()
+    EdgeEnds::at_state(alloc, goal, marks).ok()
 }
 
 /// What begins here, and what stands behind its first token.
