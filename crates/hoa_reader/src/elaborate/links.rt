@@ -180,7 +180,8 @@ fn add_many(
         marks: state.marks,
         edges: RawEdges::new(alloc),
     };
-    let count = state.edges.len();
+    // So that each letter is known to have a number.
+    let _count = state.edges.len();
     let mut blocks = Blocks::new(alloc, state.edges.into_list()?)?;
     let mut first = 0;
     'left: while let Some(block) = blocks.next() {
