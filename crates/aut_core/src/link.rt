@@ -15,8 +15,8 @@ pub type Links = Seq<Link>;
 #[derive(Clone, Debug, Drop)]
 pub struct Link {
     pub from: u32,
-    pub guard: Guard,
     pub to: u32,
+    pub guard: Guard,
     pub marks: Marks,
 }
 
