@@ -1,7 +1,8 @@
 //! Conditions, in the notation of rows and as text.
 
+use crate::words::count;
 use aut_base::{Formula, Formulas, Memory, Text};
-use row_files::{Fault, number};
+use row_files::Answer;
 use std::alloc::Global;
 
 /// What joins the parts of a condition.
@@ -12,9 +13,9 @@ pub(crate) enum Node {
 }
 
 /// Reads a condition in reverse Polish notation: `I0` and `F0` are `Inf(0)` and `Fin(0)`, `I!0` and `F!0` have the negated
-/// set, `t` and `f`, `&` and `|` join the last two parts, `&&` and `||` the last three, and `&40` is a conjunction of 40
+/// set, `t` and `f`, `&` and `|` join the last two parts, `&&` and `||` the last three, and `&40` adds a conjunction of 40
 /// copies of the last part.
-pub(crate) fn formula(alloc: Global, text: &str) -> Result<Formula, Fault> {
+pub(crate) fn formula(alloc: Global, text: &str) -> Result<Formula, Memory> {
     let mut parts = Vec::new(alloc);
     for word in text.split(' ') {
         let part = written(alloc, word, &mut parts)?;
@@ -23,35 +24,28 @@ pub(crate) fn formula(alloc: Global, text: &str) -> Result<Formula, Fault> {
     Ok(last(&mut parts))
 }
 
-fn written(alloc: Global, word: &str, parts: &mut Vec<Formula>) -> Result<Formula, Fault> {
+fn written(alloc: Global, word: &str, parts: &mut Vec<Formula>) -> Result<Formula, Memory> {
     match word {
-        "t" => Ok(Formula::True),
-        "f" => Ok(Formula::False),
-        "&" => Ok(last_two(alloc, Node::And, parts)?),
-        "|" => Ok(last_two(alloc, Node::Or, parts)?),
-        "&&" => Ok(last_three(alloc, Node::And, parts)?),
-        "||" => Ok(last_three(alloc, Node::Or, parts)?),
-        _ => match word.strip_prefix('&') {
-            Some(times) => Ok(repeated(alloc, number(times)?, parts)?),
-            None => atom(word),
+        "&" => last_two(alloc, Node::And, parts),
+        "|" => last_two(alloc, Node::Or, parts),
+        "&&" => last_three(alloc, Node::And, parts),
+        "||" => last_three(alloc, Node::Or, parts),
+        _ => match (word.strip_prefix('&'), parts.last()) {
+            (Some(times), Some(part)) => repeated(alloc, count(times), part),
+            _ => Ok(atom(word)),
         },
     }
 }
 
-fn atom(word: &str) -> Result<Formula, Fault> {
-    if let Some(rest) = word.strip_prefix('I') {
-        let (neg, set) = set_of(rest)?;
-        return Ok(Formula::Inf { set, neg });
-    }
-    let (neg, set) = set_of(word.strip_prefix('F').ok_or(Fault::UnknownKind)?)?;
-    Ok(Formula::Fin { set, neg })
-}
-
-/// The set, and whether `!` precedes it.
-fn set_of(word: &str) -> Result<(bool, u32), Fault> {
-    match word.strip_prefix('!') {
-        Some(set) => Ok((true, number(set)?)),
-        None => Ok((false, number(word)?)),
+/// `t`, or an atom, or `f` for another word.
+fn atom(word: &str) -> Formula {
+    let neg = word.contains('!');
+    let set = count(word.trim_start_matches(['I', 'F', '!'].as_slice()));
+    match word.bytes().next() {
+        Some(b't') => Formula::True,
+        Some(b'I') => Formula::Inf { set, neg },
+        Some(b'F') => Formula::Fin { set, neg },
+        _ => Formula::False,
     }
 }
 
@@ -68,22 +62,23 @@ fn last_three(alloc: Global, node: Node, parts: &mut Vec<Formula>) -> Result<For
     triple(alloc, node, first, second, third)
 }
 
-/// The conjunction of so many copies of the last part, at least two.
-fn repeated(alloc: Global, times: u32, parts: &mut Vec<Formula>) -> Result<Formula, Memory> {
-    let part = last(parts);
-    let mut copies = Formulas::pair(alloc, part.copy(alloc)?, part.copy(alloc)?)?;
+/// The conjunction of so many copies of a part, at least two.
+fn repeated(alloc: Global, times: u32, part: &Formula) -> Result<Formula, Memory> {
+    let mut copies = twice(alloc, part)?;
     for _ in 2..times {
         copies.push(part.copy(alloc)?)?;
     }
     Ok(Formula::And(copies))
 }
 
+fn twice(alloc: Global, part: &Formula) -> Result<Formulas, Memory> {
+    let first = part.copy(alloc)?;
+    Formulas::pair(alloc, first, part.copy(alloc)?)
+}
+
 /// Takes the last part; it is `f` where there is none.
 fn last(parts: &mut Vec<Formula>) -> Formula {
-    match parts.pop() {
-        Some(part) => part,
-        None => Formula::False,
-    }
+    parts.pop().unwrap_or(Formula::False)
 }
 
 /// Two parts, joined.
@@ -117,17 +112,17 @@ pub(crate) fn triple(
 }
 
 /// The condition as a text.
-pub(crate) fn shown(alloc: Global, formula: &Formula) -> Result<Text, Fault> {
-    let mut out = Text::new(alloc);
-    show(&mut out, formula)?;
-    Ok(out)
+pub(crate) fn shown(alloc: Global, formula: &Formula) -> Result<Text, Memory> {
+    let mut out = Answer::new(alloc);
+    show(&mut out, formula);
+    out.end()
 }
 
 #[cycle(show)]
-fn show(out: &mut Text, formula: &Formula) -> Result<(), Memory> {
+fn show(out: &mut Answer, formula: &Formula) {
     match formula {
-        Formula::True => out.push(b't'),
-        Formula::False => out.push(b'f'),
+        Formula::True => out.add(b"t"),
+        Formula::False => out.add(b"f"),
         Formula::Inf { set, neg } => show_atom(out, b"Inf(", *set, *neg),
         Formula::Fin { set, neg } => show_atom(out, b"Fin(", *set, *neg),
         Formula::And(parts) => show_parts(out, parts, b" & "),
@@ -135,23 +130,23 @@ fn show(out: &mut Text, formula: &Formula) -> Result<(), Memory> {
     }
 }
 
-fn show_atom(out: &mut Text, word: &[u8], set: u32, neg: bool) -> Result<(), Memory> {
-    out.extend(word)?;
+fn show_atom(out: &mut Answer, word: &[u8], set: u32, neg: bool) {
+    out.add(word);
     if neg {
-        out.push(b'!')?;
+        out.add(b"!");
     }
-    out.push(b'0' + (set % 10) as u8)?;
-    out.push(b')')
+    out.add_number(u64::from(set));
+    out.add(b")");
 }
 
 #[cycle(show)]
-fn show_parts(out: &mut Text, parts: &Formulas, separator: &[u8]) -> Result<(), Memory> {
-    out.push(b'(')?;
+fn show_parts(out: &mut Answer, parts: &Formulas, separator: &[u8]) {
+    out.add(b"(");
     'parts: for place in 0..parts.len() {
         if place > 0 {
-            out.extend(separator)?;
+            out.add(separator);
         }
-        show(out, parts.at(place))?;
+        show(out, parts.at(place));
     }
-    out.push(b')')
+    out.add(b")");
 }

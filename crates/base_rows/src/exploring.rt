@@ -3,12 +3,14 @@
 mod doubling;
 mod rising;
 
-use crate::words::{parted, text};
-use aut_base::{Numbers, Text};
+ghost use Rattle.std.specs.Prelude.{◌<◌};
+
+use crate::words::{count, part, rest, two_counts};
+use aut_base::{Memory, Numbers, Text};
 use doubling::{Doubling, Number};
 use exploration::{Explored, Fault, Limits, explore};
 use rising::Rising;
-use row_files::number;
+use row_files::Answer;
 use std::alloc::Global;
 use std::hash::Hash;
 
@@ -20,43 +22,40 @@ enum Outcome {
 }
 
 /// From `BOUND; STATES CLASSES`: how the exploration of the doubled numbers from 1 ends.
-pub(crate) fn doubled(alloc: Global, line: &str) -> Result<Text, row_files::Fault> {
-    let (bound, rest) = parted(line)?;
+pub(crate) fn doubled(alloc: Global, line: &str) -> Result<Text, Memory> {
     let mut system = Doubling {
-        bound: number(bound)?,
+        bound: count(part(line, 0)),
         made: Numbers::new(alloc),
     };
-    let limits = limits(rest)?;
-    if limits.states == 0 {
-        return Err(row_files::Fault::Missing);
-    }
+    let limits = limits(rest(line));
     let found = explore(alloc, &mut system, Number { n: 1 }, limits);
     shown(alloc, outcome_of(found))
 }
 
 /// From `STATES CLASSES`: how the exploration from the list of 1 and 2 ends.
-pub(crate) fn risen(alloc: Global, line: &str) -> Result<Text, row_files::Fault> {
-    let limits = limits(line)?;
-    if limits.states == 0 {
-        return Err(row_files::Fault::Missing);
-    }
-    let mut start = Numbers::new(alloc);
-    start.push(1)?;
-    start.push(2)?;
+pub(crate) fn risen(alloc: Global, line: &str) -> Result<Text, Memory> {
+    let start = one_and_two(alloc)?;
     let mut system = Rising { steps: 0 };
-    shown(
-        alloc,
-        outcome_of(explore(alloc, &mut system, start, limits)),
-    )
+    let found = explore(alloc, &mut system, start, limits(line));
+    shown(alloc, outcome_of(found))
 }
 
-/// The limits of states and of classes.
-fn limits(words: &str) -> Result<Limits, row_files::Fault> {
-    let (states, classes) = words.split_once(' ').ok_or(row_files::Fault::Missing)?;
-    Ok(Limits {
-        states: number(states)?,
-        classes: number(classes)?,
-    })
+fn one_and_two(alloc: Global) -> Result<Numbers, Memory> {
+    let mut numbers = Numbers::new(alloc);
+    numbers.push(1)?;
+    numbers.push(2)?;
+    Ok(numbers)
+}
+
+/// The limits of states, which is not 0, and of classes.
+fn limits(words: &str) -> Limits
+    ensures { 0 < result.states }
+{
+    let (states, classes) = two_counts(words);
+    Limits {
+        states: states.max(1),
+        classes,
+    }
 }
 
 fn outcome_of<T: Eq + Hash + Drop, C: Copy, N: Copy>(
@@ -71,10 +70,11 @@ fn outcome_of<T: Eq + Hash + Drop, C: Copy, N: Copy>(
     }
 }
 
-fn shown(alloc: Global, outcome: Outcome) -> Result<Text, row_files::Fault> {
-    let words = match outcome {
-        Outcome::Found { states, edges } => format!(in alloc; "{states} states, {edges} edges")?,
-        Outcome::Met(fault) => format!(in alloc; "limit {fault:?}")?,
-    };
-    text(alloc, words.as_bytes())
+fn shown(alloc: Global, outcome: Outcome) -> Result<Text, Memory> {
+    let mut answer = Answer::new(alloc);
+    answer.add_words(match outcome {
+        Outcome::Found { states, edges } => format!(in alloc; "{states} states, {edges} edges"),
+        Outcome::Met(fault) => format!(in alloc; "limit {fault:?}"),
+    });
+    answer.end()
 }

@@ -6,13 +6,12 @@ mod holds;
 mod shape;
 
 use crate::conditions::{formula, shown};
-use crate::words::{digits, parted, text, truth};
+use crate::words::{count, digits, part, text, truth};
 use aut_base::{Formula, Memory, Text};
 use calls::{
-    both, count, either, holds_without_marks, opposite, parity, raised, speaks_of_fin, spread,
-    terms,
+    both, either, holds_without_marks, opposite, parity, raised, speaks_of_fin, spread, terms,
+    terms_counted,
 };
-use row_files::{Fault, number};
 use std::alloc::Global;
 
 /// The calls on one condition or two.
@@ -28,25 +27,26 @@ pub(crate) enum Call {
 }
 
 /// What a call makes of the conditions of a line, as text.
-pub(crate) fn made(alloc: Global, call: Call, line: &str) -> Result<Text, Fault> {
+pub(crate) fn made(alloc: Global, call: Call, line: &str) -> Result<Text, Memory> {
+    let first = formula(alloc, part(line, 0))?;
     match call {
-        Call::Dual | Call::Shift | Call::Spread => made_of_one(alloc, call, &formula(alloc, line)?),
-        Call::Conj | Call::Disj => made_of_two(alloc, call, line),
+        Call::Dual | Call::Shift | Call::Spread => made_of_one(alloc, call, &first),
+        Call::Conj | Call::Disj => made_of_two(alloc, call, &first, part(line, 1)),
     }
 }
 
-fn made_of_one(alloc: Global, call: Call, f: &Formula) -> Result<Text, Fault> {
+fn made_of_one(alloc: Global, call: Call, f: &Formula) -> Result<Text, Memory> {
     match call {
         Call::Dual => shown(alloc, &opposite(alloc, f)?),
-        Call::Shift => shown_if(alloc, &raised(alloc, f)?),
-        _ => shown_if(alloc, &spread_out(alloc, f)?),
+        Call::Shift => shown_if(alloc, raised(alloc, f)?),
+        _ => shown_if(alloc, spread_out(alloc, f)?),
     }
 }
 
 /// The text of a condition, or `none`.
-fn shown_if(alloc: Global, made: &Option<Formula>) -> Result<Text, Fault> {
+fn shown_if(alloc: Global, made: Option<Formula>) -> Result<Text, Memory> {
     match made {
-        Some(made) => shown(alloc, made),
+        Some(made) => shown(alloc, &made),
         None => text(alloc, b"none"),
     }
 }
@@ -59,15 +59,9 @@ fn spread_out(alloc: Global, f: &Formula) -> Result<Option<Formula>, Memory> {
     }
 }
 
-fn made_of_two(alloc: Global, call: Call, line: &str) -> Result<Text, Fault> {
-    let (first, second) = parted(line)?;
-    let made = joined(
-        alloc,
-        call,
-        &formula(alloc, first)?,
-        &formula(alloc, second)?,
-    );
-    shown(alloc, &made?)
+fn made_of_two(alloc: Global, call: Call, f: &Formula, second: &str) -> Result<Text, Memory> {
+    let g = formula(alloc, second)?;
+    shown(alloc, &joined(alloc, call, f, &g)?)
 }
 
 fn joined(alloc: Global, call: Call, f: &Formula, g: &Formula) -> Result<Formula, Memory> {
@@ -78,27 +72,27 @@ fn joined(alloc: Global, call: Call, f: &Formula, g: &Formula) -> Result<Formula
 }
 
 /// Whether the condition has a `Fin`.
-pub(crate) fn has_fin(alloc: Global, line: &str) -> Result<Text, Fault> {
+pub(crate) fn has_fin(alloc: Global, line: &str) -> Result<Text, Memory> {
     truth(alloc, speaks_of_fin(&formula(alloc, line)?))
 }
 
 /// Whether the condition holds on a cycle without marks.
-pub(crate) fn empty_meets(alloc: Global, line: &str) -> Result<Text, Fault> {
+pub(crate) fn empty_meets(alloc: Global, line: &str) -> Result<Text, Memory> {
     truth(alloc, holds_without_marks(&formula(alloc, line)?))
 }
 
 /// The parity condition of so many priorities.
-pub(crate) fn parity_min_odd(alloc: Global, line: &str) -> Result<Text, Fault> {
-    shown_if(alloc, &parity(alloc, number(line)?)?)
+pub(crate) fn parity_min_odd(alloc: Global, line: &str) -> Result<Text, Memory> {
+    shown_if(alloc, parity(alloc, count(line))?)
 }
 
 /// The number of terms of the disjunctive normal form, before it is made.
-pub(crate) fn terms_count(alloc: Global, line: &str) -> Result<Text, Fault> {
-    digits(alloc, count(&formula(alloc, line)?))
+pub(crate) fn terms_count(alloc: Global, line: &str) -> Result<Text, Memory> {
+    digits(alloc, terms_counted(&formula(alloc, line)?))
 }
 
 /// The number of terms that are made, or `too many`.
-pub(crate) fn disjuncts(alloc: Global, line: &str) -> Result<Text, Fault> {
+pub(crate) fn disjuncts(alloc: Global, line: &str) -> Result<Text, Memory> {
     match terms(alloc, &formula(alloc, line)?)? {
         Some(found) => digits(alloc, found.len() as u64),
         None => text(alloc, b"too many"),

@@ -6,81 +6,72 @@ pub(crate) mod sample;
 mod tables;
 
 use crate::labels::label;
-use crate::words::{parted, text};
-use aut_base::{MOST_NAMES, Text};
+use crate::words::{count, part, rest, text};
+use aut_base::{MOST_NAMES, Memory, Text};
 use calls::{classes, cubes, of_label, push_cubes};
 use label_guards::{Guard, GuardList, Guards};
-use row_files::{Fault, number};
+use row_files::Answer;
 use std::alloc::Global;
 
-/// From `PROPOSITIONS; LABEL`: the text of a label over so many propositions. Both calls that write it have to agree.
-pub(crate) fn canonical(alloc: Global, line: &str) -> Result<Text, Fault> {
-    let (props, written) = parted(line)?;
-    let props = number(props)?;
-    if props > MOST_NAMES {
-        return Err(Fault::Missing);
-    }
-    let mut store = Guards::new(alloc, props)?;
-    let guard = guard(alloc, &mut store, written)?;
-    let mut answer = text(alloc, b"[")?;
-    if !push_cubes(alloc, &store, &mut answer, guard)? {
-        return Err(Fault::Failed);
-    }
-    let mut wanted = text(alloc, b"[")?;
-    add_cubes(alloc, &mut wanted, &store, guard)?;
-    if answer != wanted {
-        answer.extend(b" and ")?;
-        answer.extend(wanted.as_bytes())?;
-    }
-    answer.push(b']')?;
-    Ok(answer)
+/// From `PROPOSITIONS; LABEL`: the text of a label over so many propositions.
+pub(crate) fn canonical(alloc: Global, line: &str) -> Result<Text, Memory> {
+    let mut store = Guards::new(alloc, count(part(line, 0)).min(MOST_NAMES))?;
+    let guard = guard(alloc, &mut store, part(line, 1))?;
+    text_of(alloc, &store, guard)
 }
 
 /// The guard of a label.
-fn guard(alloc: Global, store: &mut Guards, written: &str) -> Result<Guard, Fault> {
-    of_label(store, &label(alloc, written)?)?.ok_or(Fault::Failed)
+fn guard(alloc: Global, store: &mut Guards, written: &str) -> Result<Guard, Memory> {
+    let label = label(alloc, written)?;
+    of_label(store, &label)
 }
 
-/// Adds the text of a guard.
-fn add_cubes(alloc: Global, out: &mut Text, store: &Guards, guard: Guard) -> Result<(), Fault> {
-    match cubes(alloc, store, guard)? {
-        Some(text) => Ok(out.extend(text.as_bytes())?),
-        None => Err(Fault::Failed),
+/// The text of a guard, in brackets. Both calls that write it have to agree.
+fn text_of(alloc: Global, store: &Guards, guard: Guard) -> Result<Text, Memory> {
+    let text = cubes(alloc, store, guard)?;
+    let pushed = push_cubes(alloc, store, guard)?;
+    let mut answer = Answer::new(alloc);
+    answer.add(b"[");
+    answer.add(text.as_bytes());
+    if pushed != text {
+        answer.add(b" and ");
+        answer.add(pushed.as_bytes());
     }
+    answer.add(b"]");
+    answer.end()
 }
 
 /// From `MOST; LABEL; LABEL..`, with `-` for no label: the classes of labels over two propositions, or `more` where there are
 /// more than `MOST`.
-pub(crate) fn divided(alloc: Global, line: &str) -> Result<Text, Fault> {
-    let (most, written) = parted(line)?;
+pub(crate) fn divided(alloc: Global, line: &str) -> Result<Text, Memory> {
     let mut store = Guards::new(alloc, 2)?;
-    let list = list(alloc, &mut store, written)?;
-    match classes(alloc, &mut store, &list, number(most)?)? {
+    let list = list(alloc, &mut store, rest(line))?;
+    match classes(alloc, &mut store, &list, count(part(line, 0)))? {
         Some(found) => each_text(alloc, &store, &found),
         None => text(alloc, b"more"),
     }
 }
 
 /// The guards of these labels.
-fn list(alloc: Global, store: &mut Guards, written: &str) -> Result<GuardList, Fault> {
+fn list(alloc: Global, store: &mut Guards, written: &str) -> Result<GuardList, Memory> {
     let mut list = GuardList::new(alloc);
     if written == "-" {
         return Ok(list);
     }
-    for label in written.split(';') {
-        list.push(guard(alloc, store, label.trim_start())?)?;
+    for label in written.split("; ") {
+        list.push(guard(alloc, store, label)?)?;
     }
     Ok(list)
 }
 
 /// The texts of guards.
-fn each_text(alloc: Global, store: &Guards, guards: &GuardList) -> Result<Text, Fault> {
-    let mut answer = Text::new(alloc);
+fn each_text(alloc: Global, store: &Guards, guards: &GuardList) -> Result<Text, Memory> {
+    let mut answer = Answer::new(alloc);
     for guard in guards.as_slice() {
         if !answer.is_empty() {
-            answer.extend(b"; ")?;
+            answer.add(b"; ");
         }
-        add_cubes(alloc, &mut answer, store, *guard)?;
+        answer.add(cubes(alloc, store, *guard)?.as_bytes());
     }
-    Ok(answer)
+    answer.end()
 }

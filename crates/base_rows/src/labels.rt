@@ -1,12 +1,12 @@
 //! Labels, in the notation of rows.
 
+use crate::words::count;
 use aut_base::{Label, Labels, Memory};
-use row_files::{Fault, number};
 use std::alloc::Global;
 
 /// Reads a label in reverse Polish notation: `t` and `f`, a number for a proposition, `!` negates the last part, `&` and `|`
 /// join the last two, `&&` and `||` the last three.
-pub(crate) fn label(alloc: Global, text: &str) -> Result<Label, Fault> {
+pub(crate) fn label(alloc: Global, text: &str) -> Result<Label, Memory> {
     let mut parts = Vec::new(alloc);
     for word in text.split(' ') {
         let part = written(alloc, word, &mut parts)?;
@@ -15,7 +15,7 @@ pub(crate) fn label(alloc: Global, text: &str) -> Result<Label, Fault> {
     Ok(last(&mut parts))
 }
 
-fn written(alloc: Global, word: &str, parts: &mut Vec<Label>) -> Result<Label, Fault> {
+fn written(alloc: Global, word: &str, parts: &mut Vec<Label>) -> Result<Label, Memory> {
     match word {
         "t" => Ok(Label::True),
         "f" => Ok(Label::False),
@@ -24,7 +24,7 @@ fn written(alloc: Global, word: &str, parts: &mut Vec<Label>) -> Result<Label, F
         "|" => Ok(Label::Or(Box::new(alloc, last_two(alloc, parts))?)),
         "&&" => Ok(Label::And(Box::new(alloc, last_three(alloc, parts)?)?)),
         "||" => Ok(Label::Or(Box::new(alloc, last_three(alloc, parts)?)?)),
-        _ => Ok(Label::Prop(number(word)?)),
+        _ => Ok(Label::Prop(count(word))),
     }
 }
 
@@ -43,8 +43,5 @@ fn last_three(alloc: Global, parts: &mut Vec<Label>) -> Result<Labels, Memory> {
 
 /// Takes the last part; it is `f` where there is none.
 fn last(parts: &mut Vec<Label>) -> Label {
-    match parts.pop() {
-        Some(part) => part,
-        None => Label::False,
-    }
+    parts.pop().unwrap_or(Label::False)
 }

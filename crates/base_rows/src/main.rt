@@ -13,7 +13,7 @@ mod streams;
 mod values;
 mod words;
 
-use aut_base::Text;
+use aut_base::{Memory, Text};
 use graphs::large::{Shape, explored};
 use row_files::{Answers, Count, Fault, Stop, ask};
 use std::alloc::Global;
@@ -44,14 +44,12 @@ struct Base;
 
 impl Answers for Base {
     fn answer(&self, rt: &HostRuntime, call: &str, text: &Text) -> Result<Text, Fault> {
-        let Ok(line) = std::str::from_utf8(text.as_bytes()) else {
-            return Err(Fault::UnknownEscape);
-        };
-        answer(rt.alloc(), call, line.trim_end())
+        let line = std::str::from_utf8(text.as_bytes()).unwrap_or("");
+        Ok(answer(rt.alloc(), call, line.trim_end())?)
     }
 }
 
-fn answer(alloc: Global, call: &str, line: &str) -> Result<Text, Fault> {
+fn answer(alloc: Global, call: &str, line: &str) -> Result<Text, Memory> {
     match call {
         "met_by" => values::met_by(alloc, line),
         "holds" => values::holds(alloc, line),
@@ -77,7 +75,7 @@ fn answer(alloc: Global, call: &str, line: &str) -> Result<Text, Fault> {
     }
 }
 
-fn answer_of_upper(alloc: Global, call: &str, line: &str) -> Result<Text, Fault> {
+fn answer_of_upper(alloc: Global, call: &str, line: &str) -> Result<Text, Memory> {
     match call {
         "reach" => graphs::reached(alloc, line),
         "components" => graphs::numbered(alloc, line),
@@ -93,6 +91,6 @@ fn answer_of_upper(alloc: Global, call: &str, line: &str) -> Result<Text, Fault>
         "is_deterministic, is_complete" => automata::judged(alloc, line),
         "over" => automata::over(alloc, line),
         "join_names" => automata::together(alloc, line),
-        _ => Err(Fault::UnknownKind),
+        _ => words::text(alloc, b"no such call"),
     }
 }

@@ -47,7 +47,7 @@ pub(crate) fn spread(alloc: Global, terms: &Terms) -> Result<Formula, Memory> {
     of_terms(alloc, terms)
 }
 
-pub(crate) fn count(formula: &Formula) -> u64 {
+pub(crate) fn terms_counted(formula: &Formula) -> u64 {
     terms_count(formula)
 }
 

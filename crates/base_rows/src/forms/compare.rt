@@ -2,7 +2,7 @@
 
 use crate::conditions::{Node, pair, shown};
 use crate::forms::calls::{
-    RAISED, both, count, either, holds_without_marks, opposite, raised, spread, terms,
+    RAISED, both, either, holds_without_marks, opposite, raised, spread, terms, terms_counted,
 };
 use crate::forms::holds::truths;
 use crate::forms::shape::{ATOMS, SHAPES, atom};
@@ -66,7 +66,7 @@ fn is_spread_rightly(alloc: Global, formula: &Formula, own: &[bool]) -> Result<b
         return Ok(false);
     };
     let truths = truths(alloc, &spread(alloc, &found)?, 0)?;
-    Ok(truths.as_slice() == own && found.len() as u64 == count(formula))
+    Ok(truths.as_slice() == own && found.len() as u64 == terms_counted(formula))
 }
 
 /// Whether conjunctions and disjunctions with some other conditions have the right truth.

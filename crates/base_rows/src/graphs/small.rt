@@ -27,30 +27,44 @@ pub(crate) fn count_all(rt: &HostRuntime, count: &mut Count) -> Result<(), Fault
 
 /// Whether the calls agree with the powers of the graph's matrix.
 fn agrees(alloc: Global, bits: u32) -> Result<bool, Memory> {
-    let graph = graph(alloc, 3, &arcs(alloc, bits)?)?;
+    let arcs = arcs(alloc, bits)?;
+    agrees_on(alloc, &graph(alloc, 3, &arcs)?, bits)
+}
+
+fn agrees_on(alloc: Global, graph: &Graph, bits: u32) -> Result<bool, Memory>
+    requires nodes { graph.now.nodes ≡ 3 }
+    requires arcs { HasNodes 3 graph.now.arcs }
+{
     let once = matrix(bits);
     let twice = squared(&once);
     let reached = squared(&twice);
-    let numbers = components(alloc, &graph)?;
     'pairs: for pair in 0..9u32 {
-        let (p, q) = (pair / 3, pair % 3);
-        let there = reached[3 * p as usize + q as usize];
-        let back = reached[3 * q as usize + p as usize];
-        let together = numbers.at(p as usize) == numbers.at(q as usize);
-        let length = match (p == q, once[pair as usize], twice[pair as usize]) {
+        let length = match (pair % 4 == 0, once[pair as usize], twice[pair as usize]) {
             (true, _, _) => Some(0),
             (_, true, _) => Some(1),
             (_, _, true) => Some(2),
             _ => None,
         };
-        if reaches(alloc, &graph, p, q)? != there
-            || together != (there && back)
-            || shortest(alloc, &graph, p, q)? != length
+        let (p, q) = (pair / 3, pair % 3);
+        if reaches(alloc, graph, p, q)? != reached[pair as usize]
+            || shortest(alloc, graph, p, q)? != length
         {
             return Ok(false);
         }
     }
-    Ok(true)
+    Ok(are_numbered(components(alloc, graph)?.as_slice(), &reached))
+}
+
+/// Whether two nodes have one number exactly where each reaches the other.
+fn are_numbered(numbers: &[u32], reached: &Matrix) -> bool {
+    'pairs: for pair in 0..9usize {
+        let (p, q) = (pair / 3, pair % 3);
+        let together = numbers.get(p) == numbers.get(q);
+        if together != (reached[pair] && reached[3 * q + p]) {
+            return false;
+        }
+    }
+    numbers.len() == 3
 }
 
 fn arcs(alloc: Global, bits: u32) -> Result<Vec<(u32, u32)>, Memory> {

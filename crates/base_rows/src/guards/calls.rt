@@ -1,15 +1,16 @@
-//! The calls, with None where their preconditions fail. Each is in a function of its own, so that what compares their answers
+//! The calls, with `None` where their preconditions fail. Each is in a function of its own, so that what compares their answers
 //! doesn't have to prove anything from their contracts.
 
 use aut_base::{Label, Letter, Memory, Names, Numbers, Text};
 use label_guards::{Brought, Guard, GuardList, Guards};
 use std::alloc::Global;
 
-pub(crate) fn of_label(store: &mut Guards, label: &Label) -> Result<Option<Guard>, Memory> {
+/// The guard of a label, or `f` where it speaks of other propositions than the store.
+pub(crate) fn of_label(store: &mut Guards, label: &Label) -> Result<Guard, Memory> {
     if !label.is_below(store.names() as usize) {
-        return Ok(None);
+        return Ok(store.never());
     }
-    Ok(Some(store.of_label(label)?))
+    store.of_label(label)
 }
 
 pub(crate) fn and(store: &mut Guards, g: Guard, h: Guard) -> Result<Option<Guard>, Memory> {
@@ -60,10 +61,10 @@ pub(crate) fn bring(
     if !to.as_slice().iter().all(|place| *place < store.names()) {
         return Ok(None);
     }
+    let alone = store.bring(alloc, other, g, to)?;
     let mut brought = Brought::new(alloc);
     let first = store.bring_more(&mut brought, other, g, to)?;
     let again = store.bring_more(&mut brought, other, g, to)?;
-    let alone = store.bring(alloc, other, g, to)?;
     Ok((first == alone && again == alone).then_some(alone))
 }
 
@@ -131,24 +132,19 @@ pub(crate) fn classes(
     store.classes(alloc, list, most)
 }
 
-/// The text of a guard.
-pub(crate) fn cubes(alloc: Global, store: &Guards, g: Guard) -> Result<Option<Text>, Memory> {
+/// The text of a guard, or none where the store doesn't have it.
+pub(crate) fn cubes(alloc: Global, store: &Guards, g: Guard) -> Result<Text, Memory> {
     if !store.has(g) {
-        return Ok(None);
+        return Ok(Text::new(alloc));
     }
-    Ok(Some(store.cubes(alloc, g)?))
+    store.cubes(alloc, g)
 }
 
-/// Adds the text of a guard, and answers whether the store has it.
-pub(crate) fn push_cubes(
-    alloc: Global,
-    store: &Guards,
-    out: &mut Text,
-    g: Guard,
-) -> Result<bool, Memory> {
-    if !store.has(g) {
-        return Ok(false);
+/// The same by the call that adds it to a text.
+pub(crate) fn push_cubes(alloc: Global, store: &Guards, g: Guard) -> Result<Text, Memory> {
+    let mut out = Text::new(alloc);
+    if store.has(g) {
+        store.push_cubes(alloc, &mut out, g)?;
     }
-    store.push_cubes(alloc, out, g)?;
-    Ok(true)
+    Ok(out)
 }

@@ -39,13 +39,10 @@ impl Functions {
         Ok(functions)
     }
 
-    /// The guard of a function, from a label. It is `f` where that fails, which the comparisons show.
+    /// The guard of a function, from a label.
     fn made(&mut self, alloc: Global, table: Table) -> Result<Guard, Memory> {
         let label = label(alloc, table, self.props)?;
-        match of_label(&mut self.store, &label)? {
-            Some(guard) => Ok(guard),
-            None => Ok(self.store.never()),
-        }
+        of_label(&mut self.store, &label)
     }
 
     /// The guard of a function.
