@@ -17,9 +17,7 @@ pub(crate) struct Constructions;
 impl Answers for Constructions {
     fn answer(&self, rt: &HostRuntime, call: &str, text: &Text) -> Result<Text, Fault> {
         let alloc = rt.alloc();
-        let lines = std::str::from_utf8(text.as_bytes()).unwrap_or("");
-        let (first, others) = lines.split_once('\n').unwrap_or((lines, ""));
-        let (second, _) = others.split_once('\n').unwrap_or((others, ""));
+        let (first, second) = two_lines(text);
         if let Some(call) = single_call(call) {
             return single_answer(alloc, call, first);
         }
@@ -28,6 +26,14 @@ impl Answers for Constructions {
         }
         other_answer(alloc, call, first)
     }
+}
+
+/// The first two lines of a row's input; empty where there are fewer.
+pub(crate) fn two_lines(text: &Text) -> (&str, &str) {
+    let lines = std::str::from_utf8(text.as_bytes()).unwrap_or("");
+    let (first, others) = lines.split_once('\n').unwrap_or((lines, ""));
+    let (second, _) = others.split_once('\n').unwrap_or((others, ""));
+    (first, second)
 }
 
 /// What the construction makes of the automaton of a line.

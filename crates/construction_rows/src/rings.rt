@@ -1,5 +1,6 @@
 //! Automata at the limits.
 
+use crate::shapes::ring_edges;
 use aut_base::{Edges, Formula, Formulas, Memory};
 use aut_core::Automaton;
 use row_automata::{edge, standing};
@@ -8,18 +9,8 @@ use std::alloc::Global;
 
 /// A ring of so many states whose last edge is in the first of two sets, under `Inf(0) & Inf(1)`.
 pub(crate) fn ring(alloc: Global, states: u32) -> Result<Automaton, Fault> {
-    let edges = ring_edges(alloc, states)?;
+    let edges = ring_edges(alloc, states, true)?;
     standing(alloc, states, 1, edges, both(alloc)?)
-}
-
-fn ring_edges(alloc: Global, states: u32) -> Result<Edges, Memory> {
-    let mut edges = Edges::new(alloc);
-    for from in 0..states {
-        let is_last = from.saturating_add(1) >= states;
-        let to = if is_last { 0 } else { from.saturating_add(1) };
-        edges.push(edge(alloc, from, true, to, u32::from(is_last))?)?;
-    }
-    Ok(edges)
 }
 
 /// `Inf(0) & Inf(1)`

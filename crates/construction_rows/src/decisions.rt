@@ -1,13 +1,27 @@
-//! The calls of rows, by their names.
+//! The calls that decide about automata, by their names in rows, and on random automata.
 
-use crate::ask_about::{Found, verdict, word_of, word_of_both};
-use crate::runs::{is_reduced, read_word};
+mod ask_about;
+mod emptiness;
+mod inclusion_pairs;
+mod runs;
+mod two_runs;
+
+use crate::calls::two_lines;
 use crate::shapes::{line, ring};
+use ask_about::{Found, verdict, word_of, word_of_both};
 use aut_base::{Lasso, Memory, Text};
 use aut_core::Automaton;
 use row_automata::{accepts, pair, read};
-use row_files::{Answers, Fault, kind_and_rest, number};
+use row_files::{Answers, Count, Fault, kind_and_rest, number};
+use runs::{is_reduced, read_word};
 use std::alloc::Global;
+
+/// The rows that are in no file: random automata.
+pub(crate) fn compared(rt: &HostRuntime, count: &mut Count) -> Result<(), Fault> {
+    emptiness::compared(rt, count)?;
+    inclusion_pairs::compared(rt, count)?;
+    two_runs::compared(rt, count)
+}
 
 /// Answers whether there is a word, how long it is where the automaton is large, or whether the automaton is unambiguous.
 #[derive(Drop)]
@@ -16,9 +30,7 @@ pub(crate) struct Decisions;
 impl Answers for Decisions {
     fn answer(&self, rt: &HostRuntime, call: &str, text: &Text) -> Result<Text, Fault> {
         let alloc = rt.alloc();
-        let lines = std::str::from_utf8(text.as_bytes()).unwrap_or("");
-        let (first, others) = lines.split_once('\n').unwrap_or((lines, ""));
-        let (second, _) = others.split_once('\n').unwrap_or((others, ""));
+        let (first, second) = two_lines(text);
         match call {
             "accepted_word" => accepted_answer(alloc, first),
             "word_of_both" => both_answer(alloc, first, second),

@@ -1,7 +1,7 @@
 //! Random pairs of automata: a word is found exactly where both accept some short word.
 
-use crate::ask_about::{Found, word_of_both};
-use crate::calls::is_right;
+use crate::decisions::ask_about::{Found, word_of_both};
+use crate::decisions::is_right;
 use aut_base::Memory;
 use aut_core::Automaton;
 use row_automata::{Choices, Words, accepted, chosen, condition, told_unless};

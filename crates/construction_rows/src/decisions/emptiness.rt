@@ -1,7 +1,7 @@
 //! Random automata: a word is found exactly where some short word is accepted.
 
-use crate::ask_about::{Found, word_of};
-use crate::calls::is_right;
+use crate::decisions::ask_about::{Found, word_of};
+use crate::decisions::is_right;
 use aut_base::{Memory, Text};
 use aut_core::Automaton;
 use row_automata::{Choices, Words, accepted, chosen, condition, told_unless};

@@ -22,7 +22,8 @@ pub(crate) fn ring(
     standing(alloc, states, starts, edges, again)
 }
 
-fn ring_edges(alloc: Global, states: u32, is_marked: bool) -> Result<Edges, Memory> {
+/// The edges of a ring, where `a` holds. The last may be in set 0.
+pub(crate) fn ring_edges(alloc: Global, states: u32, is_marked: bool) -> Result<Edges, Memory> {
     let mut edges = Edges::new(alloc);
     for from in 0..states {
         let is_last = from.saturating_add(1) >= states;

@@ -1,7 +1,7 @@
 //! Random automata: ambiguity by its definition, with a search through all pairs of short paths.
 
-use crate::ask_about::verdict;
-use crate::emptiness::three_edges;
+use crate::decisions::ask_about::verdict;
+use crate::decisions::emptiness::three_edges;
 use aut_base::{Formula, Marks, Memory};
 use aut_core::{Automaton, Link};
 use row_automata::{Choices, marks, told_unless};
