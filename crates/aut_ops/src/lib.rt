@@ -4,7 +4,6 @@
 mod breadth_first;
 mod completion;
 mod copies;
-mod edge_marks;
 mod fault;
 mod join;
 mod law;
@@ -19,7 +18,6 @@ mod sums;
 mod trimming;
 
 pub use completion::complete;
-pub use edge_marks::joint_marks;
 pub use fault::PairFault;
 pub use law::{
     few_pairs_exclude_more, pairs_are_determined, pairs_exist, products_are_determined,

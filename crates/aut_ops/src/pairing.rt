@@ -7,7 +7,6 @@ ghost use Rattle.aut_base.specs.declared.limit.TheConstants.{MOST_PAIRS};
 ghost use Rattle.exploration.specs.Turns.{with_new};
 ghost use Rattle.aut_ops.specs.inner.Pairings.{AddsJointEdges, AreBeyond, CanMeet, followed, meeting};
 
-use crate::edge_marks::joint_marks;
 use crate::fault::ExploreFault;
 use aut_base::{MOST_PAIRS, Memory};
 use aut_core::{Link, Links};
@@ -109,7 +108,7 @@ impl Pairing {
             return Ok(());
         }
         let to = self.number((link.to, other.to))?;
-        let marks = joint_marks(&link.marks, &other.marks, sets)?;
+        let marks = link.marks.joint(&other.marks, sets)?;
         self.links.push(Link {
             from: at,
             guard,

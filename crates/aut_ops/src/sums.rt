@@ -14,7 +14,6 @@ ghost use Rattle.aut_ops.specs.inner.Linked.{moved_link};
 ghost use Rattle.label_guards.specs.Store.{Keeps};
 
 use crate::copies::push_links;
-use crate::edge_marks::joint_marks;
 use crate::shared::share;
 use acc_forms::{conj, disj, shift};
 use aut_base::{Formula, Marks, Memory, Names, Numbers};
@@ -97,7 +96,7 @@ fn push_moved(
 {
     let none = Marks::new(alloc);
     'links: for link in more {
-        let mut marks = joint_marks(&none, &link.marks, sets)?;
+        let mut marks = none.joint(&link.marks, sets)?;
         marks.push(fresh)?;
         links.push(Link {
             from: link.from + states,
