@@ -3,7 +3,6 @@ pub mod AliasNames
 pub mod CubeLabels
 pub mod CubeShapes
 pub mod ExpandedLabels
-pub mod KeptCubes
 pub mod LetterTruth
 pub mod LettersApart
 pub mod LinkedEdges

@@ -6,7 +6,7 @@ pub mod Gathered
 pub mod Growing
 pub mod Headers
 pub mod Implicit
-pub mod Kept
+pub mod Links
 pub mod PickedOut
 pub mod Places
 pub mod Rising

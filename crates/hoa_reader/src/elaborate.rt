@@ -18,7 +18,6 @@ mod examined;
 mod frame;
 mod header;
 mod implicit;
-mod kept;
 mod labels;
 mod leaves;
 mod limits;

@@ -1,6 +1,5 @@
 -- Diagrams: reduced ones as nodes are added, the truth at their places, operations on them, and tables of results.
 pub mod Agreement
-pub mod Computed
 pub mod Growth
 pub mod Joins
 pub mod Outcomes

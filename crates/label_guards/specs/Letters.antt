@@ -1,6 +1,5 @@
 -- What is kept of the letter whose guard was made last (HOA v1, implicit labels).
 use Rattle.std.specs.Prelude.{◌≡◌, ℕ, ◌+◌, ◌≤◌, Bool, List, length, Some, slice_get}
-use Rattle.label_guards.specs.declared.guard.Guard.{Guard}
 use Rattle.label_guards.specs.Guards.{truth_in}
 use Rattle.label_guards.specs.Numbers.{last_at}
 use Rattle.label_guards.specs.Store.{Has, Store}

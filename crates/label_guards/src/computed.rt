@@ -1,18 +1,25 @@
-//! The results of operations, in a table that forgets (Brace, Rudell and Bryant 1990, the computed table of a package of diagrams).
+//! The results that a store remembers, in a table that forgets (Brace, Rudell and Bryant 1990, the computed table of a package of diagrams).
 
 ghost use Rattle.std.specs.Prelude.{◌≡◌, IfSome, []};
-ghost use Rattle.label_guards.specs.Operations.{IsJoin};
-ghost use Rattle.label_guards.specs.Computed.{AreComputed, IsComputed};
+ghost use Rattle.label_guards.specs.Computed.{AreComputed, IsComputed, IsResult};
 ghost use Rattle.label_guards.specs.Store.{Store};
 
-use crate::guards::Operation;
 use std::alloc::Global;
 use std::marker::Model;
 
-/// The place of an operation's result, with the two places that it was asked for.
+/// What a result was asked of: an operation on two places, or the conjunction of literals that two numbers give by their bits.
+#[derive(Clone, Copy, Debug, PartialEq, Eq)]
+pub(crate) enum Question {
+    And,
+    Or,
+    Xor,
+    Cube,
+}
+
+/// The place of a result, with the two numbers that it was asked of.
 #[derive(Clone, Copy)]
-pub(crate) struct Joined {
-    pub(crate) operation: Operation,
+pub(crate) struct Known {
+    pub(crate) question: Question,
     pub(crate) left: usize,
     pub(crate) right: usize,
     pub(crate) place: usize,
@@ -24,20 +31,20 @@ const FEWEST: usize = 16;
 /// To how many it grows in a small store. With no more than the store has places, inclusions took a fifth more instructions.
 const ROOMY: usize = 4_096;
 
-/// A table of results. Each has one place, by what was asked for, and takes it from the one that stands there. So a look-up is one
+/// A table of results. Each has one place, by what it was asked of, and takes it from the one that stands there. So a look-up is one
 /// comparison, and a table has at most some thousand places, or twice as many as a larger store.
 #[derive(Drop)]
 pub(crate) struct Computed {
-    table: Vec<Joined>,
+    table: Vec<Known>,
     /// How many were put since the table has its room.
     count: usize,
 }
 
 impl Model for Computed {
     ghost use Rattle.std.specs.Prelude.{List};
-    ghost use Rattle.label_guards.specs.declared.computed.Joined.{Joined};
+    ghost use Rattle.label_guards.specs.declared.computed.Known.{Known};
 
-    ghost Value = { List Joined };
+    ghost Value = { List Known };
 
     ghost view = { λ s. s.table.items };
 }
@@ -55,31 +62,31 @@ impl Computed {
 
     /// The result, if it is there.
     #[inline]
-    pub(crate) fn find(&self, operation: Operation, left: usize, right: usize) -> Option<usize>
-        ensures { IfSome result (λ place. (s : Store) → AreComputed s self.now → IsJoin s operation left right place) }
+    pub(crate) fn find(&self, question: Question, left: usize, right: usize) -> Option<usize>
+        ensures { IfSome result (λ place. (s : Store) → AreComputed s self.now → IsResult s question left right place) }
     {
-        let joined = self.table.get(self.index(operation, left, right))?;
-        if joined.operation == operation && joined.left == left && joined.right == right {
-            return Some(joined.place);
+        let known = self.table.get(self.index(question, left, right))?;
+        if known.question == question && known.left == left && known.right == right {
+            return Some(known.place);
         }
         None
     }
 
     /// Puts a result in. Once so many were put as there is room for, there is to be more, up to some thousand places or those of the store.
     /// Where memory for it is wanting the table stays as it is: it only remembers less.
-    pub(crate) fn put(&mut self, joined: Joined, places: usize)
-        ensures { (s : Store) → AreComputed s self.old → IsComputed s joined → AreComputed s self.new }
+    pub(crate) fn put(&mut self, known: Known, places: usize)
+        ensures { (s : Store) → AreComputed s self.old → IsComputed s known → AreComputed s self.new }
     {
-        self.make_room(joined, places);
-        let index = self.index(joined.operation, joined.left, joined.right);
+        self.make_room(known, places);
+        let index = self.index(known.question, known.left, known.right);
         if index < self.table.len() {
-            self.table[index] = joined;
+            self.table[index] = known;
         }
     }
 
     /// Counts one more, and makes room for twice as many where so many were put already. New places have this one.
-    fn make_room(&mut self, joined: Joined, places: usize)
-        ensures { (s : Store) → AreComputed s self.old → IsComputed s joined → AreComputed s self.new }
+    fn make_room(&mut self, known: Known, places: usize)
+        ensures { (s : Store) → AreComputed s self.old → IsComputed s known → AreComputed s self.new }
     {
         let room = self.table.len();
         if self.count < room {
@@ -88,19 +95,18 @@ impl Computed {
         }
         self.count = 1;
         if room < places.max(ROOMY) {
-            let _ = self
-                .table
-                .resize(room.saturating_mul(2).max(FEWEST), joined);
+            let _ = self.table.resize(room.saturating_mul(2).max(FEWEST), known);
         }
     }
 
     /// Where a result stands in the table. Any place would do: of results that have the same place the table knows the last.
     #[inline]
-    fn index(&self, operation: Operation, left: usize, right: usize) -> usize {
-        let kind = match operation {
-            Operation::And => 0,
-            Operation::Or => 1,
-            Operation::Xor => 2,
+    fn index(&self, question: Question, left: usize, right: usize) -> usize {
+        let kind = match question {
+            Question::And => 0,
+            Question::Or => 1,
+            Question::Xor => 2,
+            Question::Cube => 3,
         };
         let mixed = (left as u64)
             .wrapping_mul(0x9E37_79B9_7F4A_7C15)

@@ -8,6 +8,7 @@ ghost use Rattle.label_guards.specs.Numbers.{is_as_asked, is_in_cube};
 ghost use Rattle.label_guards.specs.Operations.{IsPlaceOf};
 ghost use Rattle.label_guards.specs.Store.{HasPlace, Keeps, outcome};
 
+use crate::computed::{Known, Question};
 use crate::guard::Guard;
 use crate::guards::Guards;
 use crate::letters::is_set;
@@ -16,19 +17,40 @@ use aut_base::Memory;
 #[tactic(auto, using(crate::proofs::labelled::LabelTruth::keeps))]
 impl Guards {
     /// The guard that is true where each proposition whose bit is set in `names` is as its bit of `values` says. Bits of
-    /// propositions that the store lacks say nothing. A node is made for each literal, and nothing is combined.
+    /// propositions that the store lacks say nothing. A node is made for each literal, and nothing is combined. The store remembers
+    /// some of these guards.
     pub fn of_cube(&mut self, names: u32, values: u32) -> Result<Guard, Memory>
         ensures keeps { Keeps self.old self.new }
         ensures guard { IfOk result (IsGuardOf self.new (is_in_cube names values self.old.names)) }
     {
         self.reduced();
-        let place = self.cube_place(names, values)?;
+        let place = self.cube(names, values)?;
         self.reduced();
         Ok(Guard { place })
     }
 
-    /// The place of the same. It goes from the last proposition to the first, since a node stands above those that ask for later
-    /// ones.
+    /// The place of the same, which is looked up first.
+    fn cube(&mut self, names: u32, values: u32) -> Result<usize, Memory>
+        ensures grows { Grows self.old self.new }
+        ensures place { IfOk result (IsPlaceOf self.new (is_in_cube names values self.old.names)) }
+    {
+        let (left, right) = (names as usize, values as usize);
+        if let Some(place) = self.known(Question::Cube, left, right) {
+            return Ok(place);
+        }
+        let place = self.cube_place(names, values)?;
+        let known = Known {
+            question: Question::Cube,
+            left,
+            right,
+            place,
+        };
+        self.note(known, 0);
+        Ok(place)
+    }
+
+    /// The place of the same, which is made. It goes from the last proposition to the first, since a node stands above those that ask
+    /// for later ones.
     fn cube_place(&mut self, names: u32, values: u32) -> Result<usize, Memory>
         ensures grows { Grows self.old self.new }
         ensures place { IfOk result (IsPlaceOf self.new (is_in_cube names values self.old.names)) }

@@ -1,4 +1,4 @@
-//! The store of guards: its operations, and the table of their results.
+//! The store of guards: its operations, and what it remembers.
 
 ghost use Rattle.std.specs.Prelude.{◌≡◌, ◌⊎◌, ◌<◌, ◌≤◌, ℕ, [], true, false, length, take, IfNone, IfOk, IfSome, Some};
 ghost use Rattle.aut_base.specs.declared.limit.TheConstants.{MOST_NAMES};
@@ -6,10 +6,12 @@ ghost use Rattle.label_guards.specs.declared.guard.Guard.{Guard};
 ghost use Rattle.label_guards.specs.Guards.{IsGuardOf};
 ghost use Rattle.label_guards.specs.Nodes.{AreSides, Grows, IsChoice, IsReducedDiagram, IsNodeAt, level};
 ghost use Rattle.label_guards.specs.Operations.{IsJoin, IsShort};
-ghost use Rattle.label_guards.specs.Computed.{AreComputed};
+ghost use Rattle.label_guards.specs.Computed.{AreComputed, IsComputed, IsResult, question_of};
+ghost use Rattle.label_guards.specs.Letters.{AreLastPlaces};
 ghost use Rattle.label_guards.specs.Store.{Has, HasPlace, places};
 
-use crate::computed::{Computed, Joined};
+use crate::computed::{Computed, Known, Question};
+use crate::letters::Letters;
 use crate::nodes::{Node, Nodes};
 use aut_base::Memory;
 use std::alloc::Global;
@@ -36,17 +38,18 @@ pub struct Guards {
 struct Fields {
     nodes: Nodes,
     results: Computed,
+    letters: Letters,
 }
 
 impl Model for Guards {
     ghost use Rattle.label_guards.specs.Store.{Store};
-    ghost use Rattle.label_guards.specs.Computed.{AreComputed};
+    ghost use Rattle.label_guards.specs.Computed.{AreRemembered};
 
     ghost Value = { Store };
 
     ghost view = { λ s. s.fields.value.nodes };
 
-    ghost invariant = { λ s. AreComputed s.fields.value.nodes s.fields.value.results };
+    ghost invariant = { λ s. AreRemembered s.fields.value.nodes s.fields.value.results s.fields.value.letters };
 }
 
 impl Guards {
@@ -61,19 +64,21 @@ impl Guards {
         let fields = Fields {
             nodes,
             results: Computed::new(alloc),
+            letters: Letters::new(alloc),
         };
         Ok(Guards {
             fields: Box::new(alloc, fields)?,
         })
     }
 
-    /// A store with the same guards under the same numbers, held apart. It doesn't remember results.
+    /// A store with the same guards under the same numbers, held apart. It remembers nothing yet.
     pub fn copy(&self, alloc: Global) -> Result<Guards, Memory>
         ensures { IfOk result (λ copy. copy ≡ self.now) }
     {
         let fields = Fields {
             nodes: self.fields.nodes.copy()?,
             results: Computed::new(alloc),
+            letters: Letters::new(alloc),
         };
         Ok(Guards {
             fields: Box::new(alloc, fields)?,
@@ -109,7 +114,7 @@ impl Guards {
         mem::replace(&mut self.fields.results, Computed::new(alloc))
     }
 
-    /// Takes back the nodes behind the first ones, and remembers these results of those that stay.
+    /// Takes back the nodes behind the first ones, and remembers these results of those that stay, and no letter.
     pub(crate) fn cut(&mut self, count: usize, results: Computed)
         requires { AreComputed (record self.old { nodes = take count self.old.nodes }) results }
         ensures { self.new ≡ record self.old { nodes = take count self.old.nodes } }
@@ -117,6 +122,23 @@ impl Guards {
         let fields: &mut Fields = &mut self.fields;
         fields.nodes.cut(count);
         fields.results = results;
+        fields.letters.clear();
+    }
+
+    /// What is kept of the letter whose guard was made last. The store remembers none any more.
+    pub(crate) fn take_letters(&mut self, alloc: Global) -> Letters
+        ensures same { self.new ≡ self.old }
+        ensures letters { AreLastPlaces self.old result }
+    {
+        mem::replace(&mut self.fields.letters, Letters::new(alloc))
+    }
+
+    /// Remembers this of the letter whose guard was made last.
+    pub(crate) fn keep_letters(&mut self, letters: Letters)
+        requires { AreLastPlaces self.old letters }
+        ensures { self.new ≡ self.old }
+    {
+        self.fields.letters = letters;
     }
 
     /// Tells a proof that the diagrams are reduced.
@@ -174,25 +196,18 @@ impl Guards {
 
     /// The result in the table, if it is there.
     #[inline]
-    fn known(&self, operation: Operation, g: usize, h: usize) -> Option<usize>
-        ensures { IfSome result (λ place. IsJoin self.now operation g h place) }
+    pub(crate) fn known(&self, question: Question, left: usize, right: usize) -> Option<usize>
+        ensures { IfSome result (λ place. IsResult self.now question left right place) }
     {
-        self.fields.results.find(operation, g, h)
+        self.fields.results.find(question, left, right)
     }
 
-    /// Puts a result into the table.
-    fn note(&mut self, operation: Operation, left: usize, right: usize, place: usize)
-        requires { IsJoin self.old operation left right place }
+    /// Puts a result into the table, which is to have no more places than some thousand or this many.
+    pub(crate) fn note(&mut self, known: Known, places: usize)
+        requires { IsComputed self.old known }
         ensures { self.new ≡ self.old }
     {
-        let places = self.places();
-        let joined = Joined {
-            operation,
-            left,
-            right,
-            place,
-        };
-        self.fields.results.put(joined, places);
+        self.fields.results.put(known, places);
     }
 
     /// The place of the operation's result.
@@ -228,7 +243,8 @@ impl Guards {
         ensures joined { IfOk result (λ place. IsJoin self.new operation g h place) }
     {
         self.reduced();
-        if let Some(place) = self.known(operation, g, h) {
+        let question = asked_as(operation);
+        if let Some(place) = self.known(question, g, h) {
             return Ok(place);
         }
         let prop = self.level(g).min(self.level(h));
@@ -237,8 +253,26 @@ impl Guards {
         let low = self.combine(operation, g_low, h_low)?;
         let high = self.combine(operation, g_high, h_high)?;
         let place = self.choice(prop, low, high)?;
-        self.note(operation, g, h, place);
+        let known = Known {
+            question,
+            left: g,
+            right: h,
+            place,
+        };
+        self.note(known, self.places());
         Ok(place)
+    }
+}
+
+/// What the operation on two places is asked as.
+#[inline]
+fn asked_as(operation: Operation) -> Question
+    ensures { result ≡ question_of operation }
+{
+    match operation {
+        Operation::And => Question::And,
+        Operation::Or => Question::Or,
+        Operation::Xor => Question::Xor,
     }
 }
 

@@ -21,7 +21,7 @@ use std::marker::Model;
 /// What is kept of the letter whose guard was made last. Letters whose numbers follow one another mostly differ in their first
 /// propositions alone, and nodes that ask for these stand above those that ask for the others.
 #[derive(Drop)]
-pub struct Letters {
+pub(crate) struct Letters {
     number: u64,
     /// The places of what is true where the last proposition is as in the number, where the last two are, and so on.
     places: Vec<usize>,
@@ -37,7 +37,7 @@ impl Model for Letters {
 
 impl Letters {
     /// No letter yet, of any store.
-    pub fn new(alloc: Global) -> Letters
+    pub(crate) fn new(alloc: Global) -> Letters
         ensures { (s : Store) → AreLastPlaces s result }
     {
         Letters {
@@ -46,11 +46,18 @@ impl Letters {
         }
     }
 
+    /// No letter any more.
+    pub(crate) fn clear(&mut self)
+        ensures { (s : Store) → AreLastPlaces s self.new }
+    {
+        self.places.truncate(0);
+    }
+
     /// The guard that is true at one valuation alone: that of this number, in which bit k says whether proposition k holds. Nodes
     /// are made for those propositions alone that come no later than one whose bit is another than in the letter before. Where
     /// numbers follow one another these are two on an average. No label is made.
     #[tactic(auto, using(crate::proofs::labelled::LabelTruth::keeps))]
-    pub fn guard(&mut self, guards: &mut Guards, number: u64) -> Result<Guard, Memory>
+    fn guard(&mut self, guards: &mut Guards, number: u64) -> Result<Guard, Memory>
         requires { AreLastPlaces guards.old self.old }
         ensures keeps { Keeps guards.old guards.new }
         ensures letters { AreLastPlaces guards.new self.new }
@@ -127,6 +134,22 @@ impl Letters {
 }
 
 impl Guards {
+    /// The guard that is true at one valuation alone: that of this number, in which bit k says whether proposition k holds, as an
+    /// implicit label is. What letters share whose numbers follow one another is made once.
+    pub fn of_letter(&mut self, alloc: Global, number: u64) -> Result<Guard, Memory>
+        ensures keeps { Keeps self.old self.new }
+        ensures guard { IfOk result (IsGuardOf self.new (is_at number self.old.names)) }
+
+        // Its label is the canonical form of each label that is true there alone.
+        ensures label { IfOk result (λ g. (t : LabelTree) → ((on : ℕ → Bool) → truth on t ≡ is_at number self.old.names on)
+            → label_in self.new g ≡ canonical_label self.old.names t) }
+    {
+        let mut letters = self.take_letters(alloc);
+        let guard = letters.guard(self, number)?;
+        self.keep_letters(letters);
+        Ok(guard)
+    }
+
     /// The place that goes on at this one where the proposition is as it should be, and is false elsewhere.
     pub(crate) fn decided(&mut self, prop: u32, holds: bool, place: usize) -> Result<usize, Memory>
         requires has { HasPlace self.old place }

@@ -29,4 +29,3 @@ pub use law::{
     classes_are_determined, classes_by_leasts, classes_exclude_more, more_classes_by_leasts,
     one_class_under_none,
 };
-pub use letters::Letters;

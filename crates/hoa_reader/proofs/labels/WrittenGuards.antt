@@ -25,9 +25,6 @@ use Rattle.label_guards.specs.Guards.{IsGuardOf, literal_truth, truth_in}
 use Rattle.label_guards.specs.Store.{Has, Keeps, Store, label_at, label_in, outcome}
 use Rattle.label_guards.specs.declared.guard.Guard.{Guard}
 
-pub guard_kept : (old new : Store) (says : (ℕ → Bool) → Bool) (g : Guard) → Keeps old new → IsGuardOf old says g → IsGuardOf new says g
-guard_kept old new says g keeps is = record { has = keeps.has g is.has; truth = λ on. ap (truth on) (keeps.labels g is.has) ∙ is.truth on }
-
 -- the same, said in other words
 pub guard_same : (s : Store) (says also : (ℕ → Bool) → Bool) (g : Guard) → ((on : ℕ → Bool) → says on ≡ also on) → IsGuardOf s says g → IsGuardOf s also g
 guard_same s says also g same is = record { has = is.has; truth = λ on. is.truth on ∙ same on }

@@ -1,7 +1,7 @@
 -- What conjunctions of literals tell, and their parts.
 use Rattle.std.specs.Prelude.{◌≡◌, ◌≤◌, ℕ, List, [], ◌∷◌, true, map}
 use Rattle.aut_base.specs.Label.{LabelTree, label_list, label_tree}
-use Rattle.hoa_parser.specs.Raw.{RawTree, raw_trees}
+use Rattle.hoa_parser.specs.Raw.{RawTree, all_literals, raw_all, raw_trees}
 use Rattle.hoa_reader.specs.Described.{Meaning, expanded}
 use Rattle.hoa_reader.specs.declared.elaborate.cube.Conjunction.{Conjunction}
 use Rattle.hoa_reader.specs.declared.elaborate.shape.Shape.{Shape}
@@ -27,6 +27,10 @@ pub record TellsAll (s : Shape) (ts : List RawTree) : Type 0 where
   pub height : (alias : List ℕ → ℕ) → s.height ≡ capped_heights alias (raw_trees ts)
   pub size : (alias : List ℕ → ℕ) → s.size ≡ capped_sizes alias (raw_trees ts)
   pub small : AreSmall ts
+
+-- the label of a conjunction that is given by its bits
+abbrev pub cube_tree : ℕ → ℕ → LabelTree
+cube_tree names values = expanded [] (raw_all (all_literals names values))
 
 -- the labels of these
 abbrev pub each_of : List Meaning → List RawTree → List LabelTree

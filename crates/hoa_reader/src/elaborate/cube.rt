@@ -4,8 +4,7 @@ ghost use Rattle.std.specs.Prelude.{◌≡◌, ◌+◌, ◌<◌, ◌++◌, ◌�
 ghost use Rattle.aut_base.specs.Label.{AllBelow, label_tree, truth};
 ghost use Rattle.hoa_parser.specs.Raw.{RawTree, all_literals, has_bit, maybe_literal, raw_all, raw_literal};
 ghost use Rattle.hoa_reader.specs.Described.{Meaning, conjunction, expanded};
-ghost use Rattle.hoa_reader.specs.inner.Cubes.{Tells, TellsAll, each_of, parts_of};
-ghost use Rattle.hoa_reader.specs.inner.Kept.{cube_tree};
+ghost use Rattle.hoa_reader.specs.inner.Cubes.{Tells, TellsAll, cube_tree, each_of, parts_of};
 ghost use Rattle.label_guards.specs.Guards.{IsGuardOf};
 ghost use Rattle.label_guards.specs.Store.{Keeps};
 

@@ -1,56 +1,32 @@
 //! The edges of the described automaton, with guards in place of labels.
 
-ghost use Rattle.std.specs.Prelude.{◌≡◌, ◌+◌, ◌<◌, ◌^◌, ◌==◌, ◌++◌, All, true, flat_map, length, map, IfOk, OnOk};
+ghost use Rattle.std.specs.Prelude.{◌≡◌, ◌+◌, ◌<◌, ◌^◌, ◌==◌, All, true, flat_map, length, map, IfOk, OnOk};
 ghost use Rattle.std.specs.List.{AllByRecursion, list_all};
 ghost use Rattle.aut_base.specs.CanonicalLabel.{canonical_label};
-ghost use Rattle.aut_base.specs.Label.{AllBelow, truth};
+ghost use Rattle.aut_base.specs.Label.{AllBelow};
 ghost use Rattle.aut_core.specs.SymbolicAutomata.{edge_of};
-ghost use Rattle.aut_core.specs.Links.{StandFor};
-ghost use Rattle.hoa_parser.specs.Raw.{WrittenState, raw_tree, written_edge, written_state};
+ghost use Rattle.hoa_parser.specs.Raw.{WrittenState, written_edge, written_state};
 ghost use Rattle.hoa_reader.specs.Validity.{all_differ, marks_below, numbers_below};
-ghost use Rattle.hoa_reader.specs.inner.Kept.{AreKept};
+ghost use Rattle.hoa_reader.specs.inner.Links.{AreAdded, AreLinked, CanBeLinked};
 ghost use Rattle.hoa_reader.specs.inner.PickedOut.{numbers};
 ghost use Rattle.hoa_reader.specs.inner.Rising.{rises_from};
-ghost use Rattle.hoa_reader.specs.inner.TreeEdges.{HasKnown, HasLabelsBelow, edges_for, label_for, replaced, settled, tree_edge_for, tree_edges_at, tree_edges_for};
-ghost use Rattle.label_guards.specs.Guards.{IsGuardOf};
+ghost use Rattle.hoa_reader.specs.inner.TreeEdges.{HasKnown, HasLabelsBelow, edges_for, label_for, settled, tree_edge_for, tree_edges_at, tree_edges_for};
 ghost use Rattle.label_guards.specs.Store.{Has, Keeps, label_in};
 
 use crate::elaborate::blocks::{BLOCK, Blocks};
 use crate::elaborate::edges::{Shared, label_written, marks_of, places_of};
-use crate::elaborate::kept::Kept;
 use crate::elaborate::starts::only_state;
 use crate::elaborate::written::guard_written;
 use aut_base::Memory;
 use aut_core::{Link, Links};
-use hoa_parser::{RawEdge, RawEdges, RawLabel, RawState, RawStates};
+use hoa_parser::{RawEdge, RawEdges, RawState, RawStates};
 use label_guards::{Guard, Guards};
 use std::alloc::Global;
 
-/// The guard of a label. A conjunction of literals is looked up first.
-fn kept_guard(
-    guards: &mut Guards,
-    kept: &mut Kept,
-    shared: &Shared<'_>,
-    label: &RawLabel,
-) -> Result<Guard, Memory>
-    requires known { HasKnown shared.now }
-    requires below { AllBelow guards.old.names (replaced shared.now (raw_tree label.now)) }
-    requires kept { AreKept guards.old kept.old }
-    ensures keeps { Keeps guards.old guards.new }
-    ensures kept { AreKept guards.new kept.new }
-    ensures guard { IfOk result (IsGuardOf guards.new (λ on. truth on (replaced shared.now (raw_tree label.now)))) }
-{
-    match label {
-        RawLabel::Cube { names, values } => kept.cubes.guard(guards, *names, *values),
-        _ => guard_written(guards, shared, label),
-    }
-}
-
-/// The guard of the edge that stands at this place in its state. Where no label is written it is made from the letter's number,
-/// beside that of the letter before.
+/// The guard of the edge that stands at this place in its state. Where no label is written it is made from the letter's number.
 fn guard_of(
+    alloc: Global,
     guards: &mut Guards,
-    kept: &mut Kept,
     shared: &Shared<'_>,
     state: &RawState,
     edge: &RawEdge,
@@ -59,15 +35,13 @@ fn guard_of(
     requires known { HasKnown shared.now }
     requires names { guards.old.names ≡ shared.now.names }
     requires below { AllBelow guards.old.names (label_for shared.now (written_state state.now) letter (written_edge edge.now)) }
-    requires kept { AreKept guards.old kept.old }
     ensures keeps { Keeps guards.old guards.new }
-    ensures kept { AreKept guards.new kept.new }
     ensures has { IfOk result (Has guards.new) }
     ensures label { IfOk result (λ new. label_in guards.new new ≡ canonical_label guards.old.names (label_for shared.now (written_state state.now) letter (written_edge edge.now))) }
 {
     match label_written(state, edge) {
-        Some(label) => kept_guard(guards, kept, shared, label),
-        None => kept.letters.guard(guards, letter),
+        Some(label) => guard_written(guards, shared, label),
+        None => guards.of_letter(alloc, letter),
     }
 }
 
@@ -75,7 +49,6 @@ fn guard_of(
 fn link_of(
     alloc: Global,
     guards: &mut Guards,
-    kept: &mut Kept,
     shared: &Shared<'_>,
     state: &RawState,
     edge: &RawEdge,
@@ -86,15 +59,13 @@ fn link_of(
     requires below { AllBelow guards.old.names (label_for shared.now (written_state state.now) letter (written_edge edge.now)) }
     requires own { numbers_below shared.now.sets state.now.marks ≡ true }
     requires marks { numbers_below shared.now.sets edge.now.ends.marks ≡ true }
-    requires kept { AreKept guards.old kept.old }
     ensures keeps { Keeps guards.old guards.new }
-    ensures kept { AreKept guards.new kept.new }
     ensures has { IfOk result (λ new. Has guards.new new.guard) }
     ensures edge { IfOk result (λ new. edge_of guards.new new ≡ settled guards.old.names (tree_edge_for shared.now (written_state state.now) letter (written_edge edge.now))) }
 {
     Ok(Link {
         from: state.number,
-        guard: guard_of(guards, kept, shared, state, edge, letter)?,
+        guard: guard_of(alloc, guards, shared, state, edge, letter)?,
         to: only_state(edge.ends.to()),
         marks: marks_of(alloc, shared.sets, state, edge)?,
     })
@@ -104,7 +75,6 @@ fn link_of(
 fn add_some(
     alloc: Global,
     guards: &mut Guards,
-    kept: &mut Kept,
     links: &mut Links,
     shared: &Shared<'_>,
     state: &RawState,
@@ -118,14 +88,12 @@ fn add_some(
     requires marks { list_all (λ e. numbers_below shared.now.sets e.marks) (map written_edge edges.now) ≡ true }
     requires below { AllByRecursion (λ e. AllBelow guards.old.names e.label) (tree_edges_at shared.now (written_state state.now) first (map written_edge edges.now)) }
     requires has { All (λ l. Has guards.old l.guard) links.old }
-    requires kept { AreKept guards.old kept.old }
     ensures names { guards.new.names ≡ guards.old.names }
-    ensures kept { AreKept guards.new kept.new }
-    ensures stand { OnOk result (StandFor guards.new links.new (map (edge_of guards.old) links.old ++ map (settled guards.old.names) (tree_edges_at shared.now (written_state state.now) first (map written_edge edges.now)))) }
+    ensures stand { OnOk result (AreAdded (tree_edges_at shared.now (written_state state.now) first (map written_edge edges.now)) guards.old links.old guards.new links.new) }
 {
     let mut letter = first;
     'written: for edge in edges {
-        let new = link_of(alloc, guards, kept, shared, state, edge, letter)?;
+        let new = link_of(alloc, guards, shared, state, edge, letter)?;
         links.push(new)?;
         letter += 1;
     }
@@ -136,7 +104,6 @@ fn add_some(
 fn add_links(
     alloc: Global,
     guards: &mut Guards,
-    kept: &mut Kept,
     links: &mut Links,
     shared: &Shared<'_>,
     state: &RawState,
@@ -146,20 +113,17 @@ fn add_links(
     requires marks { marks_below shared.now.sets (written_state state.now) ≡ true }
     requires below { HasLabelsBelow shared.now guards.old.names (written_state state.now) }
     requires has { All (λ l. Has guards.old l.guard) links.old }
-    requires kept { AreKept guards.old kept.old }
     ensures names { guards.new.names ≡ guards.old.names }
-    ensures kept { AreKept guards.new kept.new }
-    ensures stand { OnOk result (StandFor guards.new links.new (map (edge_of guards.old) links.old ++ map (settled guards.old.names) (tree_edges_for shared.now (written_state state.now)))) }
+    ensures stand { OnOk result (AreAdded (tree_edges_for shared.now (written_state state.now)) guards.old links.old guards.new links.new) }
 {
     let edges = state.edges.as_slice();
-    add_some(alloc, guards, kept, links, shared, state, edges, 0)
+    add_some(alloc, guards, links, shared, state, edges, 0)
 }
 
 /// The same, where they are many. Each block of them is let go once its links are made.
 fn add_many(
     alloc: Global,
     guards: &mut Guards,
-    kept: &mut Kept,
     links: &mut Links,
     shared: &Shared<'_>,
     state: RawState,
@@ -169,10 +133,8 @@ fn add_many(
     requires marks { marks_below shared.now.sets (written_state state) ≡ true }
     requires below { HasLabelsBelow shared.now guards.old.names (written_state state) }
     requires has { All (λ l. Has guards.old l.guard) links.old }
-    requires kept { AreKept guards.old kept.old }
     ensures names { guards.new.names ≡ guards.old.names }
-    ensures kept { AreKept guards.new kept.new }
-    ensures stand { OnOk result (StandFor guards.new links.new (map (edge_of guards.old) links.old ++ map (settled guards.old.names) (tree_edges_for shared.now (written_state state)))) }
+    ensures stand { OnOk result (AreAdded (tree_edges_for shared.now (written_state state)) guards.old links.old guards.new links.new) }
 {
     let head = RawState {
         label: state.label,
@@ -186,7 +148,7 @@ fn add_many(
     let mut first = 0;
     'left: while let Some(block) = blocks.next() {
         let edges = block.as_slice();
-        add_some(alloc, guards, kept, links, shared, &head, edges, first)?;
+        add_some(alloc, guards, links, shared, &head, edges, first)?;
         first += edges.len() as u64;
     }
     Ok(())
@@ -196,23 +158,17 @@ fn add_many(
 fn add_all(
     alloc: Global,
     guards: &mut Guards,
-    kept: &mut Kept,
     links: &mut Links,
     shared: &Shared<'_>,
     states: &[RawState],
 ) -> Result<(), Memory>
-    requires known { HasKnown shared.now }
-    requires names { guards.old.names ≡ shared.now.names }
-    requires marks { list_all (marks_below shared.now.sets) (map written_state states.now) ≡ true }
-    requires below { All (HasLabelsBelow shared.now guards.old.names) (map written_state states.now) }
+    requires linked { CanBeLinked shared.now guards.old.names (map written_state states.now) }
     requires has { All (λ l. Has guards.old l.guard) links.old }
-    requires kept { AreKept guards.old kept.old }
     ensures names { guards.new.names ≡ guards.old.names }
-    ensures kept { AreKept guards.new kept.new }
-    ensures stand { OnOk result (StandFor guards.new links.new (map (edge_of guards.old) links.old ++ map (settled guards.old.names) (flat_map (tree_edges_for shared.now) (map written_state states.now)))) }
+    ensures stand { OnOk result (AreAdded (flat_map (tree_edges_for shared.now) (map written_state states.now)) guards.old links.old guards.new links.new) }
 {
     'states: for state in states {
-        add_links(alloc, guards, kept, links, shared, state)?;
+        add_links(alloc, guards, links, shared, state)?;
     }
     Ok(())
 }
@@ -224,25 +180,14 @@ fn links_in_blocks(
     shared: &Shared<'_>,
     states: RawStates,
 ) -> Result<Links, Memory>
-    requires known { HasKnown shared.now }
-    requires names { guards.old.names ≡ shared.now.names }
-    requires marks { list_all (marks_below shared.now.sets) (map written_state states) ≡ true }
-    requires below { All (HasLabelsBelow shared.now guards.old.names) (map written_state states) }
+    requires linked { CanBeLinked shared.now guards.old.names (map written_state states) }
     ensures names { guards.new.names ≡ guards.old.names }
-    ensures stand { IfOk result (λ links. StandFor guards.new links (map (settled guards.old.names) (flat_map (tree_edges_for shared.now) (map written_state states)))) }
+    ensures stand { IfOk result (AreLinked guards.old.names (flat_map (tree_edges_for shared.now) (map written_state states)) guards.new) }
 {
     let mut blocks = Blocks::new(alloc, states)?;
     let mut links = Links::from_vec(Vec::with_capacity(alloc, shared.edges)?);
-    let mut kept = Kept::new(alloc);
     'left: while let Some(block) = blocks.next() {
-        add_all(
-            alloc,
-            guards,
-            &mut kept,
-            &mut links,
-            shared,
-            block.as_slice(),
-        )?;
+        add_all(alloc, guards, &mut links, shared, block.as_slice())?;
     }
     Ok(links)
 }
@@ -254,17 +199,13 @@ fn links_one_by_one(
     shared: &Shared<'_>,
     states: RawStates,
 ) -> Result<Links, Memory>
-    requires known { HasKnown shared.now }
-    requires names { guards.old.names ≡ shared.now.names }
-    requires marks { list_all (marks_below shared.now.sets) (map written_state states) ≡ true }
-    requires below { All (HasLabelsBelow shared.now guards.old.names) (map written_state states) }
+    requires linked { CanBeLinked shared.now guards.old.names (map written_state states) }
     ensures names { guards.new.names ≡ guards.old.names }
-    ensures stand { IfOk result (λ links. StandFor guards.new links (map (settled guards.old.names) (flat_map (tree_edges_for shared.now) (map written_state states)))) }
+    ensures stand { IfOk result (AreLinked guards.old.names (flat_map (tree_edges_for shared.now) (map written_state states)) guards.new) }
 {
     let mut links = Links::from_vec(Vec::with_capacity(alloc, shared.edges)?);
-    let mut kept = Kept::new(alloc);
     'states: for state in states.into_vec() {
-        add_many(alloc, guards, &mut kept, &mut links, shared, state)?;
+        add_many(alloc, guards, &mut links, shared, state)?;
     }
     Ok(links)
 }
@@ -277,12 +218,9 @@ fn links_in_turn(
     shared: &Shared<'_>,
     states: RawStates,
 ) -> Result<Links, Memory>
-    requires known { HasKnown shared.now }
-    requires names { guards.old.names ≡ shared.now.names }
-    requires marks { list_all (marks_below shared.now.sets) (map written_state states) ≡ true }
-    requires below { All (HasLabelsBelow shared.now guards.old.names) (map written_state states) }
+    requires linked { CanBeLinked shared.now guards.old.names (map written_state states) }
     ensures names { guards.new.names ≡ guards.old.names }
-    ensures stand { IfOk result (λ links. StandFor guards.new links (map (settled guards.old.names) (flat_map (tree_edges_for shared.now) (map written_state states)))) }
+    ensures stand { IfOk result (AreLinked guards.old.names (flat_map (tree_edges_for shared.now) (map written_state states)) guards.new) }
 {
     if states.len() <= BLOCK && shared.edges > BLOCK {
         return links_one_by_one(alloc, guards, shared, states);
@@ -299,15 +237,12 @@ pub(crate) fn links_of(
     count: u32,
     rising: bool,
 ) -> Result<Links, Memory>
-    requires known { HasKnown shared.now }
-    requires names { guards.old.names ≡ shared.now.names }
+    requires linked { CanBeLinked shared.now guards.old.names (map written_state states) }
     requires rising { rising ≡ rises_from 0 (numbers (map written_state states)) }
     requires differ { all_differ ◌==◌ (numbers (map written_state states)) ≡ true }
     requires within { AllByRecursion (λ (s : WrittenState). s.number < count) (map written_state states) }
-    requires marks { list_all (marks_below shared.now.sets) (map written_state states) ≡ true }
-    requires below { All (HasLabelsBelow shared.now guards.old.names) (map written_state states) }
     ensures names { guards.new.names ≡ guards.old.names }
-    ensures stand { IfOk result (λ links. StandFor guards.new links (map (settled guards.old.names) (edges_for shared.now (map written_state states) count))) }
+    ensures stand { IfOk result (AreLinked guards.old.names (edges_for shared.now (map written_state states) count) guards.new) }
 {
     if rising {
         return links_in_turn(alloc, guards, shared, states);
@@ -323,22 +258,18 @@ fn links_by_places(
     states: &[RawState],
     count: u32,
 ) -> Result<Links, Memory>
-    requires known { HasKnown shared.now }
-    requires names { guards.old.names ≡ shared.now.names }
+    requires linked { CanBeLinked shared.now guards.old.names (map written_state states.now) }
     requires differ { all_differ ◌==◌ (numbers (map written_state states.now)) ≡ true }
-    requires marks { list_all (marks_below shared.now.sets) (map written_state states.now) ≡ true }
-    requires below { All (HasLabelsBelow shared.now guards.old.names) (map written_state states.now) }
     ensures names { guards.new.names ≡ guards.old.names }
-    ensures stand { IfOk result (λ links. StandFor guards.new links (map (settled guards.old.names) (edges_for shared.now (map written_state states.now) count))) }
+    ensures stand { IfOk result (AreLinked guards.old.names (edges_for shared.now (map written_state states.now) count) guards.new) }
 {
     let places = places_of(alloc, states, count)?;
     let mut links = Links::from_vec(Vec::with_capacity(alloc, shared.edges)?);
-    let mut kept = Kept::new(alloc);
     'numbers: for number in 0..places.len() {
         let Some(place) = places[number] else {
             continue;
         };
-        add_links(alloc, guards, &mut kept, &mut links, shared, &states[place])?;
+        add_links(alloc, guards, &mut links, shared, &states[place])?;
     }
     Ok(links)
 }

@@ -1,5 +1,5 @@
 -- Places of the last propositions of a number: one proposition more, another number, and a store that keeps them.
-use Rattle.std.proofs.Common.{◌≡◌, ◌⊎◌, inl, inr, ℕ, zero, suc, ◌+◌, ◌-◌, ◌*◌, ◌/◌, ◌%◌, ◌^◌, ◌==◌, ◌<◌, ◌≤◌, ◌∙◌, Bool, true, false, ◌&&◌, List, []}
+use Rattle.std.proofs.Common.{◌≡◌, inl, inr, ℕ, zero, suc, ◌+◌, ◌-◌, ◌/◌, ◌%◌, ◌^◌, ◌==◌, ◌<◌, ◌≤◌, ◌∙◌, Bool, true, false, ◌&&◌, List, []}
 use Rattle.std.proofs.Common.{◌∷◌, ◌++◌, ap, arith, drop, get_or, length, length-append, refl, slice_get, Some, subst, sym, take}
 use Rattle.std.proofs.Math.Nat.{div-div-eq-div-mul}
 use Rattle.std.proofs.lemmas.Bool.{cases_lt}
@@ -13,8 +13,8 @@ use Rattle.label_guards.specs.Guards.{truth_in, with_prop}
 use Rattle.label_guards.specs.Letters.{AreLastPlaces, IsLastPlace, LastLetter}
 use Rattle.label_guards.specs.Nodes.{Grows, IsReducedDiagram, level}
 use Rattle.label_guards.specs.Numbers.{is_at, is_set, last_at}
-use Rattle.label_guards.specs.Store.{Has, HasPlace, Keeps, Store, outcome}
-use Rattle.label_guards.specs.Tables.{IsFreeAt, PlaceGoesBelow}
+use Rattle.label_guards.specs.Store.{HasPlace, Keeps, Store, outcome}
+use Rattle.label_guards.specs.Tables.{PlaceGoesBelow}
 use Rattle.label_guards.proofs.diagrams.Agreement.{fixed-later}
 use Rattle.label_guards.proofs.diagrams.Reduced.{node_of}
 use Rattle.label_guards.proofs.labelled.LabelTruth.{always_is, at, truth_is}

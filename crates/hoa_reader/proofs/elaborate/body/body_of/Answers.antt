@@ -21,17 +21,19 @@ links_of-requires-clause-within c =
     let w = written c.args.raw in
     subst (λ n. AllByRecursion (λ (s : WrittenState). s.number < n) w.states) (sym c.requires.states) (states_below w c.requires.valid.1.1.1.1.1.0)
 
-pub links_of-requires-clause-marks : goal.links_of-requires-clause-marks
-links_of-requires-clause-marks c =
-    framed_marks (written c.args.raw) c.args.frame c.in_ok-shared.shared c.requires
-    (subst (λ (is : List Item). IsSharedBy c.args.frame (map written_item is) c.in_ok-shared.shared) c.as_slice-2.ensures c.in_ok-shared.ensures)
-
-pub links_of-requires-clause-below : goal.links_of-requires-clause-below
-links_of-requires-clause-below c =
+pub links_of-requires-clause-linked : goal.links_of-requires-clause-linked
+links_of-requires-clause-linked c =
     let w = written c.args.raw in
+    let f = c.args.frame in
     let shared = c.in_ok-shared.shared in
-    let by = subst (λ (is : List Item). IsSharedBy c.args.frame (map written_item is) shared) c.as_slice-2.ensures c.in_ok-shared.ensures in
-    subst (λ n. All (HasLabelsBelow shared n) w.states) (sym (c.in_ok-guards.ensures.names ∙ c.requires.count)) (framed_labels w c.args.frame shared c.requires by)
+    let by = subst (λ (is : List Item). IsSharedBy f (map written_item is) shared) c.as_slice-2.ensures c.in_ok-shared.ensures in
+    let names = c.in_ok-guards.ensures.names in
+    record {
+      known = by.known;
+      names = names ∙ sym by.count;
+      marks = framed_marks w f shared c.requires by;
+      below = subst (λ n. All (HasLabelsBelow shared n) w.states) (sym (names ∙ c.requires.count)) (framed_labels w f shared c.requires by);
+    }
 
 pub returns-clause-body : goal.returns-clause-body
 returns-clause-body c =

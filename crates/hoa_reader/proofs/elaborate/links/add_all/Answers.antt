@@ -22,13 +22,12 @@ states-init c =
     let links = c.args.links.now in
     let same = map (edge_of c.args.guards.now) links in
     record {
-      kept = c.requires.kept;
       names = refl;
       stand = subst (StandFor c.args.guards.now links) (sym (append-nil same)) (stand_itself c.args.guards.now links c.requires.has);
     }
 
 pub add_links-requires-clause-names : goal.add_links-requires-clause-names
-add_links-requires-clause-names c = c.states.invariant.names ∙ c.requires.names
+add_links-requires-clause-names c = c.states.invariant.names ∙ c.requires.linked.names
 
 pub add_links-requires-clause-marks : goal.add_links-requires-clause-marks
 add_links-requires-clause-marks c =
@@ -36,7 +35,7 @@ add_links-requires-clause-marks c =
     let states = c.args.states.now in
     all_passes_at (λ (s : RawState). marks_below sets (written_state s)) states c.states.state-index c.state-item.result
     (slice_get-at states c.states.state-index c.state-item.result c.states-test.true c.state-item.is)
-    (sym (list_all-map (marks_below sets) written_state states) ∙ c.requires.marks)
+    (sym (list_all-map (marks_below sets) written_state states) ∙ c.requires.linked.marks)
 
 pub add_links-requires-clause-below : goal.add_links-requires-clause-below
 add_links-requires-clause-below c =
@@ -48,7 +47,7 @@ add_links-requires-clause-below c =
     let there : slice_get ws i ≡ Some s = slice_get-map written_state states i
     ∙ ap (option_map written_state) (slice_get-at states i c.state-item.result c.states-test.true c.state-item.is) in
     subst (λ m. HasLabelsBelow x m s) (sym c.states.invariant.names)
-    (subst (HasLabelsBelow x c.args.guards.now.names) (get_or_from_slice_get ws i s s there) (c.requires.below i s (slice_get_within ws i s there)))
+    (subst (HasLabelsBelow x c.args.guards.now.names) (get_or_from_slice_get ws i s s there) (c.requires.linked.below i s (slice_get_within ws i s there)))
 
 pub states-preserved : goal.states-preserved
 states-preserved c =
@@ -73,7 +72,6 @@ states-preserved c =
     ∙ (ap (λ k. (before ++ map (settled m) (E (take i states))) ++ map (settled k) here) c.states.invariant.names
     ∙ (append_assoc before (map (settled m) (E (take i states))) (map (settled m) here) ∙ ap (λ es. before ++ es) (sym more))) in
     record {
-      kept = c.add_links.ensures.kept;
       names = c.add_links.ensures.names ∙ c.states.invariant.names;
       stand = subst (StandFor c.add_links.new.guards c.add_links.new.links) all c.in_ok-add_links.ensures.stand;
     }

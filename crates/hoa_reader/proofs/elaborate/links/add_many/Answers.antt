@@ -51,7 +51,6 @@ left-preserved c =
     ∙ (length-append (map written_edge edges) (edges_left rest) ∙ ap (λ k. k + length (edges_left rest)) (length-map edges written_edge))) in
     let count = here.count in
     record {
-      kept = c.add_some.ensures.kept;
       names = c.add_some.ensures.names ∙ here.names;
       count = omega (arith, long, count);
       marks = (and_parts _ _ (sym (list_all-append (λ (e : WrittenEdge). numbers_below x.sets e.marks) (map written_edge edges) (edges_left rest))

@@ -7,7 +7,6 @@ use Rattle.hoa_parser.specs.Raw.{WrittenEdge, written_state}
 use Rattle.hoa_reader.proofs.labels.LinkedEdges.{AreOnTheWay, edges_left}
 use Rattle.hoa_reader.specs.Validity.{numbers_below}
 use Rattle.hoa_reader.specs.inner.TreeEdges.{settled, tree_edges_at, tree_edges_for}
-use Rattle.hoa_reader.specs.inner.Kept.{AreKept}
 use Rattle.hoa_reader.proofs.elaborate.links.add_many.Given as goal
 
 abbrev pub invariant-left : goal.invariant-left
@@ -15,7 +14,6 @@ invariant-left l =
     let left = tree_edges_at l.shared (written_state l.fn.state) l.first (edges_left l.blocks) in
     let n = l.fn.guards.names in
     record {
-      kept : AreKept l.guards l.kept;
       names : l.guards.names ≡ n;
       count : l.first + length (edges_left l.blocks) ≡ length l.fn.state.edges;
       marks : list_all (λ (e : WrittenEdge). numbers_below l.shared.sets e.marks) (edges_left l.blocks) ≡ true;

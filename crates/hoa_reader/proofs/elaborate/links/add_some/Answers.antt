@@ -42,7 +42,6 @@ written-preserved c =
     let all : List LabelledEdge = map (edge_of c.args.guards.now) c.args.links.now
     ++ map (settled n) (tree_edges_at x (written_state state) first (map written_edge edges)) in
     record {
-      kept = c.link_of.ensures.kept;
       letter = omega (arith, here.letter);
       names = c.link_of.ensures.keeps.names ∙ here.names;
       below = (subst (AllByRecursion (λ (e : LabelledEdge). AllBelow n e.label)) next here.below).1;

@@ -6,7 +6,6 @@ use Rattle.aut_core.specs.SymbolicAutomata.{edge_of}
 use Rattle.hoa_parser.specs.Raw.{written_edge, written_state}
 use Rattle.hoa_reader.proofs.labels.LinkedEdges.{AreOnTheWay, edges_from}
 use Rattle.hoa_reader.specs.inner.TreeEdges.{settled, tree_edges_at}
-use Rattle.hoa_reader.specs.inner.Kept.{AreKept}
 use Rattle.hoa_reader.proofs.elaborate.links.add_some.Given as goal
 
 abbrev pub invariant-written : goal.invariant-written
@@ -14,7 +13,6 @@ invariant-written l =
     let left = edges_from l.shared l.state l.edges l.first l.edge-index in
     let n = l.fn.guards.names in
     record {
-      kept : AreKept l.guards l.kept;
       letter : l.letter ≡ l.first + l.edge-index;
       names : l.guards.names ≡ n;
       below : AllByRecursion (λ (e : LabelledEdge). AllBelow n e.label) left;

@@ -10,11 +10,10 @@ use Rattle.hoa_reader.proofs.labels.WrittenLabels.{has_none, has_written}
 use Rattle.hoa_reader.specs.inner.PickedOut.{label_refs}
 use Rattle.hoa_reader.specs.inner.TreeEdges.{label_for, replaced}
 use Rattle.label_guards.specs.Numbers.{is_at}
-use Rattle.hoa_reader.proofs.labels.KeptCubes.{cubes_kept}
 use Rattle.hoa_reader.proofs.elaborate.links.guard_of.Goals as goal
 
-pub kept_guard-requires-clause-below : goal.kept_guard-requires-clause-below
-kept_guard-requires-clause-below c =
+pub guard_written-requires-clause-below : goal.guard_written-requires-clause-below
+guard_written-requires-clause-below c =
     let x = c.args.shared.now in
     let due : replaced x (label_refs c.in-Some.label) ≡ label_for x (written_state c.args.state.now) c.args.letter (written_edge c.args.edge.now) =
     has_written x (written_state c.args.state.now) c.args.letter (written_edge c.args.edge.now) (label_refs c.in-Some.label)
@@ -22,7 +21,7 @@ kept_guard-requires-clause-below c =
     subst (AllBelow c.args.guards.now.names) (sym due) c.requires.below
 
 pub returns-in-Some-clause-has : goal.returns-in-Some-clause-has
-returns-in-Some-clause-has c = IfOk-weaker c.kept_guard.result _ _ (λ g is. is.has) c.kept_guard.ensures.guard
+returns-in-Some-clause-has c = IfOk-weaker c.guard_written.result _ _ (λ g is. is.has) c.guard_written.ensures.guard
 
 pub returns-in-Some-clause-label : goal.returns-in-Some-clause-label
 returns-in-Some-clause-label c =
@@ -30,11 +29,11 @@ returns-in-Some-clause-label c =
     let due : replaced x (label_refs c.in-Some.label) ≡ label_for x (written_state c.args.state.now) c.args.letter (written_edge c.args.edge.now) =
     has_written x (written_state c.args.state.now) c.args.letter (written_edge c.args.edge.now) (label_refs c.in-Some.label)
     (sym c.label_written.ensures ∙ ap (option_map label_refs) c.in-Some.is) in
-    IfOk-weaker c.kept_guard.result _ _
-    (λ g is. canonical_guard _ (replaced x (label_refs c.in-Some.label)) g is ∙ (λ i. canonical_label (c.kept_guard.ensures.keeps.names i) (due i))) c.kept_guard.ensures.guard
+    IfOk-weaker c.guard_written.result _ _
+    (λ g is. canonical_guard _ (replaced x (label_refs c.in-Some.label)) g is ∙ (λ i. canonical_label (c.guard_written.ensures.keeps.names i) (due i))) c.guard_written.ensures.guard
 
 pub returns-in-None-clause-has : goal.returns-in-None-clause-has
-returns-in-None-clause-has c = IfOk-weaker c.guard.result _ _ (λ g is. is.has) c.guard.ensures.guard
+returns-in-None-clause-has c = IfOk-weaker c.of_letter.result _ _ (λ g is. is.has) c.of_letter.ensures.guard
 
 pub returns-in-None-clause-label : goal.returns-in-None-clause-label
 returns-in-None-clause-label c =
@@ -42,9 +41,6 @@ returns-in-None-clause-label c =
     let s = written_state c.args.state.now in
     let e = written_edge c.args.edge.now in
     let due = has_none x s c.args.letter e (sym c.label_written.ensures ∙ ap (option_map label_refs) c.in-None.is) in
-    IfOk-weaker c.guard.result _ _
+    IfOk-weaker c.of_letter.result _ _
     (λ g is. is (label_for x s c.args.letter e)
-    (λ on. ap (truth on) (sym due) ∙ (letter_truth c.args.letter x.names on ∙ ap (λ n. is_at c.args.letter n on) (sym c.requires.names)))) c.guard.ensures.label
-
-pub returns-in-None-clause-kept : goal.returns-in-None-clause-kept
-returns-in-None-clause-kept c = record { letters = c.guard.ensures.letters; cubes = cubes_kept c.guard.ensures.keeps _ c.requires.kept.cubes }
+    (λ on. ap (truth on) (sym due) ∙ (letter_truth c.args.letter x.names on ∙ ap (λ n. is_at c.args.letter n on) (sym c.requires.names)))) c.of_letter.ensures.label

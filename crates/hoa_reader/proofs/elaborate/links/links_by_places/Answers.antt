@@ -17,7 +17,6 @@ pub numbers-init : goal.numbers-init
 numbers-init c =
     let none : c.from_vec-links.result ≡ [] = c.from_vec-links.ensures ∙ c.in_ok-with_capacity.ensures.items in
     record {
-      kept = c.new-kept.ensures c.args.guards.now;
       names = refl;
       stand = subst (λ (ls : List Link). StandFor c.args.guards.now ls []) (sym none) (record { has = λ k d l. absurd (omega (arith, l)); edges = refl });
     }
@@ -35,7 +34,6 @@ numbers-preserved-in_default c =
     let same : edges_for x ws (n + 1) ≡ edges_for x ws n = edges_more x ws n
     ∙ (ap (λ (ss : List WrittenState). edges_for x ws n ++ flat_map (tree_edges_for x) ss) empty ∙ append-nil (edges_for x ws n)) in
     record {
-      kept = c.numbers.invariant.kept;
       names = c.numbers.invariant.names;
       stand = subst (StandFor c.numbers.guards c.numbers.links) (ap (map (settled c.args.guards.now.names)) (sym same)) c.numbers.invariant.stand;
     }
@@ -54,7 +52,7 @@ bounds-states-place c =
     omega (arith, there, size)
 
 pub add_links-requires-clause-names : goal.add_links-requires-clause-names
-add_links-requires-clause-names c = c.numbers.invariant.names ∙ c.requires.names
+add_links-requires-clause-names c = c.numbers.invariant.names ∙ c.requires.linked.names
 
 pub add_links-requires-clause-marks : goal.add_links-requires-clause-marks
 add_links-requires-clause-marks c =
@@ -65,7 +63,7 @@ add_links-requires-clause-marks c =
     c.in_ok-places.ensures.len c.in_ok-places.ensures.place
     within c.index.ensures c.in-Some.is c.index-states-place.is in
     ap (marks_below c.args.shared.now.sets) at.is
-    ∙ all_passes_at (marks_below c.args.shared.now.sets) ws c.in-Some.place at.one.state at.one.there c.requires.marks
+    ∙ all_passes_at (marks_below c.args.shared.now.sets) ws c.in-Some.place at.one.state at.one.there c.requires.linked.marks
 
 pub add_links-requires-clause-below : goal.add_links-requires-clause-below
 add_links-requires-clause-below c =
@@ -78,7 +76,7 @@ add_links-requires-clause-below c =
     within c.index.ensures c.in-Some.is c.index-states-place.is in
     subst (λ m. HasLabelsBelow x m (written_state c.index-states-place.result)) (sym c.numbers.invariant.names)
     (subst (HasLabelsBelow x c.args.guards.now.names) (sym at.is)
-    (holds_there ws c.numbers.number c.in-Some.place (HasLabelsBelow x c.args.guards.now.names) at.one c.requires.below))
+    (holds_there ws c.numbers.number c.in-Some.place (HasLabelsBelow x c.args.guards.now.names) at.one c.requires.linked.below))
 
 pub numbers-preserved : goal.numbers-preserved
 numbers-preserved c =
@@ -102,7 +100,6 @@ numbers-preserved c =
     ∙ (ap (λ k. map (settled m) (edges_for x ws n) ++ map (settled k) (tree_edges_for x (written_state c.index-states-place.result)))
     c.numbers.invariant.names ∙ sym more) in
     record {
-      kept = c.add_links.ensures.kept;
       names = c.add_links.ensures.names
           ∙ c.numbers.invariant.names;
       stand = subst (StandFor c.add_links.new.guards c.add_links.new.links) all c.in_ok-add_links.ensures.stand;

@@ -4,7 +4,6 @@ use Rattle.std.specs.Prelude.{flat_map}
 use Rattle.hoa_reader.proofs.labels.LinkedEdges.{AreOnTheWay, states_left}
 use Rattle.hoa_reader.specs.Validity.{marks_below}
 use Rattle.hoa_reader.specs.inner.TreeEdges.{HasLabelsBelow, settled, tree_edges_for}
-use Rattle.hoa_reader.specs.inner.Kept.{AreKept}
 use Rattle.hoa_parser.specs.Raw.{written_state}
 use Rattle.hoa_reader.proofs.elaborate.links.links_in_blocks.Given as goal
 
@@ -12,7 +11,6 @@ abbrev pub invariant-left : goal.invariant-left
 invariant-left l =
     let n = l.fn.guards.names in
     record {
-      kept : AreKept l.guards l.kept;
       names : l.guards.names ≡ n;
       marks : list_all (marks_below l.shared.sets) (states_left l.blocks) ≡ true;
       below : All (HasLabelsBelow l.shared n) (states_left l.blocks);

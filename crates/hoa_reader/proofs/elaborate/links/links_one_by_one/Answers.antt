@@ -23,10 +23,9 @@ states-init c =
     let none : c.from_vec-links.result ≡ [] = c.from_vec-links.ensures ∙ c.in_ok-with_capacity.ensures.items in
     let edges : List RawState → List LabelledEdge = λ ss. map (settled n) (flat_map (tree_edges_for x) (map written_state ss)) in
     record {
-      kept = c.new-kept.ensures c.args.guards.now;
       names = refl;
-      marks = ap (λ (ss : List RawState). list_all (marks_below x.sets) (map written_state ss)) all ∙ c.requires.marks;
-      below = subst (λ (ss : List RawState). All (HasLabelsBelow x n) (map written_state ss)) (sym all) c.requires.below;
+      marks = ap (λ (ss : List RawState). list_all (marks_below x.sets) (map written_state ss)) all ∙ c.requires.linked.marks;
+      below = subst (λ (ss : List RawState). All (HasLabelsBelow x n) (map written_state ss)) (sym all) c.requires.linked.below;
       way = subst (λ (ls : List Link). AreOnTheWay c.args.guards.now ls (edges (into_iter_items c.into_iter-state-iterator.result)) (edges c.args.states))
           (sym none) (record { has = λ k d l. absurd (omega (arith, l)); edges = ap edges all });
     }
@@ -50,7 +49,6 @@ states-preserved c =
     let all = map (settled n) (flat_map (tree_edges_for x) (map written_state c.args.states)) in
     let before = map (edge_of c.states.guards) c.states.links in
     record {
-      kept = c.add_many.ensures.kept;
       names = c.add_many.ensures.names ∙ here.names;
       marks = (and_parts _ _ (subst (λ (ss : List RawState). list_all (marks_below x.sets) (map written_state ss) ≡ true) at here.marks)).1;
       below = all_of_second (HasLabelsBelow x n) (state ∷ []) rest (subst (λ (ss : List RawState). All (HasLabelsBelow x n) (map written_state ss)) at here.below);

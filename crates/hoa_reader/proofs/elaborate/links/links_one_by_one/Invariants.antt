@@ -6,7 +6,6 @@ use Rattle.hoa_parser.specs.Raw.{written_state}
 use Rattle.hoa_reader.proofs.labels.LinkedEdges.{AreOnTheWay}
 use Rattle.hoa_reader.specs.Validity.{marks_below}
 use Rattle.hoa_reader.specs.inner.TreeEdges.{HasLabelsBelow, settled, tree_edges_for}
-use Rattle.hoa_reader.specs.inner.Kept.{AreKept}
 use Rattle.hoa_reader.proofs.elaborate.links.links_one_by_one.Given as goal
 
 abbrev pub invariant-states : goal.invariant-states
@@ -14,7 +13,6 @@ invariant-states l =
     let left = map written_state (into_iter_items l.state-iterator) in
     let n = l.fn.guards.names in
     record {
-      kept : AreKept l.guards l.kept;
       names : l.guards.names ≡ n;
       marks : list_all (marks_below l.shared.sets) left ≡ true;
       below : All (HasLabelsBelow l.shared n) left;

@@ -1,6 +1,6 @@
 use Rattle.std.proofs.Common.{subst, sym}
 use Rattle.label_guards.specs.Computed.{AreComputed}
-use Rattle.label_guards.proofs.diagrams.Computed.{computed_after}
+use Rattle.label_guards.proofs.labelled.Remembered.{computed_after}
 use Rattle.label_guards.proofs.computed.Computed.make_room.Goals as goal
 
 pub returns-then-room-max : goal.returns-then-room-max

@@ -6,6 +6,8 @@ use Rattle.label_guards.proofs.diagrams.Taken.{front_of}
 use Rattle.label_guards.proofs.guards.Guards.cut.Goals as goal
 
 pub invariant_of-self : goal.invariant_of-self
-invariant_of-self c =
-    subst (λ (s : Store). AreComputed s c.args.results)
-    (sym (c.cut.ensures ∙ (ap (λ (f : Fields). front_of c.args.count f.nodes) c.deref_mut-fields.ensures.value ∙ ap (front_of c.args.count) c.self.view_is))) c.requires
+invariant_of-self c = record {
+  results = subst (λ (s : Store). AreComputed s c.args.results)
+      (sym (c.cut.ensures ∙ (ap (λ (f : Fields). front_of c.args.count f.nodes) c.deref_mut-fields.ensures.value ∙ ap (front_of c.args.count) c.self.view_is))) c.requires;
+  letters = c.clear.ensures c.cut.new.self;
+}
