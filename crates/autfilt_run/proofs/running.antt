@@ -1,4 +1,5 @@
 -- The run of the command: preparing, the steps, the end, and the lines about it.
+pub mod Advanced
 pub mod Arguments
 pub mod Carried
 pub mod Ending

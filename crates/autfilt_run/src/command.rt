@@ -14,7 +14,7 @@ ghost use Rattle.filter_plan.specs.Words.{IsPlan, operands};
 ghost use Rattle.filter_plan.specs.declared.plan.Plan.{Plan};
 
 use crate::ended::{End, Ended};
-use crate::notes::{note_end, note_skipped};
+use crate::notes::{note_end, note_skipped, note_turn};
 use crate::{Prep, RunFault, Session, Turn};
 use aut_base::Words;
 use aut_io::{Inputs, Sink};
@@ -66,20 +66,17 @@ fn take_steps<I: Inputs, W: Sink, M: Sink>(
     let mut complements = Complements::new();
     let mut noting = noting;
     'steps: loop {
-        match session.step(alloc, &mut complements, inputs, out) {
-            Ok(Turn::Done) => {
-                let end = finish(&mut session, out);
-                return note_end(notes, noting, session.name_in_hand(), end);
-            }
-            Ok(Turn::Skipped) => noting = note_skipped(notes, noting, session.name_in_hand()),
-            Ok(Turn::Opened) => {}
-            Ok(Turn::Kept) => {}
-            Ok(Turn::Dropped) => {}
-            Ok(Turn::StreamEnd) => {}
+        let turn = match session.step(alloc, &mut complements, inputs, out) {
+            Ok(turn) => turn,
             Err(fault) => {
                 return note_end(notes, noting, session.name_in_hand(), End::Fault(fault));
             }
+        };
+        if turn == Turn::Done {
+            let end = finish(&mut session, out);
+            return note_end(notes, noting, session.name_in_hand(), end);
         }
+        noting = note_turn(notes, noting, turn, session.name_in_hand());
     }
 }
 

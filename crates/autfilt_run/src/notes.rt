@@ -5,9 +5,10 @@ ghost use Rattle.std.specs.Fmt.{decimal};
 ghost use Rattle.aut_io.specs.Seen.{SinkSeen, WritesPiece};
 ghost use Rattle.autfilt_run.specs.Noted.{HasNoted, Notes};
 ghost use Rattle.autfilt_run.specs.Notes.{aborted_line, limit_word, line_about, line_of, line_of_fault, rule_word};
+ghost use Rattle.autfilt_run.specs.inner.Running.{turn_line};
 
 use crate::ended::End;
-use crate::{RunFault, write_number};
+use crate::{RunFault, Turn, write_number};
 use aut_base::{Failed, Limit};
 use aut_io::Sink;
 use hoa_reader::Rule;
@@ -34,6 +35,16 @@ pub(crate) fn note_skipped<M: Sink>(notes: &mut M, noting: bool, name: &[u8]) ->
     match write_pieces(notes, b"autfilt: ", name, b": automaton aborted\n") {
         Ok(()) => true,
         Err(Failed) => false,
+    }
+}
+
+/// The same of a step, if it skipped an automaton. Of another step nothing is noted.
+pub(crate) fn note_turn<M: Sink>(notes: &mut M, noting: bool, turn: Turn, name: &[u8]) -> bool
+    ensures { (first : SinkSeen) → (text : List ℕ) → HasNoted text noting first (M.seen notes.old) → HasNoted (text ++ turn_line turn name.now) result first (M.seen notes.new) }
+{
+    match turn {
+        Turn::Skipped => note_skipped(notes, noting, name),
+        Turn::Opened | Turn::Kept | Turn::Dropped | Turn::StreamEnd | Turn::Done => noting,
     }
 }
 

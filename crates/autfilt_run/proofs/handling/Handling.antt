@@ -14,10 +14,8 @@ use Rattle.autfilt_run.specs.Due.{IsDue, IsDueWhere, IsResult, IsPrinted, name_d
 use Rattle.autfilt_run.specs.Faults.{fault_of_plan}
 use Rattle.autfilt_run.specs.Plans.{prints_each}
 use Rattle.autfilt_run.specs.RefutationLine.{IsRefutationLine, SaysOfInclusion}
-use Rattle.autfilt_run.specs.declared.fault.RunFault.{RunFault}
-use Rattle.autfilt_run.specs.declared.fault.RunFault.TheVariants as fault
 use Rattle.autfilt_run.specs.inner.Handling.{Handles, IsUnwanted, IsWanted, PrintsAutomaton, PrintsOrStops, ShowsInclusion, ShowsMade}
-use Rattle.autfilt_run.specs.inner.Taking.{IsReadAs, TakesAutomaton}
+use Rattle.autfilt_run.specs.inner.Taking.{IsReadAs}
 use Rattle.filter_plan.specs.Words.{changes}
 use Rattle.filter_plan.specs.declared.plan.Output.{Output}
 use Rattle.filter_plan.specs.declared.plan.Output.TheVariants.{Hoa, Stats, Refute}
@@ -128,12 +126,6 @@ is_wanted b c p ops w core name text bytes r is h e on shown printed named = rec
 }
 
 -- ---- faults
-
-pub not_taken : (f : RunFault) (p : Plan) (ops : List Automaton) (w : Written) (o : SinkSeen) → TakesAutomaton (Err f) w → Handles (Err f) p ops w o o
-not_taken (fault.Invalid rule) p ops w o h = (h, refl)
-not_taken (fault.Limit which) p ops w o h = (inl h, refl)
-not_taken fault.Memory p ops w o h = refl
-not_taken _ p ops w o h = absurd h
 
 pub not_judged : (f : PlanFault) (p : Plan) (ops : List Automaton) (w : Written) (core : Automaton) (o : SinkSeen) → IsReadAs w core → Judged (Err f) p ops core
     → Handles (Err (fault_of_plan f)) p ops w o o

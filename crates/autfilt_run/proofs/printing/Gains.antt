@@ -9,10 +9,6 @@ pub nothing : (before : Option (List ℕ)) → Gains before before []
 nothing None = refl
 nothing (Some old) = ap Some (sym (append-nil old))
 
-pub all : (before after : Option (List ℕ)) (p : List ℕ) → Gains before after p → GainsPrefix before after p
-all None after p a = a
-all (Some old) after p a = (length p, a ∙ ap (λ x. Some (old ++ x)) (sym (take_all (length p) p (omega arith))))
-
 -- two pieces
 pub both : (before between after : Option (List ℕ)) (p q : List ℕ) → Gains before between p → Gains between after q → Gains before after (p ++ q)
 both None between after p q a b =

@@ -1,5 +1,5 @@
 -- One turn of the loop over operands, where something was read.
-use Rattle.std.proofs.Common.{◌≡◌, ◌≢◌, ◌⊎◌, ℕ, ◌+◌, ◌<◌, ◌≤◌, true, List, [], ◌∷◌, ◌++◌, Option, None, Result, Ok, Err, sym, ap, ◌∙◌, subst, inl, inr, arith}
+use Rattle.std.proofs.Common.{◌≡◌, ◌≢◌, ◌⊎◌, ℕ, ◌+◌, ◌<◌, true, List, [], ◌∷◌, ◌++◌, Option, None, Result, Ok, Err, sym, ap, ◌∙◌, subst, inl, inr, arith}
 use Rattle.std.specs.Prelude.{map}
 use Rattle.std.specs.Result.{IsErrAnd}
 use Rattle.std.proofs.lemmas.List.{map-append}
@@ -84,9 +84,6 @@ rises field old new is none holds used =
     let after : new.held ≡ None = subst (λ (x : Front). HoldsBehind (Ok x) new.held) is holds in
     let more = used (λ e. let same : front.Aborted ≡ front.Blank = sym is ∙ e in cc) in
     omega (arith, more, ap held_count after, ap held_count none)
-
-pub counted : (kept skipped before after : ℕ) → kept + skipped ≤ before → before < after → kept + (skipped + 1) ≤ after
-counted kept skipped before after a b = omega (arith, a, b)
 
 -- another operand
 pub automata_of_pushed : (old new : List SymbolicAutomaton) (core : SymbolicAutomaton) (a : Automaton) → new ≡ old ++ core ∷ [] → automaton_of core ≡ a

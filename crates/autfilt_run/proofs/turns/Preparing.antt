@@ -194,19 +194,6 @@ passed old new s t keeps few h =
 
 -- ---- the turns so far
 
--- nothing happened yet
-pub read_none : (old : Session) (s : Seen) → HasReadOperands [] old old s s
-read_none old s = record {
-  operands = sym (append-nil (operands_in old));
-  happened = λ texts told p stands. (p, refl, stands);
-  named = sym (append-nil (opened_names old));
-  still = refl;
-  openings = refl;
-  opens = refl;
-  reads = refl;
-  texts = refl;
-}
-
 -- another event
 pub read_more : (events : List OperandEvent) (event : OperandEvent) (first old new : Session) (s m t : Seen) → HasReadOperands events first old s m → Turned event old new m t
     → HasReadOperands (events ++ event ∷ []) first new s t
@@ -234,16 +221,6 @@ pub record IsPreparing (first now : Session) (s t : Seen) : Type 0 where
   pub keeps : KeepsAll first now
   pub skipped : now.skipped ≡ first.skipped
   pub later : first.lexer.taken ≤ now.lexer.taken
-
-pub begins : (first : Session) (s : Seen) → IsPreparing first first s s
-begins first s = record {
-  events = [];
-  read = read_none first s;
-  passed = refl;
-  keeps = record { plan = refl; most = refl; opened = refl; kept = refl; stage = refl };
-  skipped = refl;
-  later = omega arith;
-}
 
 keeps_then : (first old new : Session) → KeepsAll first old → KeepsAll old new → KeepsAll first new
 keeps_then first old new a b = record { plan = b.plan ∙ a.plan; most = b.most ∙ a.most; opened = b.opened ∙ a.opened; kept = b.kept ∙ a.kept; stage = b.stage ∙ a.stage }

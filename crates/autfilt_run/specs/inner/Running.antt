@@ -4,7 +4,7 @@ use Rattle.aut_io.specs.Outside.{Gains, GainsPrefix, Rose, Texts}
 use Rattle.aut_io.specs.Seen.{Seen, SinkSeen}
 use Rattle.autfilt_run.specs.Ends.{ended_of}
 use Rattle.autfilt_run.specs.Noted.{HasNoted, Notes}
-use Rattle.autfilt_run.specs.Notes.{line_of}
+use Rattle.autfilt_run.specs.Notes.{aborted_line, line_of}
 use Rattle.autfilt_run.specs.Run.{AreCalm, EndsBecause, EndsInOperands, Runs, WantsOperandFile, all_noted, end_of, passed_noted, tally_after}
 use Rattle.autfilt_run.specs.declared.ended.End.{End}
 use Rattle.autfilt_run.specs.declared.ended.End.TheVariants as end
@@ -18,6 +18,8 @@ use Rattle.autfilt_run.specs.declared.fault.RunFault.{RunFault}
 use Rattle.autfilt_run.specs.declared.fault.RunFault.TheVariants as run
 use Rattle.autfilt_run.specs.declared.session.Session.{Session}
 use Rattle.autfilt_run.specs.declared.session.Stage.TheVariants.{New, Prepared}
+use Rattle.autfilt_run.specs.declared.session.Turn.{Turn}
+use Rattle.autfilt_run.specs.declared.session.Turn.TheVariants as turn
 use Rattle.filter_plan.specs.Words.{operands}
 use Rattle.filter_plan.specs.declared.plan.Plan.{Plan}
 
@@ -91,6 +93,11 @@ pub record IsFresh (s : Session) : Type 0 where
   pub opened : s.opened ≡ 0
   pub is_closed : s.is_open ≡ false
   pub kept : s.kept ≡ 0
+
+-- the line that is noted of a step in the text of this name
+abbrev pub turn_line : Turn → List ℕ → List ℕ
+turn_line turn.Skipped name = aborted_line name
+turn_line _ name = []
 
 -- the point that a run is at after the events
 pub record Reached (plan : Plan) (before : ℕ) (texts : Texts) (events : List Event) (first left : Option (List ℕ)) (s : Session) : Type 0 where
