@@ -1,7 +1,8 @@
 //! What `describe` answers, in words: the automaton that is described, or the fault.
 
 use crate::conditions::show_formula;
-use aut_base::{Description, Edge, Label, Labels, Marks};
+use crate::patterns::show_label;
+use aut_base::{Description, Edge, Marks};
 use hoa_parser::Raw;
 use hoa_reader::{ElabFault, describe};
 use row_files::Answer;
@@ -13,56 +14,6 @@ fn refusal(alloc: Global, fault: ElabFault) -> Result<String, AllocError> {
         ElabFault::Invalid(rule) => format!(in alloc; "invalid {rule:?}"),
         ElabFault::Limit(limit) => format!(in alloc; "limit {limit:?}"),
         ElabFault::Memory => String::from_str(alloc, "memory"),
-    }
-}
-
-/// Adds a label that is an atom or a negated atom, or `?` for another.
-fn show_node(answer: &mut Answer, label: &Label) {
-    match label {
-        Label::True => answer.add(b"t"),
-        Label::False => answer.add(b"f"),
-        Label::Prop(place) => answer.add_number(u64::from(*place)),
-        Label::Negated(place) => {
-            answer.add(b"!");
-            answer.add_number(u64::from(*place));
-        }
-        Label::Not(inner) => {
-            answer.add(b"!");
-            show_atom(answer, inner);
-        }
-        _ => answer.add(b"?"),
-    }
-}
-
-/// Adds a label that is an atom, or `?` for another.
-fn show_atom(answer: &mut Answer, label: &Label) {
-    match label {
-        Label::Prop(place) => answer.add_number(u64::from(*place)),
-        _ => answer.add(b"?"),
-    }
-}
-
-/// Adds the parts of a label, each an atom or a negated one.
-fn show_nodes(answer: &mut Answer, parts: &Labels) {
-    for place in 0..parts.len() {
-        answer.add(b" ");
-        show_node(answer, parts.at(place));
-    }
-    answer.add(b")");
-}
-
-/// Adds a label of at most two levels.
-fn show_label(answer: &mut Answer, label: &Label) {
-    match label {
-        Label::And(parts) => {
-            answer.add(b"(&");
-            show_nodes(answer, parts);
-        }
-        Label::Or(parts) => {
-            answer.add(b"(|");
-            show_nodes(answer, parts);
-        }
-        _ => show_node(answer, label),
     }
 }
 

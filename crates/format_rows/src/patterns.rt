@@ -1,4 +1,4 @@
-//! Word patterns, words and automata of patterns, in words.
+//! Labels, word patterns, words and automata of patterns, in words.
 
 use aut_base::{Label, Labels, Lasso, Letter, Text};
 use aut_core::Automaton;
@@ -9,12 +9,12 @@ use word_syntax::{LabelList, Pattern};
 const DEPTH: u32 = 2_000;
 
 /// Adds the names with commas between them, a space, and the letters: each of the stem with `;` after it, and those of the cycle
-/// in braces with `;` between them. A formula is in Polish notation, with a number for each proposition.
+/// in braces with `;` between them.
 pub(crate) fn show_pattern(answer: &mut Answer, pattern: &Pattern) {
     show_names(answer, pattern.names.as_slice());
     answer.add(b" ");
     for label in pattern.stem.as_slice() {
-        add_label(answer, label, DEPTH);
+        show_label(answer, label);
         answer.add(b";");
     }
     answer.add(b"{");
@@ -38,8 +38,13 @@ fn show_cycle(answer: &mut Answer, labels: &LabelList) {
         if place > 0 {
             answer.add(b";");
         }
-        add_label(answer, label, DEPTH);
+        show_label(answer, label);
     }
+}
+
+/// Adds a label in Polish notation, as `&(0,!1)`, with a number for each proposition.
+pub(crate) fn show_label(answer: &mut Answer, label: &Label) {
+    add_label(answer, label, DEPTH);
 }
 
 #[cycle(shown)]
