@@ -5,8 +5,8 @@ mod row;
 mod shown;
 mod values;
 
-use row::PlanRow;
-use row_files::{Count, Stop, run};
+use row::Plans;
+use row_files::{Count, Stop, ask};
 
 /// The files of rows, in the folder where the program runs.
 const FILES: [&str; 4] = [
@@ -18,11 +18,6 @@ const FILES: [&str; 4] = [
 
 fn main(rt: HostRuntime) -> Result<(), Stop> {
     let mut count = Count::new();
-    run_rows(&rt, &mut count)?;
+    ask(&rt, &FILES, Plans, &mut count)?;
     count.end(&rt)
-}
-
-fn run_rows(rt: &HostRuntime, count: &mut Count) -> Result<(), Stop> {
-    let mut row = PlanRow::new(rt.alloc());
-    run(rt, &FILES, &mut row, count)
 }

@@ -1,6 +1,8 @@
-//! A plan as text: a line for each field that differs from the plan of no words.
+//! A plan as text: each field that differs from the plan of no words.
 
-use crate::values::{show_count, show_file, show_hidden, show_output, show_pattern, show_range};
+use crate::values::{
+    begin, show_count, show_file, show_hidden, show_output, show_pattern, show_range, show_text,
+};
 use aut_base::{Memory, Text};
 use filter_plan::{Form, Plan};
 use row_files::Answer;
@@ -57,16 +59,16 @@ fn show_operations(answer: &mut Answer, plan: &Plan) {
 
 /// Adds the form.
 fn show_form(answer: &mut Answer, plan: &Plan) {
-    let line: &[u8] = match plan.form {
-        Form::AsIs => b"",
-        Form::Deterministic => b"form deterministic\n",
-        Form::Parity => b"form parity\n",
-        Form::Buchi => b"form buchi\n",
-        Form::RemoveFin => b"form remove_fin\n",
-        Form::Dnf => b"form dnf\n",
-        Form::Monitor => b"form monitor\n",
+    let form: &[u8] = match plan.form {
+        Form::AsIs => return,
+        Form::Deterministic => b"form deterministic",
+        Form::Parity => b"form parity",
+        Form::Buchi => b"form buchi",
+        Form::RemoveFin => b"form remove_fin",
+        Form::Dnf => b"form dnf",
+        Form::Monitor => b"form monitor",
     };
-    answer.add(line);
+    begin(answer, form);
 }
 
 /// Adds the options of the whole run.
@@ -77,13 +79,13 @@ fn show_run(answer: &mut Answer, plan: &Plan) {
     show_count(answer, b"most", plan.most);
     show_count(answer, b"made", plan.made);
     for stream in plan.streams.as_slice() {
-        answer.add_line(b"stream ", stream.as_bytes());
+        show_text(answer, b"stream", stream);
     }
 }
 
 /// Adds a flag that is set.
 fn show_flag(answer: &mut Answer, name: &[u8], stands: bool) {
     if stands {
-        answer.add_line(name, b"");
+        begin(answer, name);
     }
 }
