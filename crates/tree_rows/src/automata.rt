@@ -1,34 +1,22 @@
 //! The letters of automata, as sets of moves.
 
-ghost use Rattle.std.specs.Prelude.{◌<◌};
+ghost use Rattle.std.specs.Prelude.{◌<◌, All, IsTrue};
+ghost use Rattle.safra_trees.specs.Events.{IsMoveInRange};
 
 use aut_base::Memory;
 use row_files::Sequence;
 use safra_trees::{Move, Moves};
 use std::alloc::Global;
 
-/// How one state leads to another: not at all, by a move, or by an accepting one, as the next digit of a number in base three
-/// says.
-#[derive(Clone, Copy)]
-struct Digits {
-    rest: u32,
-}
-
-impl Digits {
-    fn next(&mut self) -> u32 {
-        let digit = self.rest % 3;
-        self.rest /= 3;
-        digit
-    }
-}
-
-/// The moves of a letter among so few states, by the digits of a number.
+/// The moves of a letter among so few states, by the digits of a number in base three: each says of a state whether it leads
+/// to another not at all, by a move, or by an accepting one.
 pub(crate) fn moves_by_digits(alloc: Global, states: u32, number: u32) -> Result<Moves, Memory> {
-    let mut digits = Digits { rest: number };
+    let mut rest = number;
     let mut moves = Moves::new(alloc);
     for from in 0..states {
         for to in 0..states {
-            let digit = digits.next();
+            let digit = rest % 3;
+            rest /= 3;
             if digit > 0 {
                 moves.push(Move {
                     from,
@@ -43,12 +31,8 @@ pub(crate) fn moves_by_digits(alloc: Global, states: u32, number: u32) -> Result
 
 /// All letters that there can be among so few states.
 pub(crate) fn every_letter(alloc: Global, states: u32) -> Result<Vec<Moves>, Memory> {
-    let mut count: u32 = 1;
-    for _ in 0..states.saturating_mul(states) {
-        count = count.saturating_mul(3);
-    }
     let mut letters = Vec::new(alloc);
-    for number in 0..count {
+    for number in 0..3u32.saturating_pow(states.saturating_mul(states)) {
         letters.push(moves_by_digits(alloc, states, number)?)?;
     }
     Ok(letters)
@@ -107,4 +91,16 @@ pub(crate) fn back(alloc: Global, states: u32) -> Result<Moves, Memory>
         accepting: false,
     })?;
     Ok(moves)
+}
+
+/// Whether both ends of all moves are states.
+pub(crate) fn are_within(states: u32, moves: &[Move]) -> bool
+    ensures { IsTrue result → All (IsMoveInRange states) moves.now }
+{
+    'moves: for one in moves {
+        if one.from >= states || one.to >= states {
+            return false;
+        }
+    }
+    true
 }

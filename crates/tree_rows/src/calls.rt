@@ -56,11 +56,7 @@ fn tree_of_starts(alloc: Global, line: &str) -> Result<Box<SafraTree>, Fault> {
     } else {
         numbers(alloc, line)?
     };
-    boxed_start(alloc, &starts)
-}
-
-fn boxed_start(alloc: Global, starts: &Numbers) -> Result<Box<SafraTree>, Fault> {
-    Ok(Box::new(alloc, start(alloc, starts)?)?)
+    Ok(Box::new(alloc, start(alloc, &starts)?)?)
 }
 
 /// Steps the last tree under the moves of a line, adds the answer, and adds the new tree to the list.
@@ -167,7 +163,7 @@ fn chained(alloc: Global, line: &str, goes_back: bool) -> Result<String, Fault> 
 /// The tree after so many steps of a chain of so many states, or None where one has too many nodes.
 fn after_chain(alloc: Global, states: u32, steps: u32) -> Result<Option<Box<SafraTree>>, Fault> {
     let moves = chain(alloc, states)?;
-    let mut tree = first(alloc)?;
+    let mut tree = tree_of_starts(alloc, "0")?;
     for _ in 0..steps {
         match next(alloc, &tree, &moves)? {
             Some(made) => tree = made.tree,
@@ -175,13 +171,6 @@ fn after_chain(alloc: Global, states: u32, steps: u32) -> Result<Option<Box<Safr
         }
     }
     Ok(Some(tree))
-}
-
-/// The tree of the first state alone.
-fn first(alloc: Global) -> Result<Box<SafraTree>, Fault> {
-    let mut starts = Numbers::new(alloc);
-    starts.push(0)?;
-    boxed_start(alloc, &starts)
 }
 
 /// What a step of the tree that leads back to the first of so many states answers.

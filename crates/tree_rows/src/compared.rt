@@ -1,15 +1,14 @@
 //! Trees of `safra_trees` and plain ones, stepped together and compared.
 
 ghost use Rattle.std.specs.Prelude.{◌<◌, All, IsTrue};
-ghost use Rattle.safra_trees.specs.Events.{IsMoveInRange};
 
-use crate::automata::{every_letter, moves_by_chance};
+use crate::automata::{are_within, every_letter, moves_by_chance};
 use crate::made::{Made, made_of};
 use crate::plain::{PlainNode, PlainStep, is_set, plain_start, plain_step};
 use crate::stored::is_stored;
 use aut_base::Numbers;
 use row_files::{Count, Fault, Sequence};
-use safra_trees::{Move, Moves, SafraTree, Scratch, TreeFault, start, step, step_in_room};
+use safra_trees::{Moves, SafraTree, Scratch, start, step, step_in_room};
 use std::alloc::Global;
 
 /// An upper bound for the number of trees of three states.
@@ -159,18 +158,6 @@ fn are_states(states: u32, listed: &[u32]) -> bool
     true
 }
 
-/// Whether both ends of all moves are states.
-fn are_within(states: u32, moves: &[Move]) -> bool
-    ensures { IsTrue result → All (IsMoveInRange states) moves.now }
-{
-    'moves: for one in moves {
-        if one.from >= states || one.to >= states {
-            return false;
-        }
-    }
-    true
-}
-
 /// The step of a tree and of the plain one, and whether they agree; None where there are too many nodes.
 fn both(alloc: Global, states: u32, pair: &Pair, moves: &Moves) -> Result<Option<Stepped>, Fault> {
     let Some(made) = next_tree(alloc, states, &pair.tree, moves)? else {
@@ -207,11 +194,8 @@ fn gives_the_same(
     moves: &Moves,
     made: &Made,
 ) -> Result<bool, Fault> {
-    match step(alloc, tree, moves) {
-        Ok((other, told)) => Ok(other == *made.tree && told == made.event),
-        Err(TreeFault::Nodes) => Ok(false),
-        Err(TreeFault::Memory) => Err(Fault::Memory),
-    }
+    let other = made_of(alloc, step(alloc, tree, moves))?;
+    Ok(other.is_some_and(|other| other == *made))
 }
 
 fn is_same_size(tree: &SafraTree, plain: &[PlainNode]) -> bool {

@@ -49,18 +49,6 @@ fn letter_by_chance(alloc: Global, sequence: &mut Sequence) -> Result<Moves, Mem
     Ok(moves)
 }
 
-/// Each state stays, and all but the last go on to the next by an accepting move.
-pub(crate) fn growing_letter(alloc: Global) -> Result<Moves, Memory>
-    ensures { IfOk result (λ moves. All (IsMoveInRange STATES) moves) }
-{
-    let mut moves = Moves::new(alloc);
-    'states: for from in 0..STATES - 1 {
-        add(&mut moves, from, from, false)?;
-        add(&mut moves, from, from + 1, true)?;
-    }
-    Ok(moves)
-}
-
 /// Adds a move.
 fn add(moves: &mut Moves, from: u32, to: u32, accepting: bool) -> Result<(), Memory>
     requires from { from < STATES }

@@ -6,7 +6,8 @@ ghost use Rattle.safra_trees.specs.Trees.{root_states};
 ghost use Rattle.safra_trees.specs.View.{tree_of};
 ghost use Rattle.tree_rows.specs.declared.long_letters.TheConstants.{LETTERS, STATES};
 
-use crate::long_letters::{LETTERS, STATES, growing_letter};
+use crate::automata::{are_within, chain};
+use crate::long_letters::{LETTERS, STATES};
 use aut_base::Numbers;
 use row_files::{Fault, Sequence};
 use safra_trees::{Event, Moves, SafraTree, Scratch, TreeFault, start, step_in_room};
@@ -99,7 +100,10 @@ fn go_on(
 /// The first tree: a chain of nodes.
 fn first(alloc: Global) -> Result<Standing, Fault> {
     let mut standing = one_node(alloc)?;
-    let moves = growing_letter(alloc)?;
+    let moves = chain(alloc, STATES)?;
+    if !are_within(STATES, moves.as_slice()) {
+        return Err(Fault::Failed);
+    }
     let mut room = Scratch::new(alloc);
     'steps: for _ in 1..FIRST_NODES {
         grow(alloc, &mut standing, &moves, &mut room)?;

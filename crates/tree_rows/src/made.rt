@@ -5,7 +5,7 @@ use safra_trees::{Event, SafraTree, TreeFault};
 use std::alloc::Global;
 
 /// A tree that a step made, and which names of it are red or green.
-#[derive(Drop)]
+#[derive(PartialEq, Eq, Drop)]
 pub(crate) struct Made {
     pub(crate) tree: Box<SafraTree>,
     pub(crate) event: Event,
