@@ -1,7 +1,7 @@
 -- Joins: on which cycles they hold, and where a join is one of the two conditions.
 use Rattle.std.proofs.Common.{◌≡◌, ◌∙◌, ℕ, ◌+◌, Bool, true, false, not, cond, drop, Some, slice_get, ◌&&◌, ◌||◌, List, [], ◌∷◌, ◌++◌, refl, sym, ap, ⊎_elim}
 use Rattle.std.specs.List.{list_any, list_all}
-use Rattle.std.proofs.lemmas.Bool.{cases_Bool, or_cases, and_right, or_left, or_right, or_from}
+use Rattle.std.proofs.lemmas.Bool.{cases_Bool, or_cases, and_right, or_left, or_right}
 use Rattle.std.proofs.lemmas.List.{append-nil}
 use Rattle.std.proofs.lemmas.List.Folds.{list_any-append, list_all-append}
 use Rattle.aut_base.specs.Formula.{FormulaTree, FormulaTrees, True, False, Inf, Fin, And, Or, none, more, met, all_met, some_met, trees, formula_tree, formula_list, formula_parts}
@@ -70,9 +70,6 @@ is_the_neutral join.Any = is_sink join.All
 by_weight : (j : Join) (f g : FormulaTree) (b : Bool) → (outweighs j f || outweighs j g) ≡ b → joined_by j f g ≡ cond b (sink j) (node j (parts_under j f ++ parts_under j g))
 by_weight join.All f g b h = ap (λ x. cond x False (node join.All (conjuncts f ++ conjuncts g))) h
 by_weight join.Any f g b h = ap (λ x. cond x True (node join.Any (disjuncts f ++ disjuncts g))) h
-
-pub joined_parts : (j : Join) (f g : FormulaTree) → outweighs j f ≡ false → outweighs j g ≡ false → node j (parts_under j f ++ parts_under j g) ≡ joined_by j f g
-joined_parts j f g first second = sym (by_weight j f g false (or_from (outweighs j f) (outweighs j g) first second))
 
 -- a join that is its first condition, or its second
 pub first_outweighs : (j : Join) (f g : FormulaTree) → outweighs j f ≡ true → f ≡ joined_by j f g

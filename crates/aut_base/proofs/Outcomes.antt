@@ -12,10 +12,6 @@ pub ok_weaker : {T E : Type 0} (r : Result T E) (P Q : Type 0) → (P → Q) →
 ok_weaker (Ok x) P Q weaker said = weaker said
 ok_weaker (Err e) P Q weaker said = said
 
-pub ok_always : {T E P : Type 0} (r : Result T E) → P → OnOk r P
-ok_always (Ok x) said = said
-ok_always (Err e) said = tt
-
 pub none_from : {A : Type 0} (P : Type 0) (Q : A → Type 0) (r : Option A) → is_some r ≡ false → MatchOption r P Q → P
 none_from P Q None is said = said
 none_from P Q (Some x) is said = absurd (true≢false is)

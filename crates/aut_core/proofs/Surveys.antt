@@ -1,8 +1,7 @@
 -- Surveys of the links of one state, by halves.
-use Rattle.aut_base.proofs.numbers.Truth.{or-false}
-use Rattle.std.proofs.Common.{◌≡◌, ◌∙◌, ◌↔◌, ◌+◌, ◌-◌, ◌/◌, ◌<◌, ◌≤◌, ℕ, Bool, true, false, ◌&&◌, ◌||◌, IfOk, IsTrue, List, [], ◌∷◌, ◌++◌, All, Err}
-use Rattle.std.proofs.Common.{Ok, Result, ap, arith, drop, get_or, length, length-append, map, refl, subst, sym, take}
-use Rattle.std.proofs.lemmas.Bool.{and_from, false≢true, or_from, or_left}
+use Rattle.std.proofs.Common.{◌≡◌, ◌∙◌, ◌↔◌, ◌+◌, ◌-◌, ◌/◌, ◌<◌, ℕ, Bool, true, false, ◌&&◌, ◌||◌, IfOk, IsTrue, List, [], ◌∷◌, ◌++◌, All, Err}
+use Rattle.std.proofs.Common.{Ok, Result, ap, arith, drop, length, length-append, map, refl, subst, sym, take}
+use Rattle.std.proofs.lemmas.Bool.{and_from, false≢true, or_left}
 use Rattle.std.proofs.lemmas.List.{get_or_append_left, get_or-append-add, get_or_default, length-drop, length-take, take-append-drop, take_all}
 use Rattle.std.proofs.lemmas.List.Elements.{All-drop, All-take, All-weaker}
 use Rattle.std.proofs.lemmas.List.Folds.{Any-from_list_any, list_any-append, list_any_at}
@@ -72,24 +71,6 @@ apart_from names es fs all letter =
     let right = get_or-append-add es fs next.0 found.1 ∙ (get_or_default fs next.0 found.1 next.1 next.2 ∙ next.3) in
     all found.0 (length es + next.0) found.1 (omega (arith, found.2)) (omega (arith, size, next.2)) letter (ap (is_met names letter) left ∙ found.4) (ap (is_met names letter) right ∙ next.4))
 
--- the survey of a single link
-pub alone_met : (names : List (List ℕ)) (s : Store) (x : Link) (known : GuardSurvey) → Has s x.guard
-    → IsUnionSurveyed names s (edge_of s x ∷ []) known (record { guard = x.guard; disjoint = known.disjoint })
-alone_met names s x known has = record {
-  has = has;
-  truth = λ asked on. sym (or-false (truth_in s x.guard on));
-  disjoint = (λ e. (e, λ i j d less within. absurd (omega (arith, less, within))), λ h. h.0);
-}
-
--- Where neither answer is needed any more, any guard will do.
-pub unasked_met : (names : List (List ℕ)) (s : Store) (es : List LabelledEdge) (g : Guard) (known : GuardSurvey) → known.disjoint ≡ false → known.exhaustive ≡ false → Has s g
-    → IsUnionSurveyed names s es known (record { guard = g; disjoint = known.disjoint })
-unasked_met names s es g known not_apart not_filled has = record {
-  has = has;
-  truth = λ asked. absurd (false≢true (sym (or_from known.disjoint known.exhaustive not_apart not_filled) ∙ asked));
-  disjoint = (λ e. absurd (false≢true (sym not_apart ∙ e)), λ h. h.0);
-}
-
 -- Where edges that aren't disjoint were found before, only the disjunction is needed.
 pub in_turn_met : (names : List (List ℕ)) (s now : Store) (links : List Link) (known : GuardSurvey) (met : Met) → known.disjoint ≡ false → met.disjoint ≡ false
     → IsGuardOf now (λ on. list_any (λ l. truth_in s l.guard on) links) met.guard → IsUnionSurveyed names now (map (edge_of s) links) known met
@@ -147,11 +128,6 @@ met_survey names s es known found met is disjoint exhaustive = record {
 pub no_link : (xs : List Link) → length xs < 1 → [] ≡ xs
 no_link [] none = refl
 no_link (x ∷ xs) none = absurd (omega (arith, none))
-
-pub one_link : (xs : List Link) (x : Link) → 1 ≤ length xs → length xs < 2 → x ≡ get_or xs 0 x → x ∷ [] ≡ xs
-one_link [] x some few is = absurd (omega (arith, some))
-one_link (y ∷ []) x some few is = ap (λ z. z ∷ []) is
-one_link (y ∷ z ∷ zs) x some few is = absurd (omega (arith, few))
 
 -- Without links, the edges of a state are disjoint, and not exhaustive.
 pub none_surveyed : (names : List (List ℕ)) (s : Store) (never : Guard) (known found : GuardSurvey) → IsGuardOf s (λ on. false) never → found.disjoint ≡ known.disjoint

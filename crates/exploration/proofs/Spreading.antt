@@ -15,9 +15,6 @@ use Rattle.exploration.specs.declared.fault.Fault.TheVariants as fault
 use Rattle.exploration.specs.declared.limits.Limits.{Limits}
 
 module _ {X C : Type 0} where
-  pub keeps_none : (m : TransitionFunction X) (f : X → Type 0) (is : X → ℕ → C → Type 0) → KeepsSystem m m f f is is
-  keeps_none m f is = record { moves = refl; fits = λ x h. h; is_class = λ x k c h. h }
-
   pub keeps_then : (m m' m'' : TransitionFunction X) (f f' f'' : X → Type 0) (is is' is'' : X → ℕ → C → Type 0) → KeepsSystem m m' f f' is is' → KeepsSystem m' m'' f' f'' is' is''
       → KeepsSystem m m'' f f'' is is''
   keeps_then m m' m'' f f' f'' is is' is'' a b = record {

@@ -1,6 +1,5 @@
 -- The rules.
 pub mod AllDiffer
-pub mod DistinctTexts
 pub mod Leaves
 pub mod NamesDiffer
 pub mod RisingNumbers

@@ -18,15 +18,15 @@ question_of operation.Or = Or
 question_of operation.Xor = Xor
 
 -- the place is the result in this store
-abbrev pub IsResult : Store → Question → ℕ → ℕ → ℕ → Type 0
-IsResult s And left right place = IsJoin s operation.And left right place
-IsResult s Or left right place = IsJoin s operation.Or left right place
-IsResult s Xor left right place = IsJoin s operation.Xor left right place
-IsResult s Cube names values place = IsPlaceOf s (is_in_cube names values s.names) place
+abbrev pub IsAnswerTo : Store → Question → ℕ → ℕ → ℕ → Type 0
+IsAnswerTo s And left right place = IsJoin s operation.And left right place
+IsAnswerTo s Or left right place = IsJoin s operation.Or left right place
+IsAnswerTo s Xor left right place = IsJoin s operation.Xor left right place
+IsAnswerTo s Cube names values place = IsPlaceOf s (is_in_cube names values s.names) place
 
 -- it is right in this store
 abbrev pub IsComputed : Store → Known → Type 0
-IsComputed s known = IsResult s known.question known.left known.right known.place
+IsComputed s known = IsAnswerTo s known.question known.left known.right known.place
 
 -- each of these is
 abbrev pub AreComputed : Store → List Known → Type 0

@@ -1,7 +1,7 @@
 //! The results that a store remembers, in a table that forgets (Brace, Rudell and Bryant 1990, the computed table of a package of diagrams).
 
 ghost use Rattle.std.specs.Prelude.{◌≡◌, IfSome, []};
-ghost use Rattle.label_guards.specs.Computed.{AreComputed, IsComputed, IsResult};
+ghost use Rattle.label_guards.specs.Computed.{AreComputed, IsComputed, IsAnswerTo};
 ghost use Rattle.label_guards.specs.Store.{Store};
 
 use std::alloc::Global;
@@ -63,7 +63,7 @@ impl Computed {
     /// The result, if it is there.
     #[inline]
     pub(crate) fn find(&self, question: Question, left: usize, right: usize) -> Option<usize>
-        ensures { IfSome result (λ place. (s : Store) → AreComputed s self.now → IsResult s question left right place) }
+        ensures { IfSome result (λ place. (s : Store) → AreComputed s self.now → IsAnswerTo s question left right place) }
     {
         let known = self.table.get(self.index(question, left, right))?;
         if known.question == question && known.left == left && known.right == right {

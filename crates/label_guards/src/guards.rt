@@ -6,7 +6,7 @@ ghost use Rattle.label_guards.specs.declared.guard.Guard.{Guard};
 ghost use Rattle.label_guards.specs.Guards.{IsGuardOf};
 ghost use Rattle.label_guards.specs.Nodes.{AreSides, Grows, IsChoice, IsReducedDiagram, IsNodeAt, level};
 ghost use Rattle.label_guards.specs.Operations.{IsJoin, IsShort};
-ghost use Rattle.label_guards.specs.Computed.{AreComputed, IsComputed, IsResult, question_of};
+ghost use Rattle.label_guards.specs.Computed.{AreComputed, IsComputed, IsAnswerTo, question_of};
 ghost use Rattle.label_guards.specs.Letters.{AreLastPlaces};
 ghost use Rattle.label_guards.specs.Store.{Has, HasPlace, places};
 
@@ -197,7 +197,7 @@ impl Guards {
     /// The result in the table, if it is there.
     #[inline]
     pub(crate) fn known(&self, question: Question, left: usize, right: usize) -> Option<usize>
-        ensures { IfSome result (λ place. IsResult self.now question left right place) }
+        ensures { IfSome result (λ place. IsAnswerTo self.now question left right place) }
     {
         self.fields.results.find(question, left, right)
     }

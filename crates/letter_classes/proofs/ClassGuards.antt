@@ -1,8 +1,8 @@
 -- The guards of the classes of a set are right, stay so in a store that has grown, and a step may read any valuation of a class.
-use Rattle.std.proofs.Common.{◌≡◌, ◌∙◌, ◌&&◌, ◌<◌, ◌≤◌, ℕ, Bool, true, false, cond, List, [], ◌∷◌, Option, None, Some, Result, Ok, Err, ap, arith}
+use Rattle.std.proofs.Common.{◌≡◌, ◌∙◌, ◌&&◌, ◌<◌, ◌≤◌, ℕ, Bool, true, cond, List, [], ◌∷◌, Option, None, Some, Result, Ok, Err, ap, arith}
 use Rattle.std.proofs.Common.{filter, length, map, nat_lt, refl, not, slice_get, subst, sym}
 use Rattle.std.specs.Prelude.{IfOk, MatchOption}
-use Rattle.std.proofs.lemmas.Bool.{and_parts, true≢false}
+use Rattle.std.proofs.lemmas.Bool.{and_parts}
 use Rattle.std.proofs.lemmas.List.Elements.{All-contains}
 use Rattle.std.proofs.lemmas.List.Folds.{list_all-map}
 use Rattle.std.specs.Bool.{beq}
@@ -14,7 +14,6 @@ use Rattle.aut_base.specs.CanonicalLabel.{label_of_truth}
 use Rattle.aut_base.specs.Label.{LabelTree, truth}
 use Rattle.aut_base.specs.Valuation.{IsLeast, holds_in, number_of, truth_on, valuations}
 use Rattle.aut_base.proofs.lists.Members.{map_alike}
-use Rattle.aut_core.proofs.Growth.{keeps_on}
 use Rattle.aut_core.specs.SymbolicAutomata.{SymbolicAutomaton, IsWellFormedSymbolic, automaton_of}
 use Rattle.exploration.specs.TransitionFunctions.{AreClassHandles}
 use Rattle.label_guards.proofs.valuations.Valuations.{length-bits_of}
@@ -100,20 +99,6 @@ module _ (c : SymbolicAutomaton) (core : IsWellFormedSymbolic c) (set : List ℕ
     few_answer (Ok None) items known few = few
     few_answer (Err e) items known few = few
 
--- a store that has grown
-pub fits_kept : (c : SymbolicAutomaton) (s t : Store) → Keeps s t → (set : List ℕ) → FitsStore c s set → FitsStore c t set
-fits_kept c s t keeps set fits = record { states = fits.states; keeps = keeps_on fits.keeps keeps }
-
-pub class_kept : (c : SymbolicAutomaton) (s t : Store) → Keeps s t → (set : List ℕ) (k : ℕ) (g : Guard) → IsClassGuard c s set k g → IsClassGuard c t set k g
-class_kept c s t keeps set k g is = record {
-  valuation = is.valuation;
-  at = is.at;
-  has = keeps.has g is.has;
-  least = subst (λ (n : ℕ). IsLeast n (truth_on (label_in t g)) is.valuation) (sym keeps.names)
-      (subst (λ (l : LabelTree). IsLeast s.names (truth_on l) is.valuation) (sym (keeps.labels g is.has)) is.least);
-  label = keeps.labels g is.has ∙ is.label;
-}
-
 -- the least number that a store finds for a guard is that of a valuation that satisfies it
 pub met_number : (s t : Store) (g : Guard) (found : Option ℕ) (number : ℕ) → t ≡ s → found ≡ Some number
     → MatchOption found (IsNeverMet t g) (λ n. truth_on (label_in t g) (bits_of t.names n) ≡ true) → truth_on (label_in s g) (bits_of s.names number) ≡ true
@@ -135,9 +120,6 @@ same_edges v w (e ∷ es) alike =
 module _ (c : SymbolicAutomaton) (core : IsWellFormedSymbolic c) (s : Store) (set : List ℕ) (k : ℕ) (g : Guard) (fits : FitsStore c s set) (is : IsClassGuard c s set k g) where
   names_are : s.names ≡ length c.names
   names_are = fits.keeps.names ∙ core.parts.store_names
-
-  pub some_meets : IsNeverMet s g → ⊥
-  some_meets never = true≢false (sym is.least.is_true ∙ never is.valuation is.least.size)
 
   pub class_edges : (w : List Bool) → length w ≡ s.names → truth_on (label_in s g) w ≡ true
       → filter (λ e. truth_on e.label w) (set_edges (automaton_of c) set) ≡ filter (λ e. truth_on e.label is.valuation) (set_edges (automaton_of c) set)

@@ -65,7 +65,3 @@ pub explored_from : (b : Automaton) (ss : List ℕ) (sets : List (List ℕ)) (tr
     → IsExploredFrom b ss sets transitions
 explored_from b [] sets transitions some ends = absurd (omega (arith, some))
 explored_from b (s ∷ ss) sets transitions some ends = ends
-
-pub explored_none : (b : Automaton) (ss : List ℕ) → length ss ≡ 0 → IsExploredFrom b ss [] []
-explored_none b [] e = (refl, refl)
-explored_none b (s ∷ ss) e = absurd (omega (arith, e))

@@ -50,9 +50,6 @@ some_given [] q there = absurd (none_there q there)
 some_given (p ∷ qs) q there = refl
 
 module _ (b : Automaton) (formed : IsWellFormed b) where
-  abbrev n : ℕ
-  n = length b.names
-
   -- the successors for a class are those at each letter in it
   module _ (states : List ℕ) (v : List Bool) (x : NameSet) (alike : are_alike (set_labels b states) (holds_in v) (holds_at b.names x) ≡ true) where
     same_label : (e : LabelledEdge) → Contains (set_edges b states) e → truth (holds_in v) e.label ≡ truth (holds_at b.names x) e.label

@@ -1,14 +1,13 @@
 -- What the monitor accepts, that it is determined, and that where there is one no limit is met.
-use Rattle.std.proofs.Common.{◌≡◌, ◌∙◌, ◌<◌, ◌≤◌, ℕ, List, [], ◌∷◌, Result, Ok, Err, IfOk, OnOk, ap, arith, false, length, subst, sym}
+use Rattle.std.proofs.Common.{◌≡◌, ◌∙◌, ◌<◌, ℕ, List, [], ◌∷◌, Result, Ok, Err, IfOk, OnOk, ap, arith, false, length, subst, sym}
 use Rattle.aut_base.specs.Automaton.{Automaton, IsWellFormed}
 use Rattle.aut_base.specs.Formula.{Inf}
-use Rattle.aut_base.specs.declared.limit.TheConstants.{MOST_BUCHI_STATES}
 use Rattle.aut_core.specs.SymbolicAutomata.{SymbolicAutomaton, automaton_of}
 use Rattle.aut_core.specs.Deterministic.{IsDeterministic}
 use Rattle.aut_core.specs.OtherNames.{AcceptTheSame}
 use Rattle.aut_ops.proofs.flagged.FlagLaws.{pruned_is_determined}
 use Rattle.aut_ops.specs.Pruning.{IsPruned}
-use Rattle.degeneralise.specs.Buchi.{buchi, buchi_states}
+use Rattle.degeneralise.specs.Buchi.{buchi}
 use Rattle.exploration.proofs.Finished.{ends_or_meets, has_one_ending, has_one_outcome}
 use Rattle.exploration.specs.Turns.{Finished, Running, LimitMet, Turn, begin}
 use Rattle.exploration.specs.declared.fault.Fault.{Fault}
@@ -93,6 +92,3 @@ pub no_limits_on : {E : Type 0} (a form pruned : Automaton) → form ≡ buchi a
     → OnOk r ((f : Fault) → MeetsLimit a f → ⊥)
 no_limits_on a form pruned same is_pruned (Ok made) is = no_limits a form pruned (automaton_of made) same is_pruned is
 no_limits_on a form pruned same is_pruned (Err e) is = tt
-
-pub limit_of : (a form pruned : Automaton) (f : Fault) → buchi_states a ≤ MOST_BUCHI_STATES → form ≡ buchi a → IsPruned form pruned → MeetsSubsetLimit pruned f → MeetsLimit a f
-limit_of a form pruned f few same is_pruned meets = record { few = few; pruned = pruned; is_pruned = subst (λ (b : Automaton). IsPruned b pruned) same is_pruned; meets = meets }

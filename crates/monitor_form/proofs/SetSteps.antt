@@ -9,16 +9,11 @@ use Rattle.aut_core.specs.SymbolicAutomata.{SymbolicAutomaton, IsWellFormedSymbo
 use Rattle.exploration.specs.TransitionFunctions as moves
 use Rattle.exploration.specs.TransitionFunctions.{Successor, NoSuccessor, StepOutcome}
 use Rattle.label_guards.specs.Leasts.{bits_of}
-use Rattle.label_guards.specs.Store.{Keeps, Store, label_in}
+use Rattle.label_guards.specs.Store.{Store, label_in}
 use Rattle.label_guards.specs.declared.guard.Guard.{Guard}
-use Rattle.letter_classes.proofs.ClassGuards.{class_kept, fits_kept, number_edges}
+use Rattle.letter_classes.proofs.ClassGuards.{number_edges}
 use Rattle.letter_classes.specs.SetClasses.{FitsStore, IsClassGuard, set_classes, set_edges}
-use Rattle.monitor_form.specs.Subsets.{successor_set, is_goal, subset_step, subset_moves, unless_empty}
-
-pub system_keeps : (c : SymbolicAutomaton) (s t : Store) → Keeps s t
-    → moves.KeepsSystem (subset_moves (automaton_of c)) (subset_moves (automaton_of c)) (FitsStore c s) (FitsStore c t) (IsClassGuard c s)
-    (IsClassGuard c t)
-system_keeps c s t keeps = record { moves = refl; fits = fits_kept c s t keeps; is_class = class_kept c s t keeps }
+use Rattle.monitor_form.specs.Subsets.{successor_set, is_goal, subset_step, unless_empty}
 
 -- a test of the edges that pass another is a test of the filtered list
 any_read : (p reads : LabelledEdge → Bool) (es : List LabelledEdge) → list_any (λ e. p e && reads e) es ≡ list_any p (filter reads es)

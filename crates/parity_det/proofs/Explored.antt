@@ -3,7 +3,7 @@ use Rattle.std.proofs.Common.{◌≡◌, ◌∙◌, ◌<◌, ◌≤◌, ◌==◌
 use Rattle.std.proofs.Common.{eq-eqb, get_or, leb, length, refl, slice_get, subst, sym}
 use Rattle.std.proofs.lemmas.Bool.{eqb-true, leb-false, leb-true, true≢false}
 use Rattle.std.proofs.lemmas.Option.{get_or_from_slice_get, slice_get-get_or, slice_get_within}
-use Rattle.aut_base.proofs.lists.Members.{any_found, any_from, from_filter, from_flat_map, from_map, there_filter, there_flat_map, there_map, there_at}
+use Rattle.aut_base.proofs.lists.Members.{any_found, from_filter, from_flat_map, from_map, there_filter, there_flat_map, there_map, there_at}
 use Rattle.aut_base.specs.Automaton.{Automaton, LabelledEdge}
 use Rattle.aut_base.specs.Label.{holds_at, truth}
 use Rattle.aut_base.specs.Valuation.{holds_in, truth_on}
@@ -83,9 +83,6 @@ step_given b t (Some v) y e =
 
 root_there : (t : List Node) (s : ℕ) → holds t 0 s ≡ true → Contains (root_states t) s
 root_there t s h = let found = any_found (λ x. x == s) (root_states t) h in subst (Contains (root_states t)) (eqb-true found.0 s found.2) found.1
-
-root_held : (t : List Node) (s : ℕ) → Contains (root_states t) s → holds t 0 s ≡ true
-root_held t s there = any_from (λ x. x == s) (root_states t) s there (eq-eqb s s refl)
 
 pub same_root_moves : (b : Automaton) (t : List Node) (v : List Bool) (x : NameSet)
     → are_alike (set_labels b (root_states t)) (holds_in v) (holds_at b.names x) ≡ true → SameRootMoves (moves_at b x) (class_moves b t v) t

@@ -9,12 +9,12 @@ use Rattle.exploration.specs.TransitionFunctions as same
 use Rattle.exploration.specs.TransitionFunctions.{StepFailed, Successor, IsStepAnswer, StepOutcome}
 use Rattle.exploration.specs.declared.fault.StepFault.{StepFault}
 use Rattle.label_guards.specs.Leasts.{bits_of}
-use Rattle.label_guards.specs.Store.{Keeps, Store, label_in}
+use Rattle.label_guards.specs.Store.{Store, label_in}
 use Rattle.label_guards.specs.declared.guard.Guard.{Guard}
-use Rattle.letter_classes.proofs.ClassGuards.{class_kept, fits_kept, number_edges}
+use Rattle.letter_classes.proofs.ClassGuards.{number_edges}
 use Rattle.letter_classes.specs.SetClasses.{FitsStore, IsClassGuard, set_edges}
 use Rattle.parity_det.proofs.Explored.{large_fails, small_given}
-use Rattle.parity_det.specs.Determinisation.{class_moves, tree_step_at, tree_classes, tree_moves, unless_large}
+use Rattle.parity_det.specs.Determinisation.{class_moves, tree_step_at, tree_classes, unless_large}
 use Rattle.parity_det.specs.Faults.{step_fault}
 use Rattle.letter_classes.specs.Taken.{reads_at}
 use Rattle.parity_det.specs.inner.Systems.{IsClassEvent, moves_of}
@@ -35,12 +35,6 @@ pub class_taken : (c : SymbolicAutomaton) → IsWellFormedSymbolic c → (s : St
 class_taken c core s t k g fits is set root number meets taken e =
     e ∙ (ap (λ qs. moves_of (reads_at c number) (set_edges (automaton_of c) qs)) root
     ∙ ap (map move_of) (number_edges c core s (root_states t) k g fits is c.store.names number refl meets))
-
--- the transition system after its store has grown
-pub system_keeps : (c : SymbolicAutomaton) (s t : Store) → Keeps s t → same.KeepsSystem (tree_moves (automaton_of c)) (tree_moves (automaton_of c)) (λ x. FitsStore c s (root_states x))
-    (λ x. FitsStore c t (root_states x))
-    (λ x k g. IsClassGuard c s (root_states x) k g) (λ x k g. IsClassGuard c t (root_states x) k g)
-system_keeps c s t keeps = record { moves = refl; fits = λ x. fits_kept c s t keeps (root_states x); is_class = λ x. class_kept c s t keeps (root_states x) }
 
 module _ (c : SymbolicAutomaton) (core : IsWellFormedSymbolic c) (s : Store) (t : List Node) (k : ℕ) (g : Guard) (fits : FitsStore c s (root_states t)) (is : IsClassGuard c s (root_states t) k g)
     (taken : List moves.Move) (moves_are : taken ≡ class_moves (automaton_of c) t is.valuation) where

@@ -1,8 +1,8 @@
 -- Loops over a list: the items up to an index, and those that are left.
 use Rattle.aut_base.proofs.lists.Lists.{drop-slice_get, take-push, take-slice_get}
-use Rattle.std.proofs.Common.{Bool, List, Some, [], ap, drop, false, get_or, length, map, slice_get, sym, take, true, ℕ, ◌&&◌, ◌++◌, ◌+◌, ◌||◌, ◌∙◌, ◌∷◌, ◌≡◌, ◌≤◌, ◌<◌}
+use Rattle.std.proofs.Common.{Bool, List, Some, [], ap, drop, false, get_or, length, map, slice_get, sym, take, true, ℕ, ◌&&◌, ◌++◌, ◌+◌, ◌||◌, ◌∙◌, ◌∷◌, ◌≡◌, ◌<◌}
 use Rattle.std.proofs.lemmas.List.Concat.{flat_map-append}
-use Rattle.std.proofs.lemmas.List.{append-nil, append_assoc, drop_all, map-append}
+use Rattle.std.proofs.lemmas.List.{append-nil, append_assoc, map-append}
 use Rattle.std.specs.List.{list_all, list_any}
 use Rattle.std.specs.Prelude.{flat_map}
 
@@ -18,9 +18,6 @@ all_more p xs k x is so_far passes = sym (ap (λ b. b && list_all p (drop (k + 1
 
 pub all_not_here : {A : Type 0} (p : A → Bool) (xs : List A) (k : ℕ) (x : A) → slice_get xs k ≡ Some x → list_all p (drop k xs) ≡ list_all p xs → p x ≡ false → false ≡ list_all p xs
 all_not_here p xs k x is so_far fails = sym (ap (λ b. b && list_all p (drop (k + 1) xs)) fails) ∙ sym (ap (list_all p) (drop-slice_get xs k x is)) ∙ so_far
-
-pub all_done : {A : Type 0} (p : A → Bool) (xs : List A) (k : ℕ) → length xs ≤ k → list_all p (drop k xs) ≡ list_all p xs → true ≡ list_all p xs
-all_done p xs k all so_far = sym (ap (list_all p) (drop_all k xs all)) ∙ so_far
 
 pub map_more : {A B : Type 0} (f : A → B) (xs : List A) (k : ℕ) (x : A) (old new : List B) (y : B) (all : List B) → slice_get xs k ≡ Some x → old ++ map f (drop k xs) ≡ all → y ≡ f x
     → new ≡ old ++ y ∷ [] → new ++ map f (drop (k + 1) xs) ≡ all

@@ -47,9 +47,6 @@ module _ (a b : Automaton) (names : b.names ≡ a.names) (first : IsWellFormed a
   edge_of_first : (e : LabelledEdge) → Contains a.edges e → IsEdgeOf a e
   edge_of_first e there = All-contains (IsEdgeOf a) a.edges e first.edges there
 
-  edge_of_second : (e : LabelledEdge) → Contains b.edges e → IsEdgeOf b e
-  edge_of_second e there = All-contains (IsEdgeOf b) b.edges e second.edges there
-
   -- conditions
 
   none_fresh : (cs : List (List ℕ)) → All (λ marks. All (λ m. m < a.sets) marks) cs → (list_all (λ marks. not (is_in fresh marks)) cs ≡ true) × (list_any (is_in fresh) cs ≡ false)

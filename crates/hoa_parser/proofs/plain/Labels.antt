@@ -13,7 +13,7 @@ use Rattle.hoa_parser.specs.Grammar.{Label, Lands, Lnot, Lnots, LabelWithin, Lan
 use Rattle.hoa_parser.specs.Grammar.{lands_meaning, lands_tokens, lnot_meaning, lnot_tokens, lnots_meaning, lnots_tokens, negated, no_land, no_lnot, or_land, proposition, true_label}
 use Rattle.hoa_parser.specs.inner.RuleReads.{LandPhrase, LandWithin, land_meaning, land_tokens}
 use Rattle.hoa_parser.specs.Raw as raw
-use Rattle.hoa_parser.specs.Raw.{RawTree, all_literals, raw_all, raw_list, raw_parts, raw_tree, raw_trees}
+use Rattle.hoa_parser.specs.Raw.{RawTree, all_literals, raw_all, raw_list, raw_tree}
 use Rattle.hoa_parser.specs.Standing.{most_depth}
 use Rattle.hoa_parser.specs.declared.raw.RawLabel.{RawLabel}
 use Rattle.hoa_parser.specs.declared.raw.RawLabels.{RawLabels}
@@ -110,9 +110,6 @@ literals_and us vs l x y z w is s sign k =
           ∙ ap (λ ts. lnot_meaning p.first ∷ ts) (lnots_and_meaning p.others k.phrase);
     }
 
-pub literals_more : (first : RawTree) (us : List RawTree) (l : RawLabel) (x y : List ℕ) → raw_tree l ≡ raw_conjunction first us → AreLiterals us x y → AreMoreLiterals first l x y
-literals_more first us l x y is s = record { phrase = s.phrase; within = s.within; spelled = s.spelled; means = is ∙ ap (raw_conjunction first) s.means }
-
 pub one_conjunction : (l : RawLabel) (x y : List ℕ) → IsLiteral l x y → IsConjunctionText l x y
 one_conjunction l x y s = record {
   phrase = record { first = s.phrase; others = no_lnot };
@@ -152,9 +149,6 @@ group_factor l x y z sign s =
       means = s.means;
     }
 
-pub bare_factor : (l : RawLabel) (x y : List ℕ) → IsConjunctionText l x y → IsFactor l x y
-bare_factor l x y s = record { phrase = s.phrase; within = s.within 0 (lit≤ tt); spelled = s.spelled; means = s.means }
-
 -- a disjunction, part by part
 pub one_factor : (l : RawLabel) (x y : List ℕ) → IsFactor l x y → AreFactors (raw_tree l ∷ []) x y
 one_factor l x y s = record {
@@ -188,9 +182,6 @@ factors_or us vs l x y z w is s sign k = record {
   means = is ∙ ap (λ ts. ts ++ raw_tree l ∷ []) s.means ∙ ap (λ t. factors_meaning s.phrase ++ t ∷ []) k.means ∙ label_or_meaning s.phrase k.phrase;
 }
 
-pub factors_more : (first : RawTree) (us : List RawTree) (l : RawLabel) (x y : List ℕ) → raw_tree l ≡ disjunction first us → AreFactors us x y → AreMoreFactors first l x y
-factors_more first us l x y is s = record { phrase = s.phrase; within = s.within; spelled = s.spelled; means = is ∙ ap (disjunction first) s.means }
-
 pub one_label : (l : RawLabel) (x y : List ℕ) → IsFactor l x y → IsLabel l x y
 one_label l x y s = record {
   phrase = label s.phrase.first s.phrase.others no_land;
@@ -219,22 +210,6 @@ pub record Parted (Are : List RawTree → List ℕ → List ℕ → Type 0) (fir
   pub trees : List RawTree
   pub list : raw_list parts ≡ first ∷ trees
   pub are : Are trees x y
-
-abbrev all_and : List RawTree → RawTree
-all_and [] = raw.True
-all_and (t ∷ ts) = raw_conjunction t ts
-
-abbrev all_or : List RawTree → RawTree
-all_or [] = raw.False
-all_or (t ∷ ts) = disjunction t ts
-
-pub literals_whole : (first : RawTree) (parts : RawLabels) (l : RawLabel) (x y : List ℕ)
-    → raw_tree l ≡ raw.And (raw_parts parts).first (raw_parts parts).second (raw_trees (raw_parts parts).others) → Parted AreLiterals first parts x y → AreMoreLiterals first l x y
-literals_whole first parts l x y is s = literals_more first s.trees l x y (is ∙ ap all_and s.list) s.are
-
-pub factors_whole : (first : RawTree) (parts : RawLabels) (l : RawLabel) (x y : List ℕ)
-    → raw_tree l ≡ raw.Or (raw_parts parts).first (raw_parts parts).second (raw_trees (raw_parts parts).others) → Parted AreFactors first parts x y → AreMoreFactors first l x y
-factors_whole first parts l x y is s = factors_more first s.trees l x y (is ∙ ap all_or s.list) s.are
 
 pub literals_pair : (first : RawTree) (parts : RawLabels) (l : RawLabel) (x y : List ℕ) → raw_list parts ≡ first ∷ raw_tree l ∷ [] → IsLiteral l x y → Parted AreLiterals first parts x y
 literals_pair first parts l x y list s = record { trees = raw_tree l ∷ []; list = list; are = one_literal l x y s }

@@ -1,11 +1,10 @@
 -- Tokens in front of bytes, as a reader passes them.
-use Rattle.std.proofs.Common.{◌≡◌, ℕ, ◌+◌, ◌-◌, ◌≤◌, Bool, true, false, not, List, [], ◌∷◌, ◌++◌, length, Option, Some, None, refl, ap, ◌∙◌, arith, is_some}
-use Rattle.std.proofs.lemmas.List.{append_assoc, length-append}
+use Rattle.std.proofs.Common.{◌≡◌, ℕ, ◌+◌, ◌-◌, ◌≤◌, Bool, true, false, not, List, [], ◌∷◌, ◌++◌, length, Option, Some, None, refl, ap, arith, is_some}
+use Rattle.std.proofs.lemmas.List.{length-append}
 use Rattle.hoa_lexer.specs.Spelling.{closes_itself}
 use Rattle.hoa_lexer.specs.Text.{IsFront}
 use Rattle.hoa_lexer.specs.inner.Steps.{PassesBlanks}
 use Rattle.hoa_lexer.proofs.next_token.Fronts.{skips_then, token_ok}
-use Rattle.hoa_lexer.proofs.next_token.Asked.{ends_on}
 use Rattle.hoa_lexer.specs.declared.token.Token.{Token}
 use Rattle.hoa_parser.specs.inner.Parsing.{Cursor, Follows, Passed}
 use Rattle.hoa_parser.specs.inner.AtHand.{Spelled}
@@ -18,26 +17,6 @@ spelled_behind (t ∷ ts) x y z s k = (k.0, k.1, skips_then x y k.0 s k.2, k.3, 
 pub spelled_then : (ts us : List Token) (x y z : List ℕ) → Spelled x ts y → Spelled y us z → Spelled x (ts ++ us) z
 spelled_then [] us x y z s t = spelled_behind us x y z s t
 spelled_then (t ∷ ts) us x y z s k = (s.0, s.1, s.2, s.3, spelled_then ts us s.1 y z s.4 k)
-
--- more bytes may follow
-skips_more : (x y more : List ℕ) → PassesBlanks x y → PassesBlanks (x ++ more) (y ++ more)
-skips_more x y more s = record {
-  before = s.before;
-  split = ap (λ w. w ++ more) s.split ∙ append_assoc s.before y more;
-  blanks = s.blanks;
-}
-
-pub front_more : (x y more : List ℕ) (token : Token) → IsFront x token y → IsFront (x ++ more) token (y ++ more)
-front_more x y more token f = record {
-  word = f.word;
-  split = ap (λ w. w ++ more) f.split ∙ append_assoc f.word y more;
-  spells = f.spells;
-  ends = ends_on token y more f.ends;
-}
-
-pub spelled_more : (ts : List Token) (x y more : List ℕ) → Spelled x ts y → Spelled (x ++ more) ts (y ++ more)
-spelled_more [] x y more s = skips_more x y more s
-spelled_more (t ∷ ts) x y more s = (s.0 ++ more, s.1 ++ more, skips_more x s.0 more s.2, front_more s.0 s.1 more t s.3, spelled_more ts s.1 y more s.4)
 
 pub skips_length : (x y : List ℕ) → PassesBlanks x y → length y ≤ length x
 skips_length x y s = omega (arith, ap length s.split, length-append s.before y)

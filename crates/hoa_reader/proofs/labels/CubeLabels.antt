@@ -7,7 +7,7 @@ use Rattle.aut_base.specs.Label.{AllBelow, EachBelow, LabelTree, LabelTrees, all
 use Rattle.hoa_parser.proofs.plain.Cubes.{no_bit}
 use Rattle.hoa_parser.specs.Raw.{RawTree, all_literals, cube_literals, has_bit, maybe_literal, raw_all, raw_literal, raw_trees}
 use Rattle.hoa_reader.proofs.labels.LetterTruth.{all_true_push, conjunction_truth, with_nothing}
-use Rattle.hoa_reader.specs.Described.{Meaning, conjunction, each_expanded, expanded, literal}
+use Rattle.hoa_reader.specs.Described.{Meaning, conjunction, each_expanded, expanded}
 use Rattle.hoa_reader.specs.inner.Cubes.{each_of}
 use Rattle.label_guards.specs.Guards.{IsGuardOf}
 use Rattle.label_guards.specs.Numbers.{is_as_asked, is_in_cube, is_set}
@@ -27,24 +27,6 @@ expanded_all ms (t ∷ u ∷ us) = ap (LabelTree.And (expanded ms t) (expanded m
 literal_label : (ms : List Meaning) (k : ℕ) (holds : Bool) → expanded ms (raw_literal k holds) ≡ (if holds then LabelTree.Prop k else LabelTree.Not (LabelTree.Prop k))
 literal_label ms k true = refl
 literal_label ms k false = refl
-
--- the literal of a place, by its bit
-pub literal_is : (ms : List Meaning) (v k : ℕ) → literal v k ≡ expanded ms (raw_literal k (has_bit v k))
-literal_is ms v k = sym (literal_label ms k (has_bit v k))
-
--- the parts with the literal of a place, if it is asked for
-pub parts_skipped : (ms : List Meaning) (parts : List LabelTree) (asked : Bool) (k : ℕ) (holds : Bool) → asked ≡ false → parts ≡ parts ++ each_of ms (maybe_literal asked k holds)
-parts_skipped ms parts asked k holds is = sym (append-nil parts) ∙ ap (λ b. parts ++ each_of ms (maybe_literal b k holds)) (sym is)
-
-pub parts_added : (ms : List Meaning) (parts : List LabelTree) (asked : Bool) (v k : ℕ) (own : LabelTree) → asked ≡ true → own ≡ literal v k
-    → parts ++ own ∷ [] ≡ parts ++ each_of ms (maybe_literal asked k (has_bit v k))
-parts_added ms parts asked v k own is literal = ap (λ t. parts ++ t ∷ []) (literal ∙ literal_is ms v k) ∙ ap (λ b. parts ++ each_of ms (maybe_literal b k (has_bit v k))) (sym is)
-
-pub parts_next : (ms : List Meaning) (parts more : List LabelTree) (n v k : ℕ) → parts ≡ each_of ms (cube_literals n v k)
-    → more ≡ parts ++ each_of ms (maybe_literal (has_bit n k) k (has_bit v k)) → more ≡ each_of ms (cube_literals n v (suc k))
-parts_next ms parts more n v k are is =
-    is ∙ (ap (λ ts. ts ++ each_of ms (maybe_literal (has_bit n k) k (has_bit v k))) are
-    ∙ sym (map-append (expanded ms) (cube_literals n v k) (maybe_literal (has_bit n k) k (has_bit v k))))
 
 pub label_whole : (ms : List Meaning) (parts : List LabelTree) (label : LabelTree) (n v k : ℕ) → k ≡ 32 → label ≡ conjunction parts → parts ≡ each_of ms (cube_literals n v k)
     → label ≡ expanded ms (raw_all (all_literals n v))

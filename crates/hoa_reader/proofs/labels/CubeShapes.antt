@@ -2,7 +2,7 @@
 use Rattle.std.proofs.Common.{◌≡◌, inl, inr, ◌∙◌, ◌+◌, ◌/◌, ◌%◌, ◌^◌, ◌==◌, ◌<◌, ◌≤◌, ◌≢◌, ◌&&◌, ◌++◌, ◌∷◌, [], ℕ, zero, suc, Bool}
 use Rattle.std.proofs.Common.{true, false, max, List, length, None, ap, arith, nat_le, refl, subst, sym}
 use Rattle.std.proofs.lemmas.Bool.{cases_lt, false≢true}
-use Rattle.std.proofs.lemmas.List.{append-nil, length-append}
+use Rattle.std.proofs.lemmas.List.{length-append}
 use Rattle.std.proofs.lemmas.Nat.{le-div, pow_pos}
 use Rattle.hoa_parser.proofs.grammar.RawTrees.{raw_tree-Cube}
 use Rattle.hoa_parser.proofs.plain.Cubes.{literals_before}
@@ -38,15 +38,6 @@ literal_small : (k : ℕ) (holds : Bool) (alias : List ℕ → ℕ) → capped_s
 literal_small k true alias = omega arith
 literal_small k false alias = omega arith
 
--- no part
-pub tells_none : (s : Shape) → s.props ≡ 0 → s.plain ≡ true → s.height ≡ 0 → s.size ≡ 0 → TellsAll s []
-tells_none s props plain height size = record { props = props; plain = plain; height = λ alias. height; size = λ alias. size; small = tt }
-
--- with the literal of a place, if it is asked for
-pub tells_skipped : (s : Shape) (ts : List RawTree) (k : ℕ) (asked holds : Bool) → asked ≡ false → TellsAll s ts → TellsAll s (ts ++ maybe_literal asked k holds)
-tells_skipped s ts k asked holds is tells =
-    subst (λ (b : Bool). TellsAll s (ts ++ maybe_literal b k holds)) (sym is) (subst (TellsAll s) (sym (append-nil ts)) tells)
-
 pub tells_added : (s o r : Shape) (ts : List RawTree) (k : ℕ) (asked holds : Bool) → asked ≡ true → r.props ≡ max s.props o.props → r.plain ≡ (s.plain && o.plain) → r.height ≡ max s.height o.height
     → r.size ≡ cap (s.size + o.size) → Tells o (raw_literal k holds) → TellsAll s ts → TellsAll r (ts ++ maybe_literal asked k holds)
 tells_added s o r ts k asked holds is props plain height size own tells =
@@ -57,20 +48,6 @@ tells_added s o r ts k asked holds is props plain height size own tells =
       size = λ alias. let rest = sizes_push alias ts (raw_literal k holds) in let one = own.size alias in let all = tells.size alias in omega (arith, rest, size, one, all);
       small = small_push ts (raw_literal k holds) tells.small (literal_small k holds);
     })
-
--- one literal
-pub tells_held : (s : Shape) (k : ℕ) (holds : Bool) → holds ≡ true → s.props ≡ k + 1 → s.plain ≡ true → s.height ≡ 1 → s.size ≡ 1 → Tells s (raw_literal k holds)
-tells_held s k holds is props plain height size =
-    subst (λ (b : Bool). Tells s (raw_literal k b)) (sym is) (record { props = props; plain = plain; height = λ alias. height; size = λ alias. size })
-
-pub tells_failed : (s : Shape) (k : ℕ) (holds : Bool) → holds ≡ false → s.props ≡ k + 1 → s.plain ≡ true → s.height ≡ 2 → s.size ≡ 2 → Tells s (raw_literal k holds)
-tells_failed s k holds is props plain height size =
-    subst (λ (b : Bool). Tells s (raw_literal k b)) (sym is) (record { props = props; plain = plain; height = λ alias. omega (arith, height); size = λ alias. omega (arith, size) })
-
--- the conjunction of none, of one, and of more
-pub tells_joined_none : (s r : Shape) (ts : List RawTree) → length ts ≡ 0 → r.props ≡ 0 → r.plain ≡ true → r.height ≡ 1 → r.size ≡ 1 → Tells r (raw_all ts)
-tells_joined_none s r [] size props plain height one = record { props = props; plain = plain; height = λ alias. height; size = λ alias. one }
-tells_joined_none s r (t ∷ ts) size props plain height one = absurd (omega (arith, size))
 
 pub tells_joined_one : (s : Shape) (ts : List RawTree) → length ts ≡ 1 → TellsAll s ts → Tells s (raw_all ts)
 tells_joined_one s [] size tells = absurd (omega (arith, size))

@@ -26,10 +26,6 @@ use Rattle.label_guards.specs.Store.{Has, Keeps, Store}
 abbrev pub edges_from : Shared → RawState → List RawEdge → ℕ → ℕ → List LabelledEdge
 edges_from x state edges first i = tree_edges_at x (written_state state) (first + i) (map written_edge (drop i edges))
 
-pub all_edges : (x : Shared) (state : RawState) (edges : List RawEdge) (first : ℕ)
-    → edges_from x state edges first 0 ≡ tree_edges_at x (written_state state) first (map written_edge edges)
-all_edges x state edges first = ap (λ n. tree_edges_at x (written_state state) n (map written_edge edges)) (omega arith)
-
 pub next_edge : (x : Shared) (state : RawState) (edges : List RawEdge) (first i : ℕ) (edge : RawEdge) → i < length edges → edge ≡ get_or edges i edge
     → edges_from x state edges first i ≡ tree_edge_for x (written_state state) (first + i) (written_edge edge) ∷ edges_from x state edges first (i + 1)
 next_edge x state edges first i edge within is =

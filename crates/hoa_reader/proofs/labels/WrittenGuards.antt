@@ -1,5 +1,5 @@
 -- Guards of labels as they are written, by the guards of their parts.
-use Rattle.std.proofs.Common.{◌≡◌, ◌∙◌, ◌+◌, ◌≤◌, ◌&&◌, ◌||◌, ℕ, suc, Bool, true, false, not, List, [], ◌∷◌, ap, drop, length, map, refl, sym, arith, Some, slice_get}
+use Rattle.std.proofs.Common.{◌≡◌, ◌∙◌, ◌+◌, ◌≤◌, ◌&&◌, ◌||◌, ℕ, suc, Bool, true, false, List, [], ◌∷◌, ap, drop, length, map, refl, sym, arith, Some, slice_get}
 use Rattle.std.proofs.lemmas.List.{drop_all}
 use Rattle.std.proofs.lemmas.Option.{slice_get-map}
 use Rattle.std.specs.Global.{Global}
@@ -59,11 +59,6 @@ pub guard_beside : (s t u : Store) (op : Bool → Bool → Bool) (says : (ℕ �
     → IsGuardOf u (λ on. op (truth_in t own on) (truth_in t guard on)) g → IsGuardOf u (λ on. op (says on) (truth_in s guard on)) g
 guard_beside s t u op says own guard g keeps has is_own is =
     guard_same u _ _ g (λ on. λ i. op (is_own.truth on i) (ap (truth on) (keeps.labels guard has) i)) is
-
--- the other way about for `not`
-pub guard_turned : (t u : Store) (label : LabelTree) (inner g : Guard) → IsGuardOf t (λ on. truth on label) inner → IsGuardOf u (λ on. not (truth_in t inner on)) g
-    → IsGuardOf u (λ on. truth on (LabelTree.Not label)) g
-guard_turned t u label inner g is_inner is = guard_same u _ _ g (λ on. ap not (is_inner.truth on)) is
 
 -- The parts of a conjunction or disjunction, each with its aliases replaced.
 each_of : (ms : List Meaning) (ts : List RawTree) → each_expanded ms (raw_trees ts) ≡ trees (map (expanded ms) ts)

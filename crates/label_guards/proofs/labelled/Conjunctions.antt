@@ -1,7 +1,6 @@
 -- The place of a conjunction of literals, from its last literal to its first.
-use Rattle.std.proofs.Common.{◌≡◌, ℕ, suc, ◌∙◌, Bool, true, false, not, ◌&&◌, ◌||◌, ap, refl, sym}
-use Rattle.std.specs.Bool.{beq}
-use Rattle.label_guards.specs.Numbers.{is_as_asked, is_in_cube, is_set}
+use Rattle.std.proofs.Common.{◌≡◌, ℕ, suc, ◌∙◌, Bool, true, false, ◌&&◌, ap, refl, sym}
+use Rattle.label_guards.specs.Numbers.{is_as_asked, is_in_cube}
 use Rattle.label_guards.specs.Store.{Store, outcome}
 use Rattle.label_guards.proofs.diagrams.Outcomes.{outcome-true}
 
@@ -26,10 +25,3 @@ cube_more s t names values left less place made whole next so_far here on =
     ap (λ b. is_in_cube names values less on && b) (here on)
     ∙ (together (is_in_cube names values less on) (is_as_asked names values less on) (outcome s.nodes on place)
     ∙ (ap (λ n. is_in_cube names values n on && outcome s.nodes on place) (sym next) ∙ so_far on))
-
--- where the proposition isn't asked for, and where it is
-pub unasked : (names values k : ℕ) (on : ℕ → Bool) (b : Bool) → is_set names k ≡ false → b ≡ (is_as_asked names values k on && b)
-unasked names values k on b e = ap (λ a. (not a || beq (on k) (is_set values k)) && b) (sym e)
-
-pub is_asked : (names values k : ℕ) (on : ℕ → Bool) (b : Bool) → is_set names k ≡ true → (beq (on k) (is_set values k) && b) ≡ (is_as_asked names values k on && b)
-is_asked names values k on b e = ap (λ a. (not a || beq (on k) (is_set values k)) && b) (sym e)

@@ -5,7 +5,7 @@ use Rattle.std.proofs.Math.Nat.{div-div-eq-div-mul}
 use Rattle.std.proofs.lemmas.Bool.{cases_lt}
 use Rattle.std.proofs.lemmas.List.{length-take, take-append-drop}
 use Rattle.std.proofs.lemmas.Nat.{pow-add}
-use Rattle.std.proofs.lemmas.Option.{none-some, slice_get_within}
+use Rattle.std.proofs.lemmas.Option.{slice_get_within}
 use Rattle.std.specs.Bool.{beq}
 use Rattle.aut_base.proofs.lists.Lists.{slice_get-append_left, slice_get-at, slice_get-push_cases}
 use Rattle.aut_base.specs.Label.{LabelTree, truth}
@@ -94,12 +94,6 @@ pub letters_kept : {s t : Store} → Keeps s t → (l : LastLetter) → AreLastP
 letters_kept keeps l are = record {
   few = subst (λ n. length l.places ≤ n) (sym keeps.names) are.few;
   last = λ k place is. last_kept keeps l.number (k + 1) place (are.last k place is);
-}
-
-pub no_letters : (s : Store) (l : LastLetter) → l.places ≡ [] → AreLastPlaces s l
-no_letters s l none = record {
-  few = subst (λ (ps : List ℕ). length ps ≤ s.names) (sym none) (omega arith);
-  last = λ k place is. absurd (none-some place (subst (λ (ps : List ℕ). slice_get ps k ≡ Some place) none is));
 }
 
 -- Another number, with the same bits from one on.

@@ -1,22 +1,20 @@
 -- What is made of an automaton by determinisation: parity automata, deterministic ones, and complements.
-use Rattle.std.proofs.Common.{[], ◌∷◌, Err, inl, inr, refl}
+use Rattle.std.proofs.Common.{[], ◌∷◌, inl, inr, refl}
 use Rattle.aut_base.specs.Automaton.{Automaton}
 use Rattle.aut_base.specs.declared.limit.Limit.{Limit}
 use Rattle.aut_base.specs.declared.limit.Limit.TheVariants as limit
 use Rattle.aut_core.specs.Deterministic.{IsDeterministic}
 use Rattle.aut_core.specs.OtherNames.{AcceptTheSame}
 use Rattle.filter_plan.specs.declared.plan.Form.TheVariants as form
-use Rattle.parity_det.specs.Complements.{IsComplementAutomaton, IsRefusal, IsWithinParity}
+use Rattle.parity_det.specs.Complements.{IsComplementAutomaton, IsWithinParity}
 use Rattle.parity_det.specs.Determinisation.{IsParityAutomatonOf}
 use Rattle.parity_det.specs.Promises.{IsParityMinOdd}
-use Rattle.parity_det.specs.declared.fault.CompFault.{CompFault}
 use Rattle.parity_det.specs.declared.fault.CompFault.TheVariants as comp
 use Rattle.parity_laws.specs.Complement.{AreComplementLanguages}
 use Rattle.plan_meaning.proofs.changes.Stepping.{changed_once}
 use Rattle.plan_meaning.specs.Changes.{Bring, Complement}
 use Rattle.plan_meaning.specs.Limits.{PassesParityLimit}
-use Rattle.plan_meaning.specs.inner.Faults.{fault_of_parity}
-use Rattle.plan_meaning.specs.inner.Stepping.{IsMadeAsPromised, StepsChanges}
+use Rattle.plan_meaning.specs.inner.Stepping.{IsMadeAsPromised}
 
 module _ (a : Automaton) where
   pub within : IsWithinParity a → (which : Limit) → PassesParityLimit which a → ⊥
@@ -43,11 +41,3 @@ module _ (a : Automaton) where
     all = (made, record { within = λ which h. within (none h.0) which h.1; makes = is }, tt, refl);
     says = λ u v some. complements.exactly u v some;
   }
-
-  pub complement_refused : (f : CompFault) → IsRefusal a f → StepsChanges (Complement ∷ []) a (Err (fault_of_parity f))
-  complement_refused comp.Terms h = inl h
-  complement_refused comp.BuchiStates h = inl h
-  complement_refused comp.Trees h = inl h
-  complement_refused comp.Nodes h = inl h
-  complement_refused comp.Classes h = inl h
-  complement_refused comp.Memory h = tt

@@ -1,5 +1,5 @@
 -- A word that one automaton accepts and another doesn't, by a product with the complement of the other.
-use Rattle.std.proofs.Common.{ℕ, ◌≡◌, ◌≤◌, ◌↔◌, Bool, true, false, not, Option, None, Some, List, Ok, Err, arith, inl, inr, length, refl, subst, sym}
+use Rattle.std.proofs.Common.{ℕ, ◌≡◌, ◌≤◌, ◌↔◌, Bool, true, false, not, Option, None, Some, List, Ok, arith, inl, inr, length, refl, subst, sym}
 use Rattle.std.specs.Prelude.{◌++◌, All, IsTrue, MatchOption}
 use Rattle.std.proofs.lemmas.Bool.{true≢false}
 use Rattle.aut_base.specs.Automaton.{Automaton}
@@ -14,15 +14,13 @@ use Rattle.aut_ops.specs.declared.fault.PairFault.TheVariants as pair
 use Rattle.inclusion.proofs.Common.{included_where_none, not_included_where_word}
 use Rattle.inclusion.specs.Common.{AcceptNoneTogether, IsWordOfBoth}
 use Rattle.parity_det.proofs.ParityLaws.{complement_is_determined}
-use Rattle.parity_det.specs.Complements.{IsRefusal, IsWithinParity}
-use Rattle.parity_det.specs.declared.fault.CompFault.{CompFault}
+use Rattle.parity_det.specs.Complements.{IsWithinParity}
 use Rattle.parity_det.specs.declared.fault.CompFault.TheVariants as comp
 use Rattle.plan_meaning.proofs.changes.Determinised.{within}
 use Rattle.plan_meaning.specs.Complements.{IsKeptComplement}
 use Rattle.plan_meaning.specs.Limits.{HaveFewNames, IsIncluded, PassesOfBoth, PassesOfInclusion, PassesUnlessDeterministic}
 use Rattle.plan_meaning.specs.Refutations.{Refutes}
-use Rattle.plan_meaning.specs.inner.Beside.{FindsBeside, IsFoundBeside}
-use Rattle.plan_meaning.specs.inner.Faults.{fault_of_parity}
+use Rattle.plan_meaning.specs.inner.Beside.{IsFoundBeside}
 use Rattle.plan_meaning.specs.inner.Judging.{ComparesInclusion}
 use Rattle.word_syntax.specs.Matching.{AcceptTogether}
 use Rattle.word_syntax.specs.Printing.{HoldsOnly}
@@ -71,12 +69,3 @@ module _ (a b co : Automaton) (kept : IsKeptComplement b co) where
   pub compared : (some : Bool) → HaveFewNames a co → (HavePairs a co → ⊥) → IsTrue some ↔ AcceptTogether a co → ComparesInclusion (Ok (not some)) a b
   compared true few pairs said = (inclusion_within few pairs, λ all. (included_where_none a b co kept.complements).1 all (said.0 refl))
   compared false few pairs said = (inclusion_within few pairs, (included_where_none a b co kept.complements).0 (λ word. true≢false (sym (said.1 word))))
-
--- a refusal to make the complement is one of the comparison
-pub complement_refused : (a b : Automaton) (f : CompFault) → IsRefusal b f → FindsBeside (Err (fault_of_parity f)) a b
-complement_refused a b comp.Terms h = inl h
-complement_refused a b comp.BuchiStates h = inl h
-complement_refused a b comp.Trees h = inl h
-complement_refused a b comp.Nodes h = inl h
-complement_refused a b comp.Classes h = inl h
-complement_refused a b comp.Memory h = tt

@@ -12,10 +12,7 @@ use Rattle.plan_meaning.specs.declared.judging.filter.Filter as coded
 use Rattle.plan_meaning.specs.declared.judging.filter.Filter.TheVariants as code
 use Rattle.plan_meaning.specs.inner.Judging.{AreFrom, IsFrom, IsFilterReady, LeavesOthers}
 
--- the complement that is kept for an option is that of its operand, and back
-kept_of : (o : Option Automaton) (b : Automaton) (slot : Option SymbolicAutomaton) → o ≡ Some b → IfSome o (λ x. KeepsComplement x slot) → KeepsComplement b slot
-kept_of o b slot is h = subst (λ (x : Option Automaton). IfSome x (λ y. KeepsComplement y slot)) is h
-
+-- the complement that is kept of an operand is that of its option
 keeps_on : (o : Option Automaton) (b : Automaton) (slot : Option SymbolicAutomaton) → o ≡ Some b → KeepsComplement b slot → IfSome o (λ x. KeepsComplement x slot)
 keeps_on o b slot is h = subst (λ (x : Option Automaton). IfSome x (λ y. KeepsComplement y slot)) (sym is) h
 
@@ -35,12 +32,6 @@ stay_kept_on first next = record {
 }
 
 module _ (p : Plan) (ops : List Automaton) where
-  pub ready : (f : coded.Filter) (cs : Complements) → IsFrom p ops f → AreComplementsKept p ops cs → IsFilterReady f cs
-  ready (code.IncludedIn other) cs from kept = (from.0, kept_of _ _ cs.included_in from.1 kept.included_in)
-  ready (code.EquivalentTo other) cs from kept = (from.0, kept_of _ _ cs.equivalent_to from.1 kept.equivalent_to)
-  ready (code.Intersects other) cs from kept = from
-  ready _ cs from kept = tt
-
   pub kept_on : (f : coded.Filter) (old new : Complements) → IsFrom p ops f → AreComplementsKept p ops old → IsFilterReady f new → LeavesOthers f old new → AreComplementsKept p ops new
   kept_on (code.IncludedIn other) old new from kept now others = record {
     included_in = keeps_on _ _ new.included_in from.1 now.1;

@@ -1,5 +1,5 @@
 -- From the search in the square to the answer whether an automaton is unambiguous.
-use Rattle.std.proofs.Common.{◌≡◌, ◌↔◌, Bool, true, false, Ok, Err, refl, subst, sym}
+use Rattle.std.proofs.Common.{◌≡◌, ◌↔◌, Bool, true, false, Ok, refl, subst}
 use Rattle.std.specs.Prelude.{IsTrue}
 use Rattle.std.proofs.lemmas.Bool.{false≢true}
 use Rattle.aut_base.specs.Automaton.{Automaton}
@@ -10,10 +10,8 @@ use Rattle.aut_base.specs.declared.limit.TheConstants.{MOST_PAIRS}
 use Rattle.aut_ops.specs.Products.{HasMorePairs}
 use Rattle.plan_meaning.specs.Filters as filter
 use Rattle.plan_meaning.specs.Limits.{PassesOfSquare}
-use Rattle.plan_meaning.specs.inner.Faults.{fault_of_square}
 use Rattle.plan_meaning.specs.inner.Judging.{ExaminesFilter}
 use Rattle.unambiguous.specs.Runs.{IsUnambiguous}
-use Rattle.unambiguous.specs.declared.fault.SquareFault.{SquareFault}
 use Rattle.unambiguous.specs.declared.fault.SquareFault.TheVariants as square
 
 few_within : (a : Automaton) → (HasMorePairs MOST_PAIRS a a → ⊥) → (which : Limit) → PassesOfSquare which a → ⊥
@@ -24,8 +22,3 @@ few_within a few _ h = h
 pub examined : (b : Bool) (a : Automaton) → canonical a ≡ a → (HasMorePairs MOST_PAIRS a a → ⊥) → (IsTrue b ↔ IsUnambiguous a) → ExaminesFilter (Ok b) filter.IsUnambiguous a
 examined true a settled few is = record { within = λ which h. few_within a few which (subst (PassesOfSquare which) settled h); holds = is.0 refl }
 examined false a settled few is = record { within = λ which h. few_within a few which (subst (PassesOfSquare which) settled h); fails = λ h. false≢true (is.1 h) }
-
--- a refusal by the search in the square
-pub refused : (f : SquareFault) (a : Automaton) → canonical a ≡ a → (f ≡ square.Pairs → HasMorePairs MOST_PAIRS a a) → ExaminesFilter (Err (fault_of_square f)) filter.IsUnambiguous a
-refused square.Pairs a settled many = subst (PassesOfSquare limit.Pairs) (sym settled) (many refl)
-refused square.Memory a settled many = tt

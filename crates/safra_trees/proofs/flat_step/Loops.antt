@@ -33,6 +33,3 @@ pub mapped_names : {X : Type 0} (f : ℕ → X) (p : ℕ → Bool) (k : ℕ) (xs
 mapped_names f p k xs ys x is before one pushed =
     pushed ∙ (ap (λ vs. vs ++ x ∷ []) before ∙ (ap (λ v. map f (names_where p k) ++ v ∷ []) one
     ∙ (sym (map-append f (names_where p k) (k ∷ [])) ∙ ap (map f) (sym (names_with p k is)))))
-
-pub listed_names : (p : ℕ → Bool) (k : ℕ) (xs ys : List ℕ) → p k ≡ true → xs ≡ names_where p k → ys ≡ xs ++ k ∷ [] → ys ≡ names_where p (k + 1)
-listed_names p k xs ys is before pushed = pushed ∙ (ap (λ vs. vs ++ k ∷ []) before ∙ sym (names_with p k is))

@@ -62,11 +62,6 @@ has_moved f k n is (x ∷ xs) all s less =
     ap (λ b. b || has (map f xs) (f s)) (same_test f k n is x s (All-head (λ y. y < k) x xs all) less)
     ∙ ap (λ b. (x == s) || b) (has_moved f k n is xs (All-tail (λ y. y < k) x xs all) s less)
 
-has_missed : (f : ℕ → ℕ) (k s : ℕ) → IsMissed f k s → (xs : List ℕ) → All (λ x. x < k) xs → has (map f xs) s ≡ false
-has_missed f k s none [] all = refl
-has_missed f k s none (x ∷ xs) all =
-    ap (λ b. b || has (map f xs) s) (ne_eqb (f x) s (none x (All-head (λ y. y < k) x xs all))) ∙ has_missed f k s none xs (All-tail (λ y. y < k) x xs all)
-
 -- all states that nodes hold are below k
 abbrev pub AllBelow : ℕ → List Node → Type 0
 AllBelow k t = (x : ℕ) → All (λ s. s < k) (node_at t x).states

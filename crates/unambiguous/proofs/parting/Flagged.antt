@@ -45,14 +45,6 @@ module _ (a : SymbolicAutomaton) (core : IsWellFormedSymbolic a) (pairs : List (
   first_is : (n q : ℕ) (twins : AreTwins a pairs m n q) → twins.first ≡ link
   first_is n q twins = same_Some twins.first link (sym twins.at ∙ at)
 
-  -- there are none where the pair of the source with itself isn't listed
-  pub single : is_doubled pairs link.from ≡ false → (n q : ℕ) → AreTwins a pairs m n q → ⊥
-  single none n q twins = false≢true (sym none ∙ (ap (λ (l : Link). is_doubled pairs l.from) (sym (first_is n q twins)) ∙ twins.doubled))
-
-  -- none has an index up to this one
-  pub none_yet : (n q : ℕ) → n < m + 1 → AreTwins a pairs m n q → ⊥
-  none_yet n q less twins = omega (arith, less, twins.before)
-
   module _ (n : ℕ) (other : Link) (there : slice_get a.links n ≡ Some other) (before : m < n) (so_far : (k q : ℕ) → k < n → AreTwins a pairs m k q → ⊥) where
     -- links are in the order of their sources: after a link of another state comes none of this one
     pub none_behind_others : other.from ≢ link.from → (k q : ℕ) → AreTwins a pairs m k q → ⊥

@@ -16,13 +16,6 @@ use Rattle.aut_ops.specs.Products.{ArePairs, HasMorePairs, next_pairs, product_o
 use Rattle.label_guards.specs.Store.{Keeps, Store}
 use Rattle.unambiguous.specs.Parted.{ArePartings, parts}
 
-pub no_partings : (flags : List Bool) (pairs : List (ℕ × ℕ)) → ArePartings flags pairs 0 []
-no_partings flags pairs = record {
-  differ = λ i j d less within. absurd (omega (arith, within));
-  sound = λ k there. absurd (none_there k there);
-  whole = λ k pair less at apart. absurd (omega (arith, less));
-}
-
 module _ (flags : List Bool) (pairs : List (ℕ × ℕ)) (n : ℕ) (pair : ℕ × ℕ) (here : slice_get pairs n ≡ Some pair) (starts : List ℕ) (so_far : ArePartings flags pairs n starts) where
   pub one_less : parts flags pair ≡ false → ArePartings flags pairs (n + 1) starts
   one_less none = record {

@@ -41,11 +41,6 @@ lifted place s a b [] has runs = ap (with_letter s) runs
 lifted place s a b (t ∷ w) has runs =
     (with_letter s runs.0, letter_taken place (with_letter s a) t (Some runs.0) (of_letter place a runs.0 t runs.1) has runs.1, lifted place s runs.0 b w has runs.2)
 
--- a `)` for each outer level
-abbrev parens : List LevelTree → List Token
-parens [] = []
-parens (l ∷ ls) = token.RightParen ∷ parens ls
-
 -- tokens that complete a letter
 pub record LetterEnd (place : List ℕ → ℕ) (s : LetterState) : Type 0 where
   pub more : List Token

@@ -1,9 +1,8 @@
 -- The loop that reads a text token by token: its invariant, and its ends.
 use Rattle.std.proofs.Common.{Bool, cond, true, false, ◌≡◌, ◌≢◌, ◌∙◌, ◌∷◌, ◌++◌, ◌+◌, ◌<◌, ◌≤◌, ◌^◌, List, None, Option, Some, [], ap, arith, drop}
 use Rattle.std.proofs.Common.{inl, inr, length, length-append, length-drop, map, refl, subst, sym, ℕ}
-use Rattle.std.proofs.lemmas.List.{append-nil, drop_all, length-map}
+use Rattle.std.proofs.lemmas.List.{append-nil, length-map}
 use Rattle.std.proofs.lemmas.Option.{none-some, option_and_then_some, same_Some}
-use Rattle.std.specs.List.{list_all}
 use Rattle.std.specs.Option.{option_map}
 use Rattle.aut_base.specs.Label.{LabelTree, label_tree}
 use Rattle.word_syntax.proofs.grammar.NamePlaces.{agrees_front, distinct_differ, distinct_front, names_go, names_of-append, place_in, places_agree}
@@ -11,7 +10,7 @@ use Rattle.word_syntax.proofs.texts.Readings.{bad_writes_nothing}
 use Rattle.word_syntax.proofs.grammar.Runs.{runs_push}
 use Rattle.word_syntax.proofs.grammar.Words.{begins, begins_not, no_word, whole_word}
 use Rattle.word_syntax.specs.Grammar.{IsWord, distinct, token_names}
-use Rattle.word_syntax.specs.Tokens.{FollowsBlanks, IsWordFront, LexesWord, is_space}
+use Rattle.word_syntax.specs.Tokens.{FollowsBlanks, IsWordFront, LexesWord}
 use Rattle.word_syntax.specs.Writing.{IsBadAt, IsStoppedAt, StopsWord, WritesWord, WritesNothing, ended, misplaced, no_token}
 use Rattle.word_syntax.specs.inner.Chains.{Agrees, HasTaken, NamesGo, word_state}
 use Rattle.word_syntax.specs.inner.Machine as machine
@@ -160,21 +159,6 @@ some_bytes (b ∷ bs) tokens some first none = no_token first none
 pub stopped_at_bytes : (text : List ℕ) (at start : ℕ) (before : WordReader) → HasReadTo text at before → IsNothing text at start → start < length text → IsStoppedAt text start
 stopped_at_bytes text at start before m n some =
     stopped text at start before m n.blanks n.within (some_bytes (drop start text) m.tokens (omega (arith, length-drop start text)) n.first n.none)
-
--- at the end of the text
-pub through : (text : List ℕ) (at start : ℕ) (r : WordReader) → HasReadTo text at r → IsNothing text at start → length text ≤ start → IsThrough text r
-through text at start r m n all =
-    let none : drop start text ≡ [] = drop_all start text all in
-    let blank : drop at text ≡ n.blanks.before = n.blanks.split ∙ (ap (λ (x : List ℕ). n.blanks.before ++ x) none ∙ append-nil n.blanks.before) in
-    record {
-      tokens = m.tokens;
-      rest = drop at text;
-      lexes = m.lexes;
-      blank = ap (list_all is_space) blank ∙ n.blanks.blank;
-      names = m.names;
-      read = m.read;
-      few_letters = omega (arith, m.few_letters, m.within);
-    }
 
 -- all is read, and it is a word
 pub written : (text : List ℕ) (r : WordReader) → length text < 2 ^ 32 → IsThrough text r → r.stage ≡ End

@@ -1,5 +1,5 @@
 use Rattle.std.proofs.Common.{◌≡◌, ◌∙◌, min, subst, sym, arith}
-use Rattle.label_guards.specs.Computed.{IsResult}
+use Rattle.label_guards.specs.Computed.{IsAnswerTo}
 use Rattle.label_guards.specs.Nodes.{Grows, level}
 use Rattle.label_guards.specs.Operations.{IsJoin}
 use Rattle.label_guards.specs.Store.{Store}
@@ -31,11 +31,11 @@ combine_nodes-note-requires t c =
     let joined : IsJoin c.choice.new.self c.args.operation c.args.g c.args.h c.in_ok-place.place =
     join_step c.combine.ensures.grows c.combine-2.ensures.grows c.choice.ensures.grows c.args.operation _ _ _ _ _ _ _ _ _ _ c.requires.left c.requires.right least c.sides-g_low.ensures
     c.sides-h_low.ensures c.in_ok-low.ensures.joined c.in_ok-high.ensures.joined c.in_ok-place.ensures.made in
-    subst (λ q. IsResult c.choice.new.self q c.args.g c.args.h c.in_ok-place.place) (sym c.asked_as-question.ensures) (result_of_join _ c.args.operation _ _ _ joined)
+    subst (λ q. IsAnswerTo c.choice.new.self q c.args.g c.args.h c.in_ok-place.place) (sym c.asked_as-question.ensures) (result_of_join _ c.args.operation _ _ _ joined)
 
 pub combine_nodes-returns-in-Some-clause-joined : goal.combine_nodes-returns-in-Some-clause-joined
 combine_nodes-returns-in-Some-clause-joined t c = join_of_result _ c.args.operation _ _ _
-    (subst (λ q. IsResult c.args.self.now q c.args.g c.args.h c.in-Some.place) c.asked_as-question.ensures c.in-Some.ensures)
+    (subst (λ q. IsAnswerTo c.args.self.now q c.args.g c.args.h c.in-Some.place) c.asked_as-question.ensures c.in-Some.ensures)
 
 pub combine_nodes-returns-clause-joined : goal.combine_nodes-returns-clause-joined
 combine_nodes-returns-clause-joined t c =
