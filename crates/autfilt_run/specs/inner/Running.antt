@@ -96,8 +96,12 @@ pub record IsFresh (s : Session) : Type 0 where
 
 -- the line that is noted of a step in the text of this name
 abbrev pub turn_line : Turn → List ℕ → List ℕ
+turn_line turn.Opened name = []
+turn_line turn.Kept name = []
+turn_line turn.Dropped name = []
 turn_line turn.Skipped name = aborted_line name
-turn_line _ name = []
+turn_line turn.StreamEnd name = []
+turn_line turn.Done name = []
 
 -- the point that a run is at after the events
 pub record Reached (plan : Plan) (before : ℕ) (texts : Texts) (events : List Event) (first left : Option (List ℕ)) (s : Session) : Type 0 where

@@ -57,7 +57,8 @@ returns-then-eq g c =
     let did = subst (λ (x : Turn). Turns x old new m t p r) is said.step.steps in
     let done = subst (λ (x : Turn). progress new ≡ progress_after x (progress old)) is said.step.counts in
     carries_as c.args.session c.args.noting c.note_end-then-eq.result c.finish-end.result _ _ _ _ _ _ c.note_end-then-eq.ensures.same
-    (run_finished c.finish-end.result c.name_in_hand-then-eq.result.now c.args.session old (g.I.Inputs.seen c.args.inputs.now) m t (g.W.Sink.seen c.args.out.now) p r q _ _ _ c.args.noting c.steps.noting
+    (run_finished c.finish-end.result c.name_in_hand-then-eq.result.now c.args.session old (g.I.Inputs.seen c.args.inputs.now) m t
+    (g.W.Sink.seen c.args.out.now) p r q _ _ _ c.args.noting c.steps.noting
     c.steps.invariant.0.ran did.0 did.1 (λ is. subst (λ (x : Plan). prints_count x ≡ true) said.step.plan (c.finish-end.ensures.due is))
     (finish_as c.finish-end.result old new r q said.step.plan done c.finish-end.ensures.finishes) c.note_end-then-eq.ensures.noted)
 
