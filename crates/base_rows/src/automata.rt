@@ -4,15 +4,12 @@ use crate::words::{part, text};
 use aut_base::{Memory, Names, Text};
 use aut_core::{Automaton, NameFault, join_names};
 use row_automata::{named, read};
-use row_files::Answer;
+use row_files::{Answer, Fault};
 use std::alloc::Global;
 
 /// Whether an automaton is deterministic and complete.
-pub(crate) fn judged(alloc: Global, line: &str) -> Result<Text, Memory> {
-    match read(alloc, line) {
-        Ok(a) => text(alloc, verdict(&a)),
-        Err(_) => Ok(Text::new(alloc)),
-    }
+pub(crate) fn judged(alloc: Global, line: &str) -> Result<Text, Fault> {
+    Ok(text(alloc, verdict(&read(alloc, line)?))?)
 }
 
 fn verdict(a: &Automaton) -> &'static [u8] {
@@ -26,11 +23,9 @@ fn verdict(a: &Automaton) -> &'static [u8] {
 
 /// From `NAMES; AUTOMATON`: the text of the label of the first edge of the last state, over these names and then the
 /// automaton's own.
-pub(crate) fn over(alloc: Global, line: &str) -> Result<Text, Memory> {
-    match read(alloc, part(line, 1)) {
-        Ok(a) => label_over(alloc, &a, part(line, 0).as_bytes()),
-        Err(_) => Ok(Text::new(alloc)),
-    }
+pub(crate) fn over(alloc: Global, line: &str) -> Result<Text, Fault> {
+    let a = read(alloc, part(line, 1))?;
+    Ok(label_over(alloc, &a, part(line, 0).as_bytes())?)
 }
 
 /// The text of the label of the first edge of the last state, over these names and then the automaton's own.

@@ -3,7 +3,6 @@
 #![tactic(auto)]
 
 mod automata;
-mod conditions;
 mod exploring;
 mod forms;
 mod graphs;
@@ -45,13 +44,31 @@ struct Base;
 impl Answers for Base {
     fn answer(&self, rt: &HostRuntime, call: &str, text: &Text) -> Result<Text, Fault> {
         let line = std::str::from_utf8(text.as_bytes()).unwrap_or("");
-        Ok(answer(rt.alloc(), call, line.trim_end())?)
+        answer(rt.alloc(), call, line.trim_end())
     }
 }
 
-fn answer(alloc: Global, call: &str, line: &str) -> Result<Text, Memory> {
+fn answer(alloc: Global, call: &str, line: &str) -> Result<Text, Fault> {
     match call {
         "met_by" => values::met_by(alloc, line),
+        "dual" => forms::made(alloc, forms::Call::Dual, line),
+        "shift" => forms::made(alloc, forms::Call::Shift, line),
+        "of_terms" => forms::made(alloc, forms::Call::Spread, line),
+        "conj" => forms::made(alloc, forms::Call::Conj, line),
+        "disj" => forms::made(alloc, forms::Call::Disj, line),
+        "has_fin" => forms::has_fin(alloc, line),
+        "empty_meets" => forms::empty_meets(alloc, line),
+        "terms_count" => forms::terms_count(alloc, line),
+        "disjuncts" => forms::disjuncts(alloc, line),
+        "is_deterministic, is_complete" => automata::judged(alloc, line),
+        "over" => automata::over(alloc, line),
+        _ => Ok(answer_of_lower(alloc, call, line)?),
+    }
+}
+
+/// The calls whose rows have no condition.
+fn answer_of_lower(alloc: Global, call: &str, line: &str) -> Result<Text, Memory> {
+    match call {
         "holds" => values::holds(alloc, line),
         "truth" => values::is_true(alloc, line),
         "names" => values::count_names(alloc, line),
@@ -61,16 +78,7 @@ fn answer(alloc: Global, call: &str, line: &str) -> Result<Text, Memory> {
         "sure source" => streams::sure_source(alloc, line),
         "sink" => streams::sink(alloc, line),
         "sure sink" => streams::sure_sink(alloc, line),
-        "dual" => forms::made(alloc, forms::Call::Dual, line),
-        "shift" => forms::made(alloc, forms::Call::Shift, line),
-        "of_terms" => forms::made(alloc, forms::Call::Spread, line),
-        "conj" => forms::made(alloc, forms::Call::Conj, line),
-        "disj" => forms::made(alloc, forms::Call::Disj, line),
-        "has_fin" => forms::has_fin(alloc, line),
-        "empty_meets" => forms::empty_meets(alloc, line),
         "parity_min_odd" => forms::parity_min_odd(alloc, line),
-        "terms_count" => forms::terms_count(alloc, line),
-        "disjuncts" => forms::disjuncts(alloc, line),
         _ => answer_of_upper(alloc, call, line),
     }
 }
@@ -88,8 +96,6 @@ fn answer_of_upper(alloc: Global, call: &str, line: &str) -> Result<Text, Memory
         "explore rising" => exploring::risen(alloc, line),
         "cubes" => guards::canonical(alloc, line),
         "classes" => guards::divided(alloc, line),
-        "is_deterministic, is_complete" => automata::judged(alloc, line),
-        "over" => automata::over(alloc, line),
         "join_names" => automata::together(alloc, line),
         _ => words::text(alloc, b"no such call"),
     }

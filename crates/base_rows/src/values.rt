@@ -1,23 +1,23 @@
 //! Calls of `aut_base` on conditions, labels and letters of rows.
 
-use crate::conditions::formula;
 use crate::labels::label;
 use crate::words::{count, digits, part, rest, text, truth};
 use aut_base::{Letter, Marks, Memory, Names, Text};
+use row_files::{Fault, read_condition};
 use std::alloc::Global;
 
 /// From `CONDITION; EDGE; EDGE..`: whether the cycle of these edges meets the condition.
-pub(crate) fn met_by(alloc: Global, line: &str) -> Result<Text, Memory> {
+pub(crate) fn met_by(alloc: Global, line: &str) -> Result<Text, Fault> {
     let mut cycle = Vec::new(alloc);
     for edge in rest(line).split("; ") {
         cycle.push(marks(alloc, edge)?)?;
     }
-    truth(alloc, is_met(alloc, part(line, 0), &cycle)?)
+    Ok(truth(alloc, is_met(alloc, part(line, 0), &cycle)?)?)
 }
 
 /// Whether the cycle meets the condition, by a copy of it.
-fn is_met(alloc: Global, condition: &str, cycle: &[Marks]) -> Result<bool, Memory> {
-    let formula = formula(alloc, condition)?;
+fn is_met(alloc: Global, condition: &str, cycle: &[Marks]) -> Result<bool, Fault> {
+    let formula = read_condition(alloc, condition)?;
     if cycle.is_empty() {
         return Ok(false);
     }

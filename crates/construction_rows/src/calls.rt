@@ -1,7 +1,7 @@
 //! The calls of rows, by their names.
 
 use crate::made::{Double, Made, Single, hidden, make, make_of_two};
-use crate::rings::{choices, ring};
+use crate::shapes::ring;
 use ap_project::Hide;
 use aut_base::{Memory, Text};
 use aut_core::Automaton;
@@ -55,6 +55,7 @@ fn single_call(name: &str) -> Option<Single> {
         "trim" => Some(Single::Trim),
         "prune" => Some(Single::Prune),
         "remove_fin" => Some(Single::WithoutFin),
+        "copies" => Some(Single::Copies),
         "to_buchi" => Some(Single::Buchi),
         "monitor" => Some(Single::Monitor),
         "parity" => Some(Single::Parity),
@@ -76,7 +77,7 @@ fn other_answer(alloc: Global, call: &str, line: &str) -> Result<Text, Fault> {
     let (call, rest) = kind_and_rest(call);
     match hiding_call(call) {
         Some(how) => hiding_answer(alloc, rest, how, line),
-        None => size(alloc, call, line),
+        None => size(alloc, call, rest, line),
     }
 }
 
@@ -90,12 +91,11 @@ fn hiding_call(name: &str) -> Option<Hide> {
 }
 
 /// The calls that answer with sizes.
-fn size(alloc: Global, call: &str, line: &str) -> Result<Text, Fault> {
+fn size(alloc: Global, call: &str, rest: &str, line: &str) -> Result<Text, Fault> {
     match call {
         "reached_size" => reached_answer(alloc, line),
         "to_buchi_of_ring" => size_of_ring(alloc, line),
-        "to_buchi_of_choices" => size_of_choices(alloc, Single::Buchi, line),
-        "copies_of_choices" => size_of_choices(alloc, Single::Copies, line),
+        "size" => size_of(alloc, rest, line),
         _ => Err(Fault::UnknownKind),
     }
 }
@@ -113,13 +113,20 @@ fn shown_hidden(alloc: Global, a: &Automaton, name: &Text, how: Hide) -> Result<
 
 /// The size of the Büchi form of a ring of so many states.
 fn size_of_ring(alloc: Global, states: &str) -> Result<Text, Fault> {
-    let ring = ring(alloc, number(states)?)?;
-    size_answer(alloc, &make(alloc, Single::Buchi, &ring)?)
+    let a = ring(alloc, number(states)?, 1, true, "I0,I1,&")?;
+    size_answer(alloc, &make(alloc, Single::Buchi, &a)?)
 }
 
-/// The size of what the construction makes of so many choices.
-fn size_of_choices(alloc: Global, call: Single, count: &str) -> Result<Text, Fault> {
-    let a = choices(alloc, number(count)?)?;
+/// The size of what a construction makes of the automaton of a line.
+fn size_of(alloc: Global, name: &str, line: &str) -> Result<Text, Fault> {
+    match single_call(name) {
+        Some(call) => size_of_made(alloc, call, line),
+        None => Err(Fault::UnknownKind),
+    }
+}
+
+fn size_of_made(alloc: Global, call: Single, line: &str) -> Result<Text, Fault> {
+    let a = read(alloc, line)?;
     size_answer(alloc, &make(alloc, call, &a)?)
 }
 
@@ -133,7 +140,7 @@ fn answer_to(alloc: Global, made: &Made) -> Result<Text, Fault> {
 /// The numbers of states and sets, without the automaton.
 fn size_answer(alloc: Global, made: &Made) -> Result<Text, Fault> {
     match made {
-        Made::Automaton(a) => Ok(pair(alloc, a.states(), a.sets())?),
+        Made::Automaton(a) => Ok(pair(alloc, u64::from(a.states()), u64::from(a.sets()))?),
         Made::Refused(why) => Ok(Text::from_bytes(alloc, why.as_bytes())?),
     }
 }
@@ -146,5 +153,5 @@ fn reached_answer(alloc: Global, line: &str) -> Result<Text, Fault> {
 /// How many states are reached, and how many edges leave them.
 fn reached(alloc: Global, a: &Automaton) -> Result<Text, Memory> {
     let ReachedSize { states, edges } = reached_size(alloc, a)?;
-    pair(alloc, states, u32::try_from(edges).unwrap_or(u32::MAX))
+    pair(alloc, u64::from(states), edges as u64)
 }

@@ -3,51 +3,33 @@
 use crate::made::{Double, Made, Single, make, make_of_two};
 use aut_base::Memory;
 use aut_core::Automaton;
-use row_automata::{CONDITIONS, Choices, Words, accepted, chosen, condition, told_unless};
+use row_automata::{CONDITIONS, Choices, Words, accepted, chosen, count_call};
 use row_files::{Count, Fault};
 use std::alloc::Global;
-
-/// An automaton over `a` with two states and two edges from each.
-pub(crate) fn two_states(
-    alloc: Global,
-    choices: &mut Choices,
-    number: u32,
-) -> Result<Automaton, Fault> {
-    let condition = condition(alloc, number)?;
-    chosen(alloc, choices, b"a", 2, &[0, 0, 1, 1], condition)
-}
 
 /// Random automata and pairs of them: completion, trimming, sum and products, and pruning of the Büchi form.
 pub(crate) fn operations(rt: &HostRuntime, count: &mut Count) -> Result<(), Fault> {
     let words = Words::new(rt.alloc(), 4, 1, 2)?;
     let mut choices = Choices::chance();
     for number in 0..200u32 {
-        let different = pair_differs(rt.alloc(), &mut choices, number.wrapping_mul(11), &words)?;
-        count.take(rt, different)?;
+        operate(rt, count, &mut choices, number.wrapping_mul(11), &words)?;
     }
     Ok(())
 }
 
-/// What is printed of a random pair where an operation makes an automaton of the wrong words.
-fn pair_differs(
-    alloc: Global,
+/// A random pair.
+fn operate(
+    rt: &HostRuntime,
+    count: &mut Count,
     choices: &mut Choices,
     number: u32,
     words: &Words,
-) -> Result<Option<String>, Fault> {
-    let a = over_one(alloc, choices, b"a", number)?;
-    let b = over_one(alloc, choices, b"b", number.wrapping_mul(7))?;
-    told_unless(are_right(alloc, &a, &b, words)?, alloc, "operations", &[&a])
-}
-
-fn over_one(
-    alloc: Global,
-    choices: &mut Choices,
-    names: &[u8],
-    number: u32,
-) -> Result<Automaton, Fault> {
-    let condition = condition(alloc, number)?;
-    chosen(alloc, choices, names, 2, &[0, 0, 1], condition)
+) -> Result<(), Fault> {
+    let other = number.wrapping_mul(7);
+    let a = chosen(rt.alloc(), choices, b"a", 2, &[0, 0, 1], number)?;
+    let b = chosen(rt.alloc(), choices, b"b", 2, &[0, 0, 1], other)?;
+    let is_right = are_right(rt.alloc(), &a, &b, words)?;
+    count_call(rt, count, is_right, "operations", &[&a, &b])
 }
 
 /// Whether the operations on an automaton, and those on it and another one, make automata of the right words.
@@ -145,21 +127,11 @@ pub(crate) fn forms(rt: &HostRuntime, count: &mut Count) -> Result<(), Fault> {
     let words = Words::new(rt.alloc(), 2, 2, 3)?;
     let mut choices = Choices::chance();
     for number in 0..CONDITIONS {
-        let different = form_differs(rt.alloc(), &mut choices, number, &words)?;
-        count.take(rt, different)?;
+        let a = chosen(rt.alloc(), &mut choices, b"a", 2, &[0, 0, 1, 1], number)?;
+        let is_right = keeps_in_forms(rt.alloc(), &a, &words)?;
+        count_call(rt, count, is_right, "forms", &[&a])?;
     }
     Ok(())
-}
-
-/// What is printed of an automaton under a condition where one of its forms accepts the wrong words.
-fn form_differs(
-    alloc: Global,
-    choices: &mut Choices,
-    number: u32,
-    words: &Words,
-) -> Result<Option<String>, Fault> {
-    let a = two_states(alloc, choices, number)?;
-    told_unless(keeps_in_forms(alloc, &a, words)?, alloc, "forms", &[&a])
 }
 
 /// Whether both forms accept the words of the automaton.

@@ -11,7 +11,7 @@ use crate::shapes::{line, ring};
 use ask_about::{Found, verdict, word_of, word_of_both};
 use aut_base::{Lasso, Memory, Text};
 use aut_core::Automaton;
-use row_automata::{accepts, pair, read};
+use row_automata::{Words, accepted, accepts, pair, read};
 use row_files::{Answers, Count, Fault, kind_and_rest, number};
 use runs::{is_reduced, read_word};
 use std::alloc::Global;
@@ -85,55 +85,69 @@ fn rings_answer(alloc: Global, line: &str) -> Result<Text, Fault> {
 
 /// A ring of so many states that starts in one of them.
 fn single_ring(alloc: Global, states: &str) -> Result<Automaton, Fault> {
-    ring(alloc, number(states)?, 1, true)
+    ring(alloc, number(states)?, 1, true, "I0")
 }
 
 /// Whether a large ring each of whose states is a start is unambiguous.
 fn ring_answer(alloc: Global, states: u32) -> Result<Text, Fault> {
-    let a = ring(alloc, states, states, states % 2 == 1)?;
+    let a = ring(alloc, states, states, states % 2 == 1, "I0")?;
     said(alloc, verdict(alloc, &a)?)
 }
 
 /// Whether there is a word. If so, it has to be reduced, and both have to accept it.
 fn word_answer(alloc: Global, found: &Found, a: &Automaton, b: &Automaton) -> Result<Text, Fault> {
-    match found {
-        Found::Word(word) => {
-            if is_right(alloc, word, a, b)? {
-                return said(alloc, "word");
-            }
-            said(alloc, "wrong word")
+    if let Found::Word(word) = found {
+        if !is_right(alloc, word, a, b)? {
+            return said(alloc, "wrong word");
         }
-        Found::Nothing => said(alloc, "none"),
-        Found::Refused(why) => said(alloc, why),
-        Found::Apart => said(alloc, "apart"),
+    }
+    said(alloc, found.told())
+}
+
+/// Whether what is found fits: a word is right, and where there is none no word of a list is accepted by both.
+fn fits(
+    alloc: Global,
+    found: &Found,
+    a: &Automaton,
+    b: &Automaton,
+    words: &Words,
+) -> Result<bool, Memory> {
+    match found {
+        Found::Word(word) => is_right(alloc, word, a, b),
+        Found::Nothing => are_apart(alloc, a, b, words),
+        _ => Ok(false),
     }
 }
 
-/// Whether both accept the word, and it is reduced.
-pub(crate) fn is_right(
-    alloc: Global,
-    word: &Lasso,
-    a: &Automaton,
-    b: &Automaton,
-) -> Result<bool, Memory> {
-    let read = read_word(alloc, word)?;
-    Ok(is_reduced(&read) && accepts(alloc, a, &read)? && accepts(alloc, b, &read)?)
+/// Whether no word of a list is accepted by both.
+fn are_apart(alloc: Global, a: &Automaton, b: &Automaton, words: &Words) -> Result<bool, Memory> {
+    let first = accepted(alloc, a, words)?;
+    let second = accepted(alloc, b, words)?;
+    Ok(!meet(&first, &second))
 }
 
-/// Two lengths.
-fn lengths(alloc: Global, stem: usize, cycle: usize) -> Result<Text, Fault> {
-    let stem = u32::try_from(stem).unwrap_or(u32::MAX);
-    let cycle = u32::try_from(cycle).unwrap_or(u32::MAX);
-    Ok(pair(alloc, stem, cycle)?)
+/// Whether some word is in both lists.
+fn meet(first: &[bool], second: &[bool]) -> bool {
+    first
+        .iter()
+        .zip(second.iter())
+        .any(|(first, second)| *first && *second)
+}
+
+/// Whether both accept the word, and it is reduced.
+fn is_right(alloc: Global, word: &Lasso, a: &Automaton, b: &Automaton) -> Result<bool, Memory> {
+    let read = read_word(alloc, word)?;
+    Ok(is_reduced(&read) && accepts(alloc, a, &read)? && accepts(alloc, b, &read)?)
 }
 
 /// The lengths of the stem and the cycle of the word.
 fn length_answer(alloc: Global, found: &Found) -> Result<Text, Fault> {
     match found {
-        Found::Word(word) => lengths(alloc, word.stem.len(), word.cycle.len()),
-        Found::Nothing => said(alloc, "none"),
-        Found::Refused(why) => said(alloc, why),
-        Found::Apart => said(alloc, "apart"),
+        Found::Word(word) => {
+            let (stem, cycle) = (word.stem.len(), word.cycle.len());
+            Ok(pair(alloc, stem as u64, cycle as u64)?)
+        }
+        _ => said(alloc, found.told()),
     }
 }
 

@@ -2,9 +2,9 @@
 
 use crate::made::hidden;
 use ap_project::Hide;
-use aut_base::{Formula, Memory, Text};
+use aut_base::{Memory, Text};
 use aut_core::Automaton;
-use row_automata::{Choices, Words, accepted, chosen, told_unless};
+use row_automata::{Choices, Words, accepted, chosen, count_call};
 use row_files::{Count, Fault};
 use std::alloc::Global;
 
@@ -19,15 +19,10 @@ pub(crate) fn compared(rt: &HostRuntime, count: &mut Count) -> Result<(), Fault>
     let words = Words::new(rt.alloc(), 4, 1, 2)?;
     let mut choices = Choices::chance();
     for _ in 0..500 {
-        let a = four_edges(rt.alloc(), &mut choices)?;
+        let a = chosen(rt.alloc(), &mut choices, b"ab", 2, &[0, 0, 1, 1], 0)?;
         compare_ways(rt, count, &a, &words)?;
     }
     Ok(())
-}
-
-fn four_edges(alloc: Global, choices: &mut Choices) -> Result<Automaton, Fault> {
-    let again = Formula::Inf { set: 0, neg: false };
-    chosen(alloc, choices, b"ab", 2, &[0, 0, 1, 1], again)
 }
 
 /// An automaton with each kind of hiding.
@@ -39,7 +34,7 @@ fn compare_ways(
 ) -> Result<(), Fault> {
     for (how, call) in WAYS {
         let is_right = is_hidden(rt.alloc(), a, how, words)?;
-        count.take(rt, told_unless(is_right, rt.alloc(), call, &[a])?)?;
+        count_call(rt, count, is_right, call, &[a])?;
     }
     Ok(())
 }
@@ -91,11 +86,11 @@ fn blurred_lists(alloc: Global, how: Hide, lists: &[Vec<u32>]) -> Result<Vec<Vec
 }
 
 fn blurred(alloc: Global, how: Hide, list: &[u32]) -> Result<Vec<u32>, Memory> {
-    let mut blurred = Vec::new(alloc);
-    for letter in list {
-        blurred.push(may_be(how, *letter))?;
-    }
-    Ok(blurred)
+    Ok(
+        list.iter()
+            .map(|letter| may_be(how, *letter))
+            .collect(alloc)?,
+    )
 }
 
 /// The letters that agree with this one on `b`: all of them, those without `a`, or those with it.

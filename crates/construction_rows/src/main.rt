@@ -10,7 +10,6 @@ mod made;
 mod monitors;
 mod oracles;
 mod parities;
-mod rings;
 mod shapes;
 
 use calls::Constructions;

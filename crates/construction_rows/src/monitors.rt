@@ -1,10 +1,10 @@
 //! Random automata, compared with their monitors.
 
-use crate::compared::{makes, two_states};
+use crate::compared::makes;
 use crate::made::Single;
 use aut_base::Memory;
 use aut_core::Automaton;
-use row_automata::{Choices, Paths, Words, told_unless};
+use row_automata::{Choices, Paths, Word, Words, chosen, count_call};
 use row_files::{Count, Fault};
 use std::alloc::Global;
 
@@ -21,22 +21,18 @@ pub(crate) fn compared(rt: &HostRuntime, count: &mut Count) -> Result<(), Fault>
 fn compare(rt: &HostRuntime, count: &mut Count, words: &Words, ends: &Words) -> Result<(), Fault> {
     let mut choices = Choices::chance();
     for number in 0..240u32 {
-        let a = two_states(rt.alloc(), &mut choices, number.wrapping_mul(10))?;
-        count.take(rt, different(rt.alloc(), &a, words, ends)?)?;
+        let number = number.wrapping_mul(10);
+        let a = chosen(rt.alloc(), &mut choices, b"a", 2, &[0, 0, 1, 1], number)?;
+        let is_right = is_right(rt.alloc(), &a, words, ends)?;
+        count_call(rt, count, is_right, "monitor", &[&a])?;
     }
     Ok(())
 }
 
-/// What is printed where the monitor accepts the wrong words.
-fn different(
-    alloc: Global,
-    a: &Automaton,
-    words: &Words,
-    ends: &Words,
-) -> Result<Option<String>, Fault> {
+/// Whether the monitor accepts the right words.
+fn is_right(alloc: Global, a: &Automaton, words: &Words, ends: &Words) -> Result<bool, Fault> {
     let wanted = wanted(alloc, a, words, ends)?;
-    let is_right = makes(alloc, Single::Monitor, a, &wanted, words)?;
-    told_unless(is_right, alloc, "monitor", &[a])
+    makes(alloc, Single::Monitor, a, &wanted, words)
 }
 
 /// The words each of whose prefixes can be continued to a word that the automaton accepts.
@@ -54,43 +50,22 @@ fn going_on(
     words: &Words,
 ) -> Result<Vec<bool>, Memory> {
     let mut wanted = Vec::new(alloc);
-    for cycle in words.cycles.iter() {
-        add_going_on(alloc, &mut wanted, paths, alive, &words.stems, cycle)?;
+    for word in words.each(alloc)?.iter() {
+        wanted.push(goes_on(alloc, paths, alive, word)?)?;
     }
     Ok(wanted)
 }
 
-/// Adds the same for the words of these stems and one cycle.
-fn add_going_on(
-    alloc: Global,
-    wanted: &mut Vec<bool>,
-    paths: &Paths,
-    alive: &[bool],
-    stems: &[Vec<u32>],
-    cycle: &[u32],
-) -> Result<(), Memory> {
-    for stem in stems {
-        wanted.push(goes_on(alloc, paths, alive, stem, cycle)?)?;
-    }
-    Ok(())
-}
-
 /// Whether each prefix of the word leads to a state from which some word is accepted.
-fn goes_on(
-    alloc: Global,
-    paths: &Paths,
-    alive: &[bool],
-    stem: &[u32],
-    cycle: &[u32],
-) -> Result<bool, Memory> {
-    let letters = prefix(alloc, stem, cycle)?;
+fn goes_on(alloc: Global, paths: &Paths, alive: &[bool], word: &Word) -> Result<bool, Memory> {
+    let letters = prefix(alloc, word)?;
     paths.goes_on(alloc, alive, &letters)
 }
 
 /// The longest prefix of the word that is tried.
-fn prefix(alloc: Global, stem: &[u32], cycle: &[u32]) -> Result<Vec<u32>, Memory> {
-    let mut letters = stem.to_vec(alloc)?;
-    for letter in cycle.iter().cycle().take(LETTERS) {
+fn prefix(alloc: Global, word: &Word) -> Result<Vec<u32>, Memory> {
+    let mut letters = word.stem.to_vec(alloc)?;
+    for letter in word.cycle.iter().cycle().take(LETTERS) {
         letters.push(*letter)?;
     }
     Ok(letters)

@@ -2,7 +2,7 @@
 
 use aut_base::Memory;
 use aut_core::Automaton;
-use row_automata::{Choices, Word, Words, accepted, accepts, chosen, condition, told_unless};
+use row_automata::{Choices, Words, accepted, accepts, chosen, count_call};
 use row_files::{Count, Fault};
 use std::alloc::Global;
 
@@ -18,8 +18,8 @@ fn agree_on_all(rt: &HostRuntime, count: &mut Count) -> Result<(), Fault> {
     let words = Words::new(rt.alloc(), 2, 1, 2)?;
     for number in 0..4096u32 {
         let mut choices = Choices::Digits(u64::from(number));
-        let a = over(rt.alloc(), &mut choices, b"a", &[0, 1], number)?;
-        count.take(rt, different(rt.alloc(), &a, &words)?)?;
+        let a = chosen(rt.alloc(), &mut choices, b"a", 2, &[0, 1], number)?;
+        compare(rt, count, &a, &words)?;
     }
     Ok(())
 }
@@ -30,63 +30,24 @@ fn agree_on_some(rt: &HostRuntime, count: &mut Count) -> Result<(), Fault> {
     let mut choices = Choices::chance();
     for number in 0..300u32 {
         let number = number.wrapping_mul(7);
-        let a = over(rt.alloc(), &mut choices, b"ab", &[0, 0, 1, 1], number)?;
-        count.take(rt, different(rt.alloc(), &a, &words)?)?;
+        let a = chosen(rt.alloc(), &mut choices, b"ab", 2, &[0, 0, 1, 1], number)?;
+        compare(rt, count, &a, &words)?;
     }
     Ok(())
 }
 
-/// An automaton of two states under the condition of this number, with an edge from each of the listed states.
-fn over(
-    alloc: Global,
-    choices: &mut Choices,
-    names: &[u8],
-    from: &[u32],
-    number: u32,
-) -> Result<Automaton, Fault> {
-    let condition = condition(alloc, number)?;
-    chosen(alloc, choices, names, 2, from, condition)
-}
-
-/// What to print where they differ on some word.
-fn different(alloc: Global, a: &Automaton, words: &Words) -> Result<Option<String>, Fault> {
-    let by_paths = accepted(alloc, a, words)?;
-    let is_right = by_paths == accepted_by_product(alloc, a, words)?;
-    told_unless(is_right, alloc, "accepts", &[a])
+/// Whether they agree on each word.
+fn compare(rt: &HostRuntime, count: &mut Count, a: &Automaton, words: &Words) -> Result<(), Fault> {
+    let by_paths = accepted(rt.alloc(), a, words)?;
+    let is_right = by_paths == accepted_by_product(rt.alloc(), a, words)?;
+    count_call(rt, count, is_right, "accepts", &[a])
 }
 
 /// For each word of a list, whether the product with it accepts.
 fn accepted_by_product(alloc: Global, a: &Automaton, words: &Words) -> Result<Vec<bool>, Memory> {
     let mut accepted = Vec::new(alloc);
-    for cycle in words.cycles.iter() {
-        add_accepted(alloc, &mut accepted, a, &words.stems, cycle)?;
+    for word in words.each(alloc)?.iter() {
+        accepted.push(accepts(alloc, a, word)?)?;
     }
     Ok(accepted)
-}
-
-/// Adds the same for the words of these stems and one cycle.
-fn add_accepted(
-    alloc: Global,
-    accepted: &mut Vec<bool>,
-    a: &Automaton,
-    stems: &[Vec<u32>],
-    cycle: &[u32],
-) -> Result<(), Memory> {
-    for stem in stems {
-        accepted.push(accepts_word(alloc, a, stem, cycle)?)?;
-    }
-    Ok(())
-}
-
-/// Whether the product of the automaton and a word accepts.
-fn accepts_word(alloc: Global, a: &Automaton, stem: &[u32], cycle: &[u32]) -> Result<bool, Memory> {
-    let word = word(alloc, stem, cycle)?;
-    accepts(alloc, a, &word)
-}
-
-fn word(alloc: Global, stem: &[u32], cycle: &[u32]) -> Result<Word, Memory> {
-    Ok(Word {
-        stem: stem.to_vec(alloc)?,
-        cycle: cycle.to_vec(alloc)?,
-    })
 }

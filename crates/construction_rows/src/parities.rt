@@ -4,7 +4,7 @@ use crate::compared::accept;
 use crate::made::{Made, Single, make};
 use aut_base::Memory;
 use aut_core::Automaton;
-use row_automata::{Choices, Paths, Words, accepted, chosen, condition, told_unless};
+use row_automata::{Choices, Paths, Words, accepted, chosen, count_call};
 use row_files::{Count, Fault};
 use std::alloc::Global;
 
@@ -27,7 +27,8 @@ fn compare_over(
     let words = Words::new(rt.alloc(), letters, 2, 3)?;
     for number in 0..rows {
         let a = three_states(rt.alloc(), choices, names, number)?;
-        count.take(rt, different(rt.alloc(), &a, &words, letters)?)?;
+        let is_right = is_right(rt.alloc(), &a, &words, letters)?;
+        count_call(rt, count, is_right, "parity", &[&a])?;
     }
     Ok(())
 }
@@ -39,7 +40,6 @@ fn three_states(
     names: &[u8],
     number: u32,
 ) -> Result<Automaton, Fault> {
-    let condition = condition(alloc, number.wrapping_mul(13))?;
     let states = 1 + number % 3;
     let from: &[u32] = match number % 6 {
         0 => &[0, 0],
@@ -49,36 +49,17 @@ fn three_states(
         4 => &[0, 1],
         _ => &[0, 1, 2],
     };
-    chosen(alloc, choices, names, states, from, condition)
-}
-
-/// What is printed where the parity automaton doesn't accept the words of an automaton, or its complement not the others.
-fn different(
-    alloc: Global,
-    a: &Automaton,
-    words: &Words,
-    letters: u32,
-) -> Result<Option<String>, Fault> {
-    told_unless(is_right(alloc, a, words, letters)?, alloc, "parity", &[a])
+    chosen(alloc, choices, names, states, from, number.wrapping_mul(13))
 }
 
 /// Whether the parity automaton accepts the words of an automaton, and its complement the others, each by a single run.
 fn is_right(alloc: Global, a: &Automaton, words: &Words, letters: u32) -> Result<bool, Fault> {
     let own = accepted(alloc, a, words)?;
-    let others = others(alloc, &own)?;
+    let others: Vec<bool> = own.iter().map(|is_in| !*is_in).collect(alloc)?;
     Ok(
         makes_single(alloc, Single::Parity, a, &own, words, letters)?
             && makes_single(alloc, Single::Complement, a, &others, words, letters)?,
     )
-}
-
-/// For each word, whether it isn't accepted.
-fn others(alloc: Global, own: &[bool]) -> Result<Vec<bool>, Memory> {
-    let mut others = Vec::new(alloc);
-    for is_accepted in own {
-        others.push(!*is_accepted)?;
-    }
-    Ok(others)
 }
 
 /// Whether the construction makes an automaton that accepts exactly these words, and in which each word has one run.

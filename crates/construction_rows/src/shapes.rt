@@ -1,6 +1,6 @@
 //! Large automata over `a`: rings, at the limit of pairs, and lines, in which a recursion over the states would go deep.
 
-use aut_base::{Edges, Formula, Formulas, Memory};
+use aut_base::{Edges, Memory};
 use aut_core::Automaton;
 use row_automata::{edge, standing};
 use row_files::Fault;
@@ -9,21 +9,21 @@ use std::alloc::Global;
 /// The number of states of a line.
 const STATES: u32 = 100_000;
 
-/// A ring whose first states are starts, with an edge from each state to the next where `a` holds. The edge back is in the
-/// set of the condition `Inf(0)`, or isn't.
+/// A ring under this condition whose first states are starts, with an edge from each state to the next where `a` holds. The edge
+/// back is in set 0, or isn't.
 pub(crate) fn ring(
     alloc: Global,
     states: u32,
     starts: u32,
     is_marked: bool,
+    condition: &str,
 ) -> Result<Automaton, Fault> {
     let edges = ring_edges(alloc, states, is_marked)?;
-    let again = Formula::Inf { set: 0, neg: false };
-    standing(alloc, states, starts, edges, again)
+    standing(alloc, states, starts, edges, condition)
 }
 
 /// The edges of a ring, where `a` holds. The last may be in set 0.
-pub(crate) fn ring_edges(alloc: Global, states: u32, is_marked: bool) -> Result<Edges, Memory> {
+fn ring_edges(alloc: Global, states: u32, is_marked: bool) -> Result<Edges, Memory> {
     let mut edges = Edges::new(alloc);
     for from in 0..states {
         let is_last = from.saturating_add(1) >= states;
@@ -40,7 +40,7 @@ pub(crate) fn ring_edges(alloc: Global, states: u32, is_marked: bool) -> Result<
 /// - `loops`: each has a loop, the last in set 0 and the others in both sets.
 pub(crate) fn line(alloc: Global, shape: &str) -> Result<Automaton, Fault> {
     let edges = line_edges(alloc, shape)?;
-    standing(alloc, STATES, 1, edges, both(alloc)?)
+    standing(alloc, STATES, 1, edges, "I0,F1,&")
 }
 
 fn line_edges(alloc: Global, shape: &str) -> Result<Edges, Fault> {
@@ -75,11 +75,4 @@ fn last_edge(shape: &str) -> Result<(u32, u32), Fault> {
         "ring" => Ok((0, 1)),
         _ => Err(Fault::UnknownKind),
     }
-}
-
-/// `Inf(0) & Fin(1)`
-fn both(alloc: Global) -> Result<Formula, Memory> {
-    let inf = Formula::Inf { set: 0, neg: false };
-    let fin = Formula::Fin { set: 1, neg: false };
-    Ok(Formula::And(Formulas::pair(alloc, inf, fin)?))
 }

@@ -1,14 +1,18 @@
 //! Automata made of their parts.
 
 use aut_base::{
-    Description, Edge, Edges, Formula, Label, MOST_NAMES, Marks, Memory, Names, Numbers, Text,
+    Description, Edge, Edges, Formula, Label, Letter, MOST_NAMES, Marks, Memory, Names, Numbers,
+    Text,
 };
 use aut_core::Automaton;
-use row_files::Fault;
+use row_files::{Fault, read_condition};
 use std::alloc::Global;
 
-/// The automaton of these parts over names of one byte each, or `None` where they aren't well formed.
-pub fn automaton(
+/// The letters over `a` and `b` by number, each by its names: `a` holds where the number is odd, `b` where it is at least two.
+pub(crate) const LETTERS: [&[u8]; 4] = [b"", b"a", b"b", b"ab"];
+
+/// The automaton of these parts over names of one byte each. Fails where they aren't well formed.
+pub(crate) fn automaton(
     alloc: Global,
     names: &[u8],
     states: u32,
@@ -16,7 +20,7 @@ pub fn automaton(
     edges: Edges,
     sets: u32,
     formula: Formula,
-) -> Result<Option<Automaton>, Memory> {
+) -> Result<Automaton, Fault> {
     let names = named(alloc, names)?;
     let d = Description {
         names,
@@ -29,33 +33,26 @@ pub fn automaton(
     described(alloc, &d)
 }
 
-/// The automaton of a description, or `None` where that isn't well formed.
-fn described(alloc: Global, d: &Description) -> Result<Option<Automaton>, Memory> {
-    if d.is_well_formed() && d.names.len() <= MOST_NAMES as usize {
-        return Ok(Some(Automaton::from_description(alloc, d)?));
+/// The automaton of a description. Fails where that isn't well formed.
+fn described(alloc: Global, d: &Description) -> Result<Automaton, Fault> {
+    if !d.is_well_formed() || d.names.len() > MOST_NAMES as usize {
+        return Err(Fault::Failed);
     }
-    Ok(None)
+    Ok(Automaton::from_description(alloc, d)?)
 }
 
-/// The automaton, if its parts were well formed.
-pub(crate) fn well_formed(made: Option<Automaton>) -> Result<Automaton, Fault> {
-    match made {
-        Some(a) => Ok(a),
-        None => Err(Fault::Failed),
-    }
-}
-
-/// The automaton over `a` of these edges that starts in this many first states. It has two sets.
+/// The automaton over `a` of these edges that starts in this many first states. It has two sets, and a condition that is written
+/// as in rows.
 pub fn standing(
     alloc: Global,
     states: u32,
     firsts: u32,
     edges: Edges,
-    formula: Formula,
+    condition: &str,
 ) -> Result<Automaton, Fault> {
     let starts = first_states(alloc, firsts)?;
-    let made = automaton(alloc, b"a", states, starts, edges, 2, formula)?;
-    well_formed(made)
+    let formula = read_condition(alloc, condition)?;
+    automaton(alloc, b"a", states, starts, edges, 2, formula)
 }
 
 fn first_states(alloc: Global, count: u32) -> Result<Numbers, Memory> {
@@ -110,4 +107,13 @@ pub fn marks(alloc: Global, bits: u32) -> Result<Marks, Memory> {
         marks.push(set)?;
     }
     Ok(marks)
+}
+
+/// The letter in which the propositions of these names hold, of one byte each.
+pub(crate) fn letter(alloc: Global, names: &[u8]) -> Result<Letter, Memory> {
+    let mut letter = Letter::new(alloc);
+    for name in names {
+        letter.add(Text::from_bytes(alloc, &[*name])?)?;
+    }
+    Ok(letter)
 }

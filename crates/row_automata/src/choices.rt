@@ -2,8 +2,9 @@
 
 ghost use Rattle.std.specs.Prelude.{◌<◌};
 
-use crate::build::{automaton, marks, well_formed};
-use aut_base::{Edge, Edges, Formula, Label, Labels, Memory, Numbers};
+use crate::build::{automaton, marks};
+use crate::conditions::{CONDITIONS, condition};
+use aut_base::{Edge, Edges, Label, Labels, Memory, Numbers};
 use aut_core::Automaton;
 use row_files::{Fault, Sequence};
 use std::alloc::Global;
@@ -37,19 +38,19 @@ impl Choices {
     }
 }
 
-/// An automaton of this many states over one name or two, with one chosen edge from each of the listed states. The first state is
-/// a start, and each other one with probability 1/4.
+/// An automaton of this many states over one name or two, with one chosen edge from each of the listed states, under the condition
+/// of a number modulo `CONDITIONS`. The first state is a start, and each other one with probability 1/4.
 pub fn chosen(
     alloc: Global,
     choices: &mut Choices,
     names: &[u8],
     states: u32,
     from: &[u32],
-    formula: Formula,
+    number: u32,
 ) -> Result<Automaton, Fault> {
     let (starts, edges) = starts_and_edges(alloc, choices, names.len(), states, from)?;
-    let made = automaton(alloc, names, states, starts, edges, 2, formula)?;
-    well_formed(made)
+    let formula = condition(alloc, number % CONDITIONS)?;
+    automaton(alloc, names, states, starts, edges, 2, formula)
 }
 
 fn starts_and_edges(

@@ -3,12 +3,15 @@
 use aut_base::{Formula, Formulas, Memory};
 use std::alloc::Global;
 
-/// The number of conditions: of one atom, of two under an And or an Or, of three under one of these, and of three under both.
+/// The number of conditions: of one atom, of two under an And or an Or, of three under one of these, and of an atom and two others
+/// under the other one.
 pub const CONDITIONS: u32 = 8 + 2 * 64 + 4 * 512;
 
-/// The condition of this number, modulo `CONDITIONS`.
+/// The number of all conditions: also of an atom and two others under the same one, and of two atoms and another one.
+pub const ALL_CONDITIONS: u32 = CONDITIONS + 6 * 512;
+
+/// The condition of a number below `ALL_CONDITIONS`.
 pub fn condition(alloc: Global, number: u32) -> Result<Formula, Memory> {
-    let number = number % CONDITIONS;
     if number < 8 {
         return Ok(atom(number));
     }
@@ -34,21 +37,28 @@ fn of_two(alloc: Global, shape: u32, first: Formula, second: Formula) -> Result<
     Ok(joined(shape, Formulas::pair(alloc, first, second)?))
 }
 
+/// An And for an even number, and else an Or.
 fn joined(shape: u32, parts: Formulas) -> Formula {
-    if shape == 0 {
+    if shape % 2 == 0 {
         return Formula::And(parts);
     }
     Formula::Or(parts)
 }
 
-/// Three atoms, by the shape: all under an And or an Or; the first and (one of the others); or the first or (both others).
+/// Three atoms, by the shape: all under one; the first and the join of the others; or the join of the first two and the last.
 fn of_three(alloc: Global, shape: u32, atoms: u32) -> Result<Formula, Memory> {
-    let (first, second, third) = (atoms / 64, atoms / 8, atoms);
-    if shape >= 2 {
-        let others = of_two(alloc, 3 - shape.min(3), atom(second), atom(third))?;
-        return of_two(alloc, shape - 2, atom(first), others);
+    let (first, second, third) = (atom(atoms / 64), atom(atoms / 8), atom(atoms));
+    // What joins two of them is the other one in the shapes 2, 3, 6 and 7.
+    let inner = shape % 2 + shape / 2 % 2;
+    if shape < 2 {
+        let mut parts = Formulas::pair(alloc, first, second)?;
+        parts.push(third)?;
+        return Ok(joined(shape, parts));
     }
-    let mut parts = Formulas::pair(alloc, atom(first), atom(second))?;
-    parts.push(atom(third))?;
-    Ok(joined(shape, parts))
+    if shape < 6 {
+        let others = of_two(alloc, inner, second, third)?;
+        return of_two(alloc, shape, first, others);
+    }
+    let others = of_two(alloc, inner, first, second)?;
+    of_two(alloc, shape, others, third)
 }

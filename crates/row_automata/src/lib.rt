@@ -5,17 +5,18 @@
 mod build;
 mod choices;
 mod conditions;
+mod flags;
 mod notation;
 mod paths;
 mod product;
 mod show;
 mod words;
 
-pub use build::{automaton, edge, marks, named, standing};
+pub use build::{edge, marks, named, standing};
 pub use choices::{Choices, chosen};
-pub use conditions::{CONDITIONS, condition};
+pub use conditions::{ALL_CONDITIONS, CONDITIONS, condition};
 pub use notation::read;
 pub use paths::{Paths, accepted};
 pub use product::accepts;
-pub use show::{pair, push_number, shown, told_unless};
+pub use show::{count_call, pair, shown};
 pub use words::{Word, Words};

@@ -1,9 +1,9 @@
 //! The notation of automata in rows.
 
-use crate::build::{automaton, marks, well_formed};
-use aut_base::{Edge, Edges, Formula, Formulas, Label, Labels, Marks, Memory, Numbers};
+use crate::build::{automaton, marks};
+use aut_base::{Edge, Edges, Label, Labels, Marks, Memory, Numbers};
 use aut_core::Automaton;
-use row_files::{Fault, kind_and_rest, number};
+use row_files::{Fault, kind_and_rest, number, read_condition};
 use std::alloc::Global;
 
 /// The automaton of a line: `STATES/STARTS/NAMES/SETS/CONDITION EDGE EDGE ..`. Each start is a digit, each name a byte.
@@ -12,9 +12,8 @@ pub fn read(alloc: Global, line: &str) -> Result<Automaton, Fault> {
     let (states, sets) = (number(part(head, 0))?, number(part(head, 3))?);
     let names = part(head, 2).as_bytes();
     let (starts, edges) = starts_and_edges(alloc, part(head, 1), written)?;
-    let formula = formula(alloc, part(head, 4))?;
-    let made = automaton(alloc, names, states, starts, edges, sets, formula)?;
-    well_formed(made)
+    let formula = read_condition(alloc, part(head, 4))?;
+    automaton(alloc, names, states, starts, edges, sets, formula)
 }
 
 fn starts_and_edges(alloc: Global, starts: &str, written: &str) -> Result<(Numbers, Edges), Fault> {
@@ -128,49 +127,4 @@ fn literal(alloc: Global, written: &str) -> Result<Label, Fault> {
         }
     }
     Ok(literal)
-}
-
-/// A condition: conjunctions separated by `|`.
-fn formula(alloc: Global, written: &str) -> Result<Formula, Fault> {
-    let (first, others) = written.split_once('|').unwrap_or((written, ""));
-    let mut formula = conjunction(alloc, first)?;
-    if !others.is_empty() {
-        for other in others.split('|') {
-            let other = conjunction(alloc, other)?;
-            formula = Formula::Or(Formulas::pair(alloc, formula, other)?);
-        }
-    }
-    Ok(formula)
-}
-
-/// A conjunction: atoms separated by `&`.
-fn conjunction(alloc: Global, written: &str) -> Result<Formula, Fault> {
-    let (first, others) = written.split_once('&').unwrap_or((written, ""));
-    let mut formula = atom(first)?;
-    if !others.is_empty() {
-        for other in others.split('&') {
-            let other = atom(other)?;
-            formula = Formula::And(Formulas::pair(alloc, formula, other)?);
-        }
-    }
-    Ok(formula)
-}
-
-/// An atom: `t`, `f`, or `I` or `F` before a set, or before a `!` and a set.
-fn atom(written: &str) -> Result<Formula, Fault> {
-    let set = written.trim_start_matches(['I', 'F', '!'].as_slice());
-    let neg = written.contains('!');
-    match written.bytes().next() {
-        Some(b't') => Ok(Formula::True),
-        Some(b'f') => Ok(Formula::False),
-        Some(b'I') => Ok(Formula::Inf {
-            set: number(set)?,
-            neg,
-        }),
-        Some(b'F') => Ok(Formula::Fin {
-            set: number(set)?,
-            neg,
-        }),
-        _ => Err(Fault::UnknownKind),
-    }
 }

@@ -1,17 +1,18 @@
 //! Acceptance of lasso words, decided by an accepting cycle in the product of the automaton and the word.
 
+use crate::build::{LETTERS, letter, marks};
+use crate::flags::{is_set, set};
 use crate::words::Word;
-use aut_base::{Formula, Letter, Marks, Memory, Text};
+use aut_base::{Formula, Letter, Marks, Memory};
 use aut_core::{Automaton, Link};
 use std::alloc::Global;
 
-/// An edge of the product: its nodes, its sets, and its kinds: a bit for each set that it is in and, two bits further, for each set
-/// that it isn't in.
-#[derive(Drop)]
+/// An edge of the product: its nodes, and its kinds: a bit for each set that it is in and, two bits further, for each set that it
+/// isn't in.
+#[derive(Clone, Copy)]
 struct Arc {
     from: usize,
     to: usize,
-    sets: Vec<u32>,
     kinds: u32,
 }
 
@@ -22,7 +23,7 @@ pub fn accepts(alloc: Global, a: &Automaton, word: &Word) -> Result<bool, Memory
     // Each cycle of the product has a node at the position where the word's cycle begins.
     for state in 0..a.states() as usize {
         let node = node(state, word.len(), word.stem.len());
-        if is_marked(&reached, node) && closes(alloc, a.formula(), &arcs, reached.len(), node)? {
+        if is_set(&reached, node) && closes(alloc, a.formula(), &arcs, reached.len(), node)? {
             return Ok(true);
         }
     }
@@ -39,7 +40,7 @@ fn reached(alloc: Global, a: &Automaton, length: usize, arcs: &[Arc]) -> Result<
     let nodes = length.saturating_mul(a.states() as usize);
     let mut reached = vec![in alloc; false; nodes]?;
     for start in a.starts().as_slice() {
-        mark(&mut reached, node(*start as usize, length, 0));
+        set(&mut reached, node(*start as usize, length, 0));
     }
     spread(&mut reached, arcs, u32::MAX, true);
     Ok(reached)
@@ -75,8 +76,8 @@ fn cycle(
     let behind = marked_from(alloc, arcs, nodes, node, kinds, false)?;
     let mut cycle = Vec::new(alloc);
     for arc in arcs {
-        if arc.is_within(kinds) && is_marked(&ahead, arc.from) && is_marked(&behind, arc.to) {
-            cycle.push(listed(alloc, &arc.sets)?)?;
+        if arc.is_within(kinds) && is_set(&ahead, arc.from) && is_set(&behind, arc.to) {
+            cycle.push(marks(alloc, arc.kinds % 4)?)?;
         }
     }
     Ok(cycle)
@@ -92,7 +93,7 @@ fn marked_from(
     is_ahead: bool,
 ) -> Result<Vec<bool>, Memory> {
     let mut marked = vec![in alloc; false; nodes]?;
-    mark(&mut marked, node);
+    set(&mut marked, node);
     spread(&mut marked, arcs, kinds, is_ahead);
     Ok(marked)
 }
@@ -113,8 +114,8 @@ fn spread(marked: &mut Vec<bool>, arcs: &[Arc], kinds: u32, is_ahead: bool) {
             } else {
                 (arc.to, arc.from)
             };
-            if arc.is_within(kinds) && is_marked(marked, begin) && !is_marked(marked, end) {
-                mark(marked, end);
+            if arc.is_within(kinds) && is_set(marked, begin) && !is_set(marked, end) {
+                set(marked, end);
                 is_done = false;
             }
         }
@@ -124,29 +125,18 @@ fn spread(marked: &mut Vec<bool>, arcs: &[Arc], kinds: u32, is_ahead: bool) {
     }
 }
 
-fn is_marked(marked: &[bool], node: usize) -> bool {
-    marked.get(node).copied().unwrap_or(false)
-}
-
-fn mark(marked: &mut Vec<bool>, node: usize) {
-    if let Some(flag) = marked.get_mut(node) {
-        *flag = true;
-    }
-}
-
 /// The edges of the product. Its nodes are pairs of a state and a position in the word.
 fn arcs(alloc: Global, a: &Automaton, word: &Word) -> Result<Vec<Arc>, Memory> {
     let mut arcs = Vec::new(alloc);
     for (place, known) in word.stem.iter().chain(word.cycle.iter()).enumerate() {
         let choices = choices(alloc, *known)?;
-        add_arcs(alloc, &mut arcs, a, word, place, &choices)?;
+        add_arcs(&mut arcs, a, word, place, &choices)?;
     }
     Ok(arcs)
 }
 
 /// Adds the edges of the product from this position, whose letter is one of these.
 fn add_arcs(
-    alloc: Global,
     arcs: &mut Vec<Arc>,
     a: &Automaton,
     word: &Word,
@@ -155,7 +145,7 @@ fn add_arcs(
 ) -> Result<(), Memory> {
     for link in a.links() {
         if is_open(a, link, choices) {
-            arcs.push(arc_at(alloc, link, word, place)?)?;
+            arcs.push(arc_at(link, word, place))?;
         }
     }
     Ok(())
@@ -174,7 +164,7 @@ fn is_open(a: &Automaton, link: &Link, choices: &[Letter]) -> bool {
 }
 
 /// The edge of the product from this position.
-fn arc_at(alloc: Global, link: &Link, word: &Word, place: usize) -> Result<Arc, Memory> {
+fn arc_at(link: &Link, word: &Word, place: usize) -> Arc {
     let length = word.len();
     let after = place.saturating_add(1);
     let next = if after < length {
@@ -182,21 +172,11 @@ fn arc_at(alloc: Global, link: &Link, word: &Word, place: usize) -> Result<Arc, 
     } else {
         word.stem.len()
     };
-    Ok(Arc {
+    Arc {
         from: node(link.from as usize, length, place),
         to: node(link.to as usize, length, next),
-        sets: sets(alloc, &link.marks)?,
         kinds: kinds(link.marks.has(0), link.marks.has(1)),
-    })
-}
-
-/// The sets of an edge.
-fn sets(alloc: Global, marks: &Marks) -> Result<Vec<u32>, Memory> {
-    let mut sets = Vec::new(alloc);
-    for place in 0..marks.len() {
-        sets.push(*marks.at(place))?;
     }
-    Ok(sets)
 }
 
 fn kinds(in_first: bool, in_second: bool) -> u32 {
@@ -208,35 +188,12 @@ fn kinds(in_first: bool, in_second: bool) -> u32 {
 /// The letters of a set of letters that is given by its bits.
 fn choices(alloc: Global, known: u32) -> Result<Vec<Letter>, Memory> {
     let mut choices = Vec::new(alloc);
-    for (bit, names) in [(1, b"".as_slice()), (2, b"a"), (4, b"b"), (8, b"ab")] {
-        if known & bit != 0 {
+    let mut rest = known;
+    for names in LETTERS {
+        if rest % 2 == 1 {
             choices.push(letter(alloc, names)?)?;
         }
+        rest /= 2;
     }
     Ok(choices)
-}
-
-/// The letter in which the propositions of these names hold, of one byte each.
-fn letter(alloc: Global, names: &[u8]) -> Result<Letter, Memory> {
-    let mut letter = Letter::new(alloc);
-    for name in names {
-        letter.add(Text::from_bytes(alloc, &[*name])?)?;
-    }
-    Ok(letter)
-}
-
-/// The marks of an edge, of which there are at most two.
-fn listed(alloc: Global, sets: &[u32]) -> Result<Marks, Memory> {
-    let mut marks = Marks::new(alloc);
-    if !sets.contains(&0) {
-        if sets.contains(&1) {
-            marks.push(1)?;
-        }
-        return Ok(marks);
-    }
-    marks.push(0)?;
-    if sets.contains(&1) {
-        marks.push(1)?;
-    }
-    Ok(marks)
 }

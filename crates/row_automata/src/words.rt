@@ -34,14 +34,24 @@ impl Words {
         })
     }
 
-    /// The number of words.
-    pub fn len(&self) -> usize {
-        self.stems.len().saturating_mul(self.cycles.len())
+    /// Each word: for each cycle, those of all stems.
+    pub fn each(&self, alloc: Global) -> Result<Vec<Word>, Memory> {
+        let mut words = Vec::new(alloc);
+        for cycle in self.cycles.iter() {
+            for stem in self.stems.iter() {
+                words.push(copied(alloc, stem, cycle)?)?;
+            }
+        }
+        Ok(words)
     }
+}
 
-    pub fn is_empty(&self) -> bool {
-        self.stems.is_empty() || self.cycles.is_empty()
-    }
+fn copied(alloc: Global, stem: &[u32], cycle: &[u32]) -> Result<Word, Memory> {
+    let stem = stem.to_vec(alloc)?;
+    Ok(Word {
+        stem,
+        cycle: cycle.to_vec(alloc)?,
+    })
 }
 
 /// All lists of single letters, as bit masks, of these lengths.

@@ -54,13 +54,6 @@ impl Answer {
         }
     }
 
-    /// Adds a line of two parts.
-    pub fn add_line(&mut self, first: &[u8], second: &[u8]) {
-        self.add(first);
-        self.add(second);
-        self.add(b"\n");
-    }
-
     /// Adds a word, a space and a number.
     pub fn add_count(&mut self, word: &[u8], number: u32) {
         self.add(word);

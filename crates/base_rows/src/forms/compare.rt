@@ -1,26 +1,20 @@
 //! Compares what the calls make of a condition with the truth that it should have.
 
-use crate::conditions::{Node, pair, shown};
 use crate::forms::calls::{
     RAISED, both, either, holds_without_marks, opposite, raised, spread, terms, terms_counted,
 };
 use crate::forms::holds::truths;
-use crate::forms::shape::{ATOMS, SHAPES, atom};
+use crate::forms::shown;
 use aut_base::{Formula, Memory};
-use row_files::{Count, Fault};
+use row_automata::{ALL_CONDITIONS, condition};
+use row_files::{Count, Fault, read_condition};
 use std::alloc::Global;
 
 /// Counts all small conditions, and those on which a call is wrong.
 pub(crate) fn count_all(rt: &HostRuntime, count: &mut Count) -> Result<(), Fault> {
-    for shape in SHAPES.iter() {
-        for first in ATOMS.iter() {
-            for second in shape.seconds() {
-                for third in shape.thirds() {
-                    let formula = shape.formula(rt.alloc(), *first, *second, *third)?;
-                    count.take(rt, different(rt.alloc(), &formula)?)?;
-                }
-            }
-        }
+    for number in 0..ALL_CONDITIONS {
+        let formula = condition(rt.alloc(), number)?;
+        count.take(rt, different(rt.alloc(), &formula)?)?;
     }
     Ok(())
 }
@@ -36,7 +30,7 @@ fn different(alloc: Global, formula: &Formula) -> Result<Option<String>, Fault> 
 }
 
 /// Whether every call on the condition is right.
-fn is_right(alloc: Global, formula: &Formula) -> Result<bool, Memory> {
+fn is_right(alloc: Global, formula: &Formula) -> Result<bool, Fault> {
     let own = truths(alloc, formula, 0)?;
     if own.first() != Some(&holds_without_marks(formula)) {
         return Ok(false);
@@ -70,15 +64,11 @@ fn is_spread_rightly(alloc: Global, formula: &Formula, own: &[bool]) -> Result<b
 }
 
 /// Whether conjunctions and disjunctions with some other conditions have the right truth.
-fn is_joined_rightly(alloc: Global, formula: &Formula, own: &[bool]) -> Result<bool, Memory> {
-    let and = pair(alloc, Node::And, atom(ATOMS[0]), atom(ATOMS[6]))?;
-    let or = pair(alloc, Node::Or, atom(ATOMS[1]), atom(ATOMS[4]))?;
-    are_joined_with_each(
-        alloc,
-        formula,
-        own,
-        &[&Formula::True, &Formula::False, &and, &or],
-    )
+fn is_joined_rightly(alloc: Global, formula: &Formula, own: &[bool]) -> Result<bool, Fault> {
+    let and = read_condition(alloc, "I0,F1,&")?;
+    let or = read_condition(alloc, "I!0,F0,|")?;
+    let others = [&Formula::True, &Formula::False, &and, &or];
+    Ok(are_joined_with_each(alloc, formula, own, &others)?)
 }
 
 fn are_joined_with_each(

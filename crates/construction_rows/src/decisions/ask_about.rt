@@ -24,6 +24,18 @@ pub(crate) enum Found {
     Apart,
 }
 
+impl Found {
+    /// What is found, in a word.
+    pub(crate) fn told(&self) -> &'static str {
+        match self {
+            Found::Word(_) => "word",
+            Found::Nothing => "none",
+            Found::Refused(why) => why,
+            Found::Apart => "apart",
+        }
+    }
+}
+
 /// A word that the automaton accepts. The call that answers without a word has to agree.
 pub(crate) fn word_of(alloc: Global, a: &Automaton) -> Result<Found, Memory> {
     let is_said = accepts_some(alloc, a)?;

@@ -30,14 +30,9 @@ fn masks(alloc: Global, letters: &[Letter], a: &Text, b: &Text) -> Result<Vec<u3
 fn mask(letter: &Letter, a: &Text, b: &Text) -> u32 {
     let (has_a, has_b) = (letter.has(a), letter.has(b));
     let known = usize::from(has_a).saturating_add(usize::from(has_b));
-    if letter.names().len() == known {
-        bit(has_a, has_b)
-    } else {
-        0
+    if letter.names().len() != known {
+        return 0;
     }
-}
-
-fn bit(has_a: bool, has_b: bool) -> u32 {
     match (has_a, has_b) {
         (false, false) => 1,
         (true, false) => 2,

@@ -4,7 +4,7 @@ use crate::decisions::ask_about::verdict;
 use crate::decisions::emptiness::three_edges;
 use aut_base::{Formula, Marks, Memory};
 use aut_core::{Automaton, Link};
-use row_automata::{Choices, marks, told_unless};
+use row_automata::{Choices, count_call, marks};
 use row_files::{Count, Fault};
 use std::alloc::Global;
 
@@ -28,20 +28,20 @@ pub(crate) fn compared(rt: &HostRuntime, count: &mut Count) -> Result<(), Fault>
     let mut choices = Choices::chance();
     for number in 0..300u32 {
         let a = three_edges(rt.alloc(), &mut choices, number.wrapping_mul(7))?;
-        count.take(rt, different(rt.alloc(), &a)?)?;
+        compare(rt, count, &a)?;
     }
     Ok(())
 }
 
-/// What is printed where the verdict is wrong.
-fn different(alloc: Global, a: &Automaton) -> Result<Option<String>, Fault> {
-    let said = verdict(alloc, a)?;
-    let wanted = if has_two_runs(alloc, a)? {
+/// Whether the verdict is right.
+fn compare(rt: &HostRuntime, count: &mut Count, a: &Automaton) -> Result<(), Fault> {
+    let said = verdict(rt.alloc(), a)?;
+    let wanted = if has_two_runs(rt.alloc(), a)? {
         "ambiguous"
     } else {
         "unambiguous"
     };
-    told_unless(said == wanted, alloc, "is_unambiguous", &[a, a])
+    count_call(rt, count, said == wanted, "is_unambiguous", &[a])
 }
 
 /// Whether two different accepting runs read one short word. Two runs over one word return to their states together after
