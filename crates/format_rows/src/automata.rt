@@ -1,10 +1,9 @@
-//! An automaton as it was parsed, in words: a conjunction or disjunction in Polish notation.
+//! An automaton as it was parsed, in words: labels in Polish notation.
 
-use crate::conditions::show_formula;
 use aut_base::{Formula, Text};
 use hoa_lexer::Name;
 use hoa_parser::{Item, Raw, RawEdge, RawLabel, RawLabels, RawState, ReadFault};
-use row_files::Answer;
+use row_files::{Answer, show_condition};
 
 /// Adds a label.
 #[cycle(show_label)]
@@ -109,7 +108,7 @@ fn show_alias(answer: &mut Answer, name: &[u8], label: &RawLabel) {
 fn show_acceptance(answer: &mut Answer, sets: u32, formula: &Formula) {
     answer.add_count(b"; acceptance", sets);
     answer.add(b" ");
-    show_formula(answer, formula);
+    show_condition(answer, formula);
 }
 
 /// Adds a word and a text.

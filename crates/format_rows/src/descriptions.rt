@@ -1,11 +1,10 @@
 //! What `describe` answers, in words: the automaton that is described, or the fault.
 
-use crate::conditions::show_formula;
 use crate::patterns::show_label;
 use aut_base::{Description, Edge, Marks};
 use hoa_parser::Raw;
 use hoa_reader::{ElabFault, describe};
-use row_files::Answer;
+use row_files::{Answer, show_condition};
 use std::alloc::{AllocError, Global};
 
 /// The first broken rule or passed limit.
@@ -48,7 +47,7 @@ fn show_description(answer: &mut Answer, described: &Description) {
     answer.add_count(b"; states", described.states);
     answer.add_count(b"; acceptance", described.sets);
     answer.add(b" ");
-    show_formula(answer, &described.formula);
+    show_condition(answer, &described.formula);
     for edge in described.edges.as_slice() {
         show_edge(answer, edge);
     }

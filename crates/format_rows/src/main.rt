@@ -3,7 +3,6 @@
 #![tactic(auto)]
 
 mod automata;
-mod conditions;
 mod descriptions;
 mod lassos;
 mod patterns;
