@@ -5,7 +5,7 @@ mod rising;
 
 ghost use Rattle.std.specs.Prelude.{◌<◌};
 
-use crate::words::{count, part, rest, two_counts};
+use crate::words::{count, counts, part, rest, two_counts};
 use aut_base::{Memory, Numbers, Text};
 use doubling::{Doubling, Number};
 use exploration::{Explored, Fault, Limits, explore};
@@ -34,17 +34,10 @@ pub(crate) fn doubled(alloc: Global, line: &str) -> Result<Text, Memory> {
 
 /// From `STATES CLASSES`: how the exploration from the list of 1 and 2 ends.
 pub(crate) fn risen(alloc: Global, line: &str) -> Result<Text, Memory> {
-    let start = one_and_two(alloc)?;
+    let start = counts(alloc, "1 2")?;
     let mut system = Rising { steps: 0 };
     let found = explore(alloc, &mut system, start, limits(line));
     shown(alloc, outcome_of(found))
-}
-
-fn one_and_two(alloc: Global) -> Result<Numbers, Memory> {
-    let mut numbers = Numbers::new(alloc);
-    numbers.push(1)?;
-    numbers.push(2)?;
-    Ok(numbers)
 }
 
 /// The limits of states, which is not 0, and of classes.

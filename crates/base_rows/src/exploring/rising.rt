@@ -54,11 +54,7 @@ impl TransitionSystem for Rising {
         if most < 3 {
             return Ok(None);
         }
-        let mut classes = Vec::new(alloc);
-        classes.push(0)?;
-        classes.push(1)?;
-        classes.push(2)?;
-        Ok(Some(classes))
+        Ok(Some(Vec::from_slice(alloc, &[0, 1, 2])?))
     }
 
     fn step(
