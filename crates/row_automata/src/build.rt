@@ -1,15 +1,11 @@
 //! Automata made of their parts.
 
 use aut_base::{
-    Description, Edge, Edges, Formula, Label, Letter, MOST_NAMES, Marks, Memory, Names, Numbers,
-    Text,
+    Description, Edge, Edges, Formula, Label, MOST_NAMES, Marks, Memory, Names, Numbers, Text,
 };
 use aut_core::Automaton;
 use row_files::{Fault, read_condition};
 use std::alloc::Global;
-
-/// The letters over `a` and `b` by number, each by its names: `a` holds where the number is odd, `b` where it is at least two.
-pub(crate) const LETTERS: [&[u8]; 4] = [b"", b"a", b"b", b"ab"];
 
 /// The automaton of these parts over names of one byte each. Fails where they aren't well formed.
 pub(crate) fn automaton(
@@ -107,13 +103,4 @@ pub fn marks(alloc: Global, bits: u32) -> Result<Marks, Memory> {
         marks.push(set)?;
     }
     Ok(marks)
-}
-
-/// The letter in which the propositions of these names hold, of one byte each.
-pub(crate) fn letter(alloc: Global, names: &[u8]) -> Result<Letter, Memory> {
-    let mut letter = Letter::new(alloc);
-    for name in names {
-        letter.add(Text::from_bytes(alloc, &[*name])?)?;
-    }
-    Ok(letter)
 }

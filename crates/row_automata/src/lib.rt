@@ -5,7 +5,6 @@
 mod build;
 mod choices;
 mod conditions;
-mod flags;
 mod notation;
 mod paths;
 mod product;

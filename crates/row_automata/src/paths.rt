@@ -1,12 +1,13 @@
 //! Acceptance of lasso words, decided by a search of the paths that read the cycle with the marks that they collect.
 
+mod flags;
 mod search;
 mod steps;
 
-use crate::flags::{is_set, meet, set, spread};
 use crate::words::Words;
 use aut_base::{Formula, Memory};
 use aut_core::Automaton;
+use flags::{is_set, meet, set, spread};
 use search::Search;
 use std::alloc::Global;
 use steps::{Step, steps};

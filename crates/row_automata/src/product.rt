@@ -1,9 +1,7 @@
 //! Acceptance of lasso words, decided by an accepting cycle in the product of the automaton and the word.
 
-use crate::build::{LETTERS, letter, marks};
-use crate::flags::{is_set, set};
 use crate::words::Word;
-use aut_base::{Formula, Letter, Marks, Memory};
+use aut_base::{Formula, Letter, Marks, Memory, Text};
 use aut_core::{Automaton, Link};
 use std::alloc::Global;
 
@@ -23,7 +21,7 @@ pub fn accepts(alloc: Global, a: &Automaton, word: &Word) -> Result<bool, Memory
     // Each cycle of the product has a node at the position where the word's cycle begins.
     for state in 0..a.states() as usize {
         let node = node(state, word.len(), word.stem.len());
-        if is_set(&reached, node) && closes(alloc, a.formula(), &arcs, reached.len(), node)? {
+        if is_marked(&reached, node) && closes(alloc, a.formula(), &arcs, reached.len(), node)? {
             return Ok(true);
         }
     }
@@ -40,7 +38,7 @@ fn reached(alloc: Global, a: &Automaton, length: usize, arcs: &[Arc]) -> Result<
     let nodes = length.saturating_mul(a.states() as usize);
     let mut reached = vec![in alloc; false; nodes]?;
     for start in a.starts().as_slice() {
-        set(&mut reached, node(*start as usize, length, 0));
+        mark(&mut reached, node(*start as usize, length, 0));
     }
     spread(&mut reached, arcs, u32::MAX, true);
     Ok(reached)
@@ -76,8 +74,8 @@ fn cycle(
     let behind = marked_from(alloc, arcs, nodes, node, kinds, false)?;
     let mut cycle = Vec::new(alloc);
     for arc in arcs {
-        if arc.is_within(kinds) && is_set(&ahead, arc.from) && is_set(&behind, arc.to) {
-            cycle.push(marks(alloc, arc.kinds % 4)?)?;
+        if arc.is_within(kinds) && is_marked(&ahead, arc.from) && is_marked(&behind, arc.to) {
+            cycle.push(listed(alloc, arc.kinds)?)?;
         }
     }
     Ok(cycle)
@@ -93,7 +91,7 @@ fn marked_from(
     is_ahead: bool,
 ) -> Result<Vec<bool>, Memory> {
     let mut marked = vec![in alloc; false; nodes]?;
-    set(&mut marked, node);
+    mark(&mut marked, node);
     spread(&mut marked, arcs, kinds, is_ahead);
     Ok(marked)
 }
@@ -114,14 +112,24 @@ fn spread(marked: &mut Vec<bool>, arcs: &[Arc], kinds: u32, is_ahead: bool) {
             } else {
                 (arc.to, arc.from)
             };
-            if arc.is_within(kinds) && is_set(marked, begin) && !is_set(marked, end) {
-                set(marked, end);
+            if arc.is_within(kinds) && is_marked(marked, begin) && !is_marked(marked, end) {
+                mark(marked, end);
                 is_done = false;
             }
         }
         if is_done {
             return;
         }
+    }
+}
+
+fn is_marked(marked: &[bool], node: usize) -> bool {
+    marked.get(node).copied().unwrap_or(false)
+}
+
+fn mark(marked: &mut Vec<bool>, node: usize) {
+    if let Some(flag) = marked.get_mut(node) {
+        *flag = true;
     }
 }
 
@@ -188,12 +196,35 @@ fn kinds(in_first: bool, in_second: bool) -> u32 {
 /// The letters of a set of letters that is given by its bits.
 fn choices(alloc: Global, known: u32) -> Result<Vec<Letter>, Memory> {
     let mut choices = Vec::new(alloc);
-    let mut rest = known;
-    for names in LETTERS {
-        if rest % 2 == 1 {
+    for (bit, names) in [(1, b"".as_slice()), (2, b"a"), (4, b"b"), (8, b"ab")] {
+        if known & bit != 0 {
             choices.push(letter(alloc, names)?)?;
         }
-        rest /= 2;
     }
     Ok(choices)
+}
+
+/// The letter in which the propositions of these names hold, of one byte each.
+fn letter(alloc: Global, names: &[u8]) -> Result<Letter, Memory> {
+    let mut letter = Letter::new(alloc);
+    for name in names {
+        letter.add(Text::from_bytes(alloc, &[*name])?)?;
+    }
+    Ok(letter)
+}
+
+/// The marks of an edge of these kinds, of which there are at most two.
+fn listed(alloc: Global, kinds: u32) -> Result<Marks, Memory> {
+    let mut marks = Marks::new(alloc);
+    if kinds & 1 == 0 {
+        if kinds & 2 != 0 {
+            marks.push(1)?;
+        }
+        return Ok(marks);
+    }
+    marks.push(0)?;
+    if kinds & 2 != 0 {
+        marks.push(1)?;
+    }
+    Ok(marks)
 }

@@ -1,7 +1,7 @@
 //! The search of a path that leads back to its first state.
 
 use crate::build::marks;
-use crate::flags::is_set;
+use crate::paths::flags::is_set;
 use crate::paths::steps::Step;
 use aut_base::{Formula, Memory};
 use std::alloc::Global;

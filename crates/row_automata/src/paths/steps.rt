@@ -1,7 +1,6 @@
 //! The edges of an automaton, prepared for the search.
 
-use crate::build::{LETTERS, letter};
-use aut_base::{Letter, Memory};
+use aut_base::{Letter, Memory, Text};
 use aut_core::{Automaton, Link};
 use std::alloc::Global;
 
@@ -69,8 +68,20 @@ fn reads(a: &Automaton, link: &Link, letter: &Letter) -> bool {
 /// The letters over `a` and `b`, by number.
 fn letters(alloc: Global) -> Result<Vec<Letter>, Memory> {
     let mut letters = Vec::new(alloc);
-    for names in LETTERS {
-        letters.push(letter(alloc, names)?)?;
+    for number in 0..4u32 {
+        letters.push(letter(alloc, number)?)?;
     }
     Ok(letters)
+}
+
+/// The letter of a number: `a` holds where it is odd, `b` where it is at least two.
+fn letter(alloc: Global, number: u32) -> Result<Letter, Memory> {
+    let mut letter = Letter::new(alloc);
+    if number % 2 == 1 {
+        letter.add(Text::from_bytes(alloc, b"a")?)?;
+    }
+    if number >= 2 {
+        letter.add(Text::from_bytes(alloc, b"b")?)?;
+    }
+    Ok(letter)
 }
