@@ -1,5 +1,6 @@
 -- The names that a run opens, and the words that are refused.
-use Rattle.std.specs.Prelude.{ℕ, List, [], ◌++◌, Option, Some, None}
+use Rattle.std.specs.Prelude.{ℕ, List, [], ◌++◌}
+use Rattle.std.specs.Option.{option_map_or}
 use Rattle.filter_plan.specs.Words.{IsPlan, operands}
 use Rattle.filter_plan.specs.declared.plan.Plan.{Plan}
 
@@ -7,11 +8,6 @@ use Rattle.filter_plan.specs.declared.plan.Plan.{Plan}
 abbrev pub AreRefused : List (List ℕ) → Type 0
 AreRefused words = (plan : Plan) → IsPlan words plan → ⊥
 
--- the streams that are opened: none where the stream is generated
-abbrev pub opened_or : List (List ℕ) → Option ℕ → List (List ℕ)
-opened_or streams None = streams
-opened_or streams (Some n) = []
-
--- all names that are opened: those of operands, and of streams
+-- all names that are opened: those of operands, and of streams unless the stream is generated
 abbrev pub names_opened : Plan → List (List ℕ)
-names_opened p = operands p ++ opened_or p.streams p.made
+names_opened p = operands p ++ option_map_or (λ n. []) p.made p.streams

@@ -63,27 +63,15 @@ start_of names left before = record { coming = names; stream = None; left = left
 
 -- the point where more was read of the open stream
 abbrev pub read_on : Point → Stream → List ℕ → ℕ → Point
-read_on p s next kept = record {
-  coming = p.coming;
-  stream = Some (record { name = s.name; text = s.text; rest = next });
-  left = Some next;
-  before = p.before;
-  kept = kept;
-}
+read_on p s next kept = record p { stream = Some (record s { rest = next }); left = Some next; kept = kept }
 
 -- the point where the stream of this name was opened
 abbrev pub opened_at : Point → List (List ℕ) → List ℕ → List ℕ → Point
-opened_at p others name text = record {
-  coming = others;
-  stream = Some (record { name = name; text = text; rest = text });
-  left = Some text;
-  before = p.before;
-  kept = p.kept;
-}
+opened_at p others name text = record p { coming = others; stream = Some (record { name = name; text = text; rest = text }); left = Some text }
 
 -- the point where the open stream was read to its end
 abbrev pub at_stream_end : Point → Stream → Point
-at_stream_end p s = record { coming = p.coming; stream = None; left = Some []; before = p.before + length s.text; kept = p.kept }
+at_stream_end p s = record p { stream = None; left = Some []; before = p.before + length s.text }
 
 -- The open stream is read further: `read` says what is next in its rest, and the limit of bytes isn't passed.
 pub record ReadsOn (p : Point) (read : ℕ → List ℕ → List ℕ → Type 0) (kept : ℕ) (q : Point) : Type 0 where
@@ -175,8 +163,8 @@ pub record Tally : Type 0 where
   pub skipped : ℕ
 
 abbrev pub tally_with : Tally → Event → Tally
-tally_with t (Kept w text) = record { kept = t.kept + 1; skipped = t.skipped }
-tally_with t (Skipped name) = record { kept = t.kept; skipped = t.skipped + 1 }
+tally_with t (Kept w text) = record t { kept = t.kept + 1 }
+tally_with t (Skipped name) = record t { skipped = t.skipped + 1 }
 tally_with t _ = t
 
 abbrev pub tally_from : Tally → List Event → Tally

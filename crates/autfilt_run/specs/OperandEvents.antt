@@ -19,7 +19,7 @@ pub data OperandEvent : Type 0 where
 
 -- the point after an operand was taken of the open file
 abbrev pub taken_at : Point → Stream → List ℕ → Point
-taken_at p s next = record { coming = p.coming; stream = None; left = Some next; before = p.before + bytes_before s.text next; kept = p.kept }
+taken_at p s next = record p { stream = None; left = Some next; before = p.before + bytes_before s.text next }
 
 -- A whole automaton is next in the open file, and is taken. The limit of bytes isn't passed.
 pub record TakesOperand (w : Written) (p q : Point) : Type 0 where

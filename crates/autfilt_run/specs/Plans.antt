@@ -1,30 +1,23 @@
 -- What a plan asks of a run: which files are read, how many automata, and what is printed when.
-use Rattle.std.specs.Prelude.{ℕ, ◌==◌, Bool, true, not, ◌&&◌, ◌||◌, if◌then◌else◌, List, [], ◌∷◌, ◌++◌, Option, Some, None, codes}
+use Rattle.std.specs.Prelude.{ℕ, ◌==◌, Bool, true, not, ◌&&◌, ◌||◌, if◌then◌else◌, List, [], ◌∷◌, ◌++◌, codes}
 use Rattle.std.specs.Fmt.{decimal}
 use Rattle.std.specs.List.{slice_index_or}
+use Rattle.std.specs.Option.{option_map_or}
 use Rattle.made_stream.specs.Made.{made_name}
 use Rattle.filter_plan.specs.Words.{operands}
 use Rattle.filter_plan.specs.declared.plan.Plan.{Plan}
 
 -- the names of the streams, in the order in which they are read
-abbrev pub streams_or : List (List ℕ) → Option ℕ → List (List ℕ)
-streams_or streams None = streams
-streams_or streams (Some n) = made_name ∷ []
-
 abbrev pub plan_streams : Plan → List (List ℕ)
-plan_streams p = streams_or p.streams p.made
+plan_streams p = option_map_or (λ n. made_name ∷ []) p.made p.streams
 
 -- all files, in the order in which they are read: those of operands, and then the streams
 abbrev pub files_of : Plan → List (List ℕ)
 files_of p = operands p ++ plan_streams p
 
 -- whether more automata are asked for, after so many were kept
-abbrev pub is_below : Option ℕ → ℕ → Bool
-is_below None kept = true
-is_below (Some most) kept = not (kept == most)
-
 abbrev pub asks_on : Plan → ℕ → Bool
-asks_on p kept = is_below p.most kept
+asks_on p kept = option_map_or (λ most. not (kept == most)) p.most true
 
 -- whether something is printed of each automaton that is kept
 abbrev pub prints_each : Plan → Bool

@@ -1,8 +1,10 @@
 -- The files of a plan: those of operands, and then those of streams.
-use Rattle.std.proofs.Common.{◌≡◌, ℕ, ◌+◌, ◌-◌, ◌≤◌, List, [], ◌++◌, None, length, ap, ◌∙◌, arith}
+use Rattle.std.proofs.Common.{◌≡◌, ℕ, ◌+◌, ◌-◌, ◌≤◌, List, [], ◌∷◌, ◌++◌, Option, None, length, ap, ◌∙◌, arith}
 use Rattle.std.specs.List.{slice_index_or}
+use Rattle.std.specs.Option.{option_map_or}
 use Rattle.std.proofs.lemmas.List.{get_or-append-add}
-use Rattle.autfilt_run.specs.Plans.{plan_streams, streams_or}
+use Rattle.autfilt_run.specs.Plans.{plan_streams}
+use Rattle.made_stream.specs.Made.{made_name}
 use Rattle.filter_plan.specs.declared.plan.Plan.{Plan}
 
 -- an index past the first list is one of the second
@@ -12,4 +14,4 @@ stream_behind ops streams place n is behind =
     ap (λ (k : ℕ). slice_index_or (ops ++ streams) k []) split ∙ get_or-append-add ops streams (place - n) []
 
 pub streams_are : (p : Plan) → p.made ≡ None → plan_streams p ≡ p.streams
-streams_are p none = ap (streams_or p.streams) none
+streams_are p none = ap (λ (made : Option ℕ). option_map_or (λ n. made_name ∷ []) made p.streams) none
