@@ -1,5 +1,5 @@
 -- Laws of unambiguous automata.
-use Rattle.std.specs.Prelude.{◌≡◌, ◌↔◌, ℕ, ◌<◌, List, [], ◌∷◌, length}
+use Rattle.std.specs.Prelude.{◌≡◌, ◌↔◌, ℕ, List, [], ◌∷◌}
 use Rattle.aut_base.specs.Acceptance.{Accepts}
 use Rattle.aut_base.specs.Automaton.{Automaton, LabelledEdge}
 use Rattle.aut_core.specs.SymbolicAutomata.{SymbolicAutomaton, IsWellFormedSymbolic, automaton_of}
@@ -33,8 +33,8 @@ TwiceIsAmbiguous = IsUnambiguous twice → ⊥
 
 -- An automaton accepts the words that have an accepting run.
 abbrev pub RunsAreAcceptance : Type 0
-RunsAreAcceptance = (a : Automaton) (u v : List NameSet) → 0 < length v → Accepts a u v ↔ AcceptingRun a u v
+RunsAreAcceptance = (a : Automaton) (u v : List NameSet) → Accepts a u v ↔ AcceptingRun a u v
 
 -- The indices of the edges determine the start, and so all states: two different runs differ in the index of some edge.
 abbrev pub PlacesFixStart : Type 0
-PlacesFixStart = (a : Automaton) (u v : List NameSet) → 0 < length v → (r t : AcceptingRun a u v) → ((n : ℕ) → nth r.path_edges r.cycle n ≡ nth t.path_edges t.cycle n) → r.start ≡ t.start
+PlacesFixStart = (a : Automaton) (u v : List NameSet) → (r t : AcceptingRun a u v) → ((n : ℕ) → nth r.path_edges r.cycle n ≡ nth t.path_edges t.cycle n) → r.accepted.start ≡ t.accepted.start

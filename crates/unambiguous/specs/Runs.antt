@@ -1,39 +1,22 @@
--- Accepting runs over lasso words, as lists of edge indices, and unambiguous automata.
-use Rattle.std.specs.Prelude.{◌≡◌, ℕ, ◌<◌, true, List, [], ◌∷◌, ◌++◌, map, Contains, length, Some, slice_get}
-use Rattle.std.specs.Option.{option_map_or}
+-- Accepting runs over lasso words, with the indices of their edges, and unambiguous automata.
+use Rattle.std.specs.Prelude.{◌≡◌, ℕ, List, map, Some, slice_get}
+use Rattle.aut_base.specs.Acceptance.{Accepts}
 use Rattle.aut_base.specs.Automaton.{LabelledEdge, Automaton}
-use Rattle.aut_base.specs.Formula.{met}
-use Rattle.aut_base.specs.Label.{truth, holds_at}
-use Rattle.aut_base.specs.Word.{NameSet, copies, nth}
+use Rattle.aut_base.specs.Word.{NameSet, nth}
 
--- the marks of the edge of this index
-abbrev pub edge_marks : Automaton → ℕ → List ℕ
-edge_marks a m = option_map_or (λ (e : LabelledEdge). e.marks) (slice_get a.edges m) []
+-- the edges at these indices of the automaton's list are these
+abbrev pub StandAt : Automaton → List ℕ → List LabelledEdge → Type 0
+StandAt a indices edges = map (slice_get a.edges) indices ≡ map Some edges
 
--- a path from `p` to `q` along the edges of these indices, which reads these letters
-abbrev pub IsEdgePath : Automaton → ℕ → List NameSet → List ℕ → ℕ → Type 0
-IsEdgePath a p [] [] q = p ≡ q
-IsEdgePath a p [] (m ∷ ms) q = ⊥
-IsEdgePath a p (x ∷ xs) [] q = ⊥
-IsEdgePath a p (x ∷ xs) (m ∷ ms) q =
-    (e : LabelledEdge) × (slice_get a.edges m ≡ Some e) × (p ≡ e.from) × (truth (holds_at a.names x) e.label ≡ true) × IsEdgePath a e.to xs ms q
-
--- a path from a start that reads the stem and then the cycle `stem_rounds` times, and one from its end back to that end that reads
--- the cycle `cycle_rounds` times and meets the acceptance condition
+-- a way in which the automaton accepts the word, with the indices of its edges in the automaton's list
 pub record AcceptingRun (a : Automaton) (u v : List NameSet) : Type 0 where
-  pub start : ℕ
-  pub state : ℕ
-  pub stem_rounds : ℕ
-  pub cycle_rounds : ℕ
+  pub accepted : Accepts a u v
   pub path_edges : List ℕ
   pub cycle : List ℕ
-  pub is_start : Contains a.starts start
-  pub leads : IsEdgePath a start (u ++ copies stem_rounds v) path_edges state
-  pub positive : 0 < cycle_rounds
-  pub returns : IsEdgePath a state (copies cycle_rounds v) cycle state
-  pub meets : met (map (edge_marks a) cycle) a.formula ≡ true
+  pub path_at : StandAt a path_edges accepted.path_edges
+  pub cycle_at : StandAt a cycle accepted.cycle
 
 -- Two accepting runs over one lasso word take the same edges. Edges are told apart by their index: an edge that is listed
 -- twice counts as two.
 abbrev pub IsUnambiguous : Automaton → Type 0
-IsUnambiguous a = (u v : List NameSet) → 0 < length v → (r t : AcceptingRun a u v) (n : ℕ) → nth r.path_edges r.cycle n ≡ nth t.path_edges t.cycle n
+IsUnambiguous a = (u v : List NameSet) → (r t : AcceptingRun a u v) (n : ℕ) → nth r.path_edges r.cycle n ≡ nth t.path_edges t.cycle n

@@ -20,8 +20,10 @@ use Rattle.aut_core.specs.Deterministic as core
 use Rattle.aut_core.specs.Deterministic.{AreApart, HasSuccessor}
 use Rattle.plan_meaning.specs.FilterExamples.{FilterExamples, OneFilter, Verdicts, always_a, any_word, just}
 use Rattle.plan_meaning.specs.Filters.{AllHold, FailsAtFilter, Filter, Holds, HoldsWithin, IsComplete, IsDeterministic, IsEmpty, PassesLimitOf, States}
+use Rattle.unambiguous.proofs.tracks.Accepted.{agree_exactly}
 use Rattle.unambiguous.proofs.tracks.Deterministic.{deterministic_is_unambiguous}
-use Rattle.unambiguous.specs.Runs.{AcceptingRun, IsUnambiguous}
+use Rattle.unambiguous.proofs.tracks.IndexedRuns.{IndexedRun}
+use Rattle.unambiguous.specs.Runs.{IsUnambiguous}
 use Rattle.word_syntax.specs.Matching.{AcceptsPattern, AllMeet}
 
 -- ---- words of `again` and of `so_often`
@@ -175,7 +177,7 @@ either_way_complete h =
     (λ from meets. false≢true (sym off_a ∙ meets)) (λ from meets. absurd (omega (arith, from))) next.from next.meets
 
 -- two runs of `ever_after`, which leave its state 0 at once and one letter later
-leaves_at_once : AcceptingRun ever_after [] (on ∷ [])
+leaves_at_once : IndexedRun ever_after [] (on ∷ [])
 leaves_at_once = record {
   start = 0;
   state = 1;
@@ -190,7 +192,7 @@ leaves_at_once = record {
   meets = refl;
 }
 
-leaves_later : AcceptingRun ever_after [] (on ∷ [])
+leaves_later : IndexedRun ever_after [] (on ∷ [])
 leaves_later = record {
   start = 0;
   state = 1;
@@ -208,7 +210,7 @@ leaves_later = record {
 ever_after_unambiguous : IsUnambiguous ever_after → ⊥
 unfolding leaves_at_once leaves_later
 ever_after_unambiguous alone =
-    let same : 1 ≡ 0 = same_Some 1 0 (alone [] (on ∷ []) (lit< tt) leaves_at_once leaves_later 0) in
+    let same : 1 ≡ 0 = same_Some 1 0 ((agree_exactly ever_after).1 alone [] (on ∷ []) (lit< tt) leaves_at_once leaves_later 0) in
     absurd (omega (arith, same))
 
 -- ---- one filter

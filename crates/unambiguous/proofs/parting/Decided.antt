@@ -31,11 +31,12 @@ use Rattle.aut_core.proofs.Made.{label_in_below}
 use Rattle.label_guards.specs.Store.{label_in}
 use Rattle.lasso_emptiness.specs.Emptiness.{AcceptsNothing, AcceptsSome}
 use Rattle.unambiguous.proofs.parting.Tails.{AreLed, Tail, begin_alike, from_one, from_tail, nth_behind, nth_first, tail_before, to_tail}
-use Rattle.unambiguous.proofs.tracks.Accepted.{gone, placed}
+use Rattle.unambiguous.proofs.tracks.Accepted.{agree_exactly, gone, placed}
+use Rattle.unambiguous.proofs.tracks.IndexedRuns.{IndexedRun, IndexedRunsAgree, IsEdgePath, edge_marks}
 use Rattle.unambiguous.proofs.tracks.Tracks.{Likewise, Run, as_long, later, run_of, some_edges, track_join, track_split}
 use Rattle.unambiguous.specs.Laws.{PartedDecides}
 use Rattle.unambiguous.specs.Parted.{AreTwins, IsParted, do_meet, flag, parts}
-use Rattle.unambiguous.specs.Runs.{AcceptingRun, IsEdgePath, IsUnambiguous, edge_marks}
+use Rattle.unambiguous.specs.Runs.{IsUnambiguous}
 
 not_true : (b : Bool) → not b ≡ true → b ≡ false
 not_true true e = absurd (false≢true e)
@@ -157,7 +158,7 @@ module _ (a : SymbolicAutomaton) (s : Automaton) (core : IsWellFormedSymbolic a)
       (l.0, here, same_Some (edge_of a.store l.0) e (sym (edge_at m l.0 here) ∙ at))
 
   -- in an unambiguous automaton no accepting run continues from the target of twins
-  none_behind : IsUnambiguous x → (q : ℕ) (u v : List NameSet) → 0 < length v → Tail x q u v → (m n : ℕ) → AreTwins a parted.pairs m n q → ⊥
+  none_behind : IndexedRunsAgree x → (q : ℕ) (u v : List NameSet) → 0 < length v → Tail x q u v → (m n : ℕ) → AreTwins a parted.pairs m n q → ⊥
   none_behind alone q u v endless t m n twins =
       let l = twins.first in
       let k = twins.second in
@@ -177,7 +178,7 @@ module _ (a : SymbolicAutomaton) (s : Automaton) (core : IsWellFormedSymbolic a)
       ∙ (begin_alike x (letter ∷ u) v endless alone l.from l.from led first second ∙ nth_first n his.path_edges his.cycle)) in
       omega (arith, places, twins.before)
 
-  accepts_none : IsUnambiguous x → AcceptsNothing s
+  accepts_none : IndexedRunsAgree x → AcceptsNothing s
   accepts_none alone u v r =
       let k = r.start in
       let start = parted.starts.sound k r.is_start in
@@ -316,7 +317,7 @@ module _ (a : SymbolicAutomaton) (s : Automaton) (core : IsWellFormedSymbolic a)
         ] in
         at ∙ (elim (cases_eq mine.place his.place) [ inl same ↦ ap Some same | inr other ↦ absurd (apart other) ] ∙ sym at_too)
 
-    same_edges : (r t : AcceptingRun x u v) (n : ℕ) → nth r.path_edges r.cycle n ≡ nth t.path_edges t.cycle n
+    same_edges : (r t : IndexedRun x u v) (n : ℕ) → nth r.path_edges r.cycle n ≡ nth t.path_edges t.cycle n
     same_edges r t n =
         let mine = later x u v endless r.stem_rounds r.cycle_rounds (t.stem_rounds + suc n) t.cycle_rounds (run_of x u v r) r.positive t.positive in
         let his = later x u v endless t.stem_rounds t.cycle_rounds (r.stem_rounds + suc n) r.cycle_rounds (run_of x u v t) t.positive r.positive in
@@ -329,7 +330,9 @@ module _ (a : SymbolicAutomaton) (s : Automaton) (core : IsWellFormedSymbolic a)
         (other.alike x.formula ∙ t.meets) ∙ other.same n)
 
 pub parted_decides : PartedDecides
-parted_decides a s core parted = ((λ none u v endless r t n. same_edges a s core parted none u v endless r t n), accepts_none a s core parted)
+parted_decides a s core parted =
+    let exactly = agree_exactly (automaton_of a) in
+    (λ none. exactly.0 (same_edges a s core parted none), λ alone. accepts_none a s core parted (exactly.1 alone))
 
 -- so the automaton is unambiguous where no word of the square is found
 pub verdict : (a : SymbolicAutomaton) (s : Automaton) (found : Bool) → IsWellFormedSymbolic a → IsParted a s → (IsTrue found ↔ AcceptsSome s) → IsTrue (not found) ↔ IsUnambiguous (automaton_of a)

@@ -14,10 +14,10 @@ use Rattle.aut_base.specs.Formula.{met}
 use Rattle.aut_base.specs.Label.{holds_at, truth}
 use Rattle.aut_base.specs.Word.{NameSet, copies, nth}
 use Rattle.aut_ops.specs.Languages.{begun}
-use Rattle.unambiguous.proofs.tracks.Accepted.{gone, placed}
+use Rattle.unambiguous.proofs.tracks.Accepted.{gone, placed, same_marks}
+use Rattle.unambiguous.proofs.tracks.IndexedRuns.{IndexedRun, IndexedRunsAgree, IsEdgePath, edge_marks}
 use Rattle.unambiguous.proofs.tracks.Starts.{Begins, begins}
 use Rattle.unambiguous.proofs.tracks.Tracks.{as_long, some_edges, track_join}
-use Rattle.unambiguous.specs.Runs.{AcceptingRun, IsEdgePath, IsUnambiguous, edge_marks}
 
 -- after a prefix of its stem, a stem and cycle go on as without the prefix
 pub nth_behind : (front path_edges cycle : List ℕ) (n : ℕ) → 0 < length cycle → nth (front ++ path_edges) cycle (length front + n) ≡ nth path_edges cycle n
@@ -57,7 +57,7 @@ module _ (a : Automaton) where
         leads = subst (λ s. IsEdgePath a s (u ++ copies r.stem_rounds v) path_edges.places r.state) (sym start) path_edges.track;
         positive = r.positive;
         returns = cycle.track;
-        meets = ap (λ cs. met cs a.formula) cycle.marks ∙ r.meets;
+        meets = ap (λ cs. met cs a.formula) (same_marks a cycle.places r.cycle cycle.at) ∙ r.meets;
       }
 
   pub from_tail : (p : ℕ) (u v : List NameSet) → 0 < length v → Tail p u v → Accepts (begun p a) u v
@@ -72,7 +72,7 @@ module _ (a : Automaton) where
         is_start = first_there p [];
         leads = path_wider a (begun p a) refl (λ e there. there) p t.state (u ++ copies t.stem_rounds v) path_edges.edges path_edges.path;
         returns = path_wider a (begun p a) refl (λ e there. there) t.state t.state (copies t.cycle_rounds v) cycle.edges cycle.path;
-      }) endless t.positive (ap (λ cs. met cs a.formula) cycle.marks ∙ t.meets)
+      }) endless t.positive (ap (λ cs. met cs a.formula) (sym (same_marks a t.cycle cycle.edges cycle.at)) ∙ t.meets)
 
   -- with one edge before it
   abbrev pub tail_before : (p m : ℕ) (x : NameSet) (e : LabelledEdge) (u v : List NameSet) → slice_get a.edges m ≡ Some e → p ≡ e.from → truth (holds_at a.names x) e.label ≡ true
@@ -90,7 +90,7 @@ module _ (a : Automaton) where
   }
 
   -- and a track from a start
-  abbrev pub run_before : (start p : ℕ) (xs u v : List NameSet) (front : List ℕ) → Contains a.starts start → IsEdgePath a start xs front p → Tail p u v → AcceptingRun a (xs ++ u) v
+  abbrev pub run_before : (start p : ℕ) (xs u v : List NameSet) (front : List ℕ) → Contains a.starts start → IsEdgePath a start xs front p → Tail p u v → IndexedRun a (xs ++ u) v
   run_before start p xs u v front is_start leads t = record {
     start = start;
     state = t.state;
@@ -123,7 +123,7 @@ module _ (a : Automaton) where
     some_cycle p t = some_edges a u v endless t.state t.state t.cycle_rounds t.cycle t.positive t.returns
 
     -- in an unambiguous automaton both rests begin with the same edge
-    pub begin_alike : IsUnambiguous a → (p q : ℕ) → AreLed p q → (t : Tail p u v) (s : Tail q u v) → nth t.path_edges t.cycle 0 ≡ nth s.path_edges s.cycle 0
+    pub begin_alike : IndexedRunsAgree a → (p q : ℕ) → AreLed p q → (t : Tail p u v) (s : Tail q u v) → nth t.path_edges t.cycle 0 ≡ nth s.path_edges s.cycle 0
     begin_alike alone p q led t s =
         let one = run_before led.first p led.letters u v led.path_edges led.is_first led.leads t in
         let two = run_before led.second q led.letters u v led.other led.is_second led.leads_too s in

@@ -1,5 +1,5 @@
 -- Deterministic automata are unambiguous, and one that lists an edge twice isn't.
-use Rattle.std.proofs.Common.{◌≡◌, ◌∙◌, ℕ, ◌+◌, ◌*◌, ◌<◌, true, List, [], ◌∷◌, ◌++◌, Contains, Some, ap, arith, get_or, inl, inr, length, refl, slice_get, subst, sym}
+use Rattle.std.proofs.Common.{◌≡◌, ◌∙◌, ℕ, ◌+◌, ◌*◌, ◌<◌, true, List, [], ◌∷◌, ◌++◌, Contains, Some, ap, arith, get_or, inl, inr, refl, slice_get, subst, sym}
 use Rattle.std.proofs.Math.Nat.{mul_comm}
 use Rattle.std.proofs.lemmas.Bool.{cases_lt}
 use Rattle.std.proofs.lemmas.Option.{get_or_from_slice_get, same_Some, slice_get_within}
@@ -9,9 +9,10 @@ use Rattle.aut_base.specs.Automaton.{Automaton, LabelledEdge}
 use Rattle.aut_base.specs.Label.{holds_at, truth}
 use Rattle.aut_base.specs.Word.{NameSet, copies, nth}
 use Rattle.aut_core.specs.Deterministic.{IsDeterministic}
+use Rattle.unambiguous.proofs.tracks.Accepted.{agree_exactly}
+use Rattle.unambiguous.proofs.tracks.IndexedRuns.{IndexedRun, IndexedRunsAgree, IsEdgePath}
 use Rattle.unambiguous.proofs.tracks.Tracks.{later, run_of}
 use Rattle.unambiguous.specs.Laws.{DeterministicIsUnambiguous, TwiceIsAmbiguous, self_loop, twice}
-use Rattle.unambiguous.specs.Runs.{AcceptingRun, IsEdgePath}
 
 module _ (a : Automaton) (det : IsDeterministic a) where
   -- at most one start
@@ -57,8 +58,8 @@ module _ (a : Automaton) (det : IsDeterministic a) where
       let rest = same two.0.to q r xs ms ns (subst (λ (e : LabelledEdge). IsEdgePath a e.to xs ms q) edge one.4) two.4 in
       record { places = ap (λ k. k ∷ ms) place ∙ ap (λ ks. n ∷ ks) rest.places; ends = rest.ends }
 
-  unambiguous : (u v : List NameSet) → 0 < length v → (r t : AcceptingRun a u v) (n : ℕ) → nth r.path_edges r.cycle n ≡ nth t.path_edges t.cycle n
-  unambiguous u v endless r t n =
+  agree : IndexedRunsAgree a
+  agree u v endless r t n =
       let mine = later a u v endless r.stem_rounds r.cycle_rounds t.stem_rounds t.cycle_rounds (run_of a u v r) r.positive t.positive in
       let his = later a u v endless t.stem_rounds t.cycle_rounds r.stem_rounds r.cycle_rounds (run_of a u v t) t.positive r.positive in
       let stem_rounds : t.stem_rounds + r.stem_rounds ≡ r.stem_rounds + t.stem_rounds = omega arith in
@@ -75,9 +76,9 @@ module _ (a : Automaton) (det : IsDeterministic a) where
       sym (mine.same n) ∙ (ap (λ ws. nth ws mine.run.cycle n) ways.places ∙ (ap (λ cs. nth his.run.path_edges cs n) cycles.places ∙ his.same n))
 
 pub deterministic_is_unambiguous : DeterministicIsUnambiguous
-deterministic_is_unambiguous a det = unambiguous a det
+deterministic_is_unambiguous a det = (agree_exactly a).0 (agree a det)
 
-abbrev round_at : (x : NameSet) (m : ℕ) → slice_get twice.edges m ≡ Some self_loop → AcceptingRun twice [] (x ∷ [])
+abbrev round_at : (x : NameSet) (m : ℕ) → slice_get twice.edges m ≡ Some self_loop → IndexedRun twice [] (x ∷ [])
 round_at x m at = record {
   start = 0;
   state = 0;
@@ -95,5 +96,5 @@ round_at x m at = record {
 pub twice_is_ambiguous : TwiceIsAmbiguous
 twice_is_ambiguous alone =
     let x : NameSet = empty in
-    let same : 0 ≡ 1 = same_Some 0 1 (alone [] (x ∷ []) (omega arith) (round_at x 0 refl) (round_at x 1 refl) 0) in
+    let same : 0 ≡ 1 = same_Some 0 1 ((agree_exactly twice).1 alone [] (x ∷ []) (omega arith) (round_at x 0 refl) (round_at x 1 refl) 0) in
     absurd (omega (arith, same))

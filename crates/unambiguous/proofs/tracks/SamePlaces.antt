@@ -4,10 +4,10 @@ use Rattle.std.proofs.Common.{◌≡◌, true, List, ◌++◌, Contains, map}
 use Rattle.aut_base.specs.Automaton.{Automaton}
 use Rattle.aut_base.specs.Formula.{met}
 use Rattle.aut_base.specs.Word.{NameSet, copies}
-use Rattle.unambiguous.specs.Runs.{AcceptingRun, IsEdgePath, edge_marks}
+use Rattle.unambiguous.proofs.tracks.IndexedRuns.{IndexedRun, IsEdgePath, edge_marks}
 
-abbrev pub accepting_too : (a b : Automaton) (u v : List NameSet) (r : AcceptingRun a u v) → Contains b.starts r.start → IsEdgePath b r.start (u ++ copies r.stem_rounds v) r.path_edges r.state
-    → IsEdgePath b r.state (copies r.cycle_rounds v) r.cycle r.state → met (map (edge_marks b) r.cycle) b.formula ≡ true → AcceptingRun b u v
+abbrev pub accepting_too : (a b : Automaton) (u v : List NameSet) (r : IndexedRun a u v) → Contains b.starts r.start → IsEdgePath b r.start (u ++ copies r.stem_rounds v) r.path_edges r.state
+    → IsEdgePath b r.state (copies r.cycle_rounds v) r.cycle r.state → met (map (edge_marks b) r.cycle) b.formula ≡ true → IndexedRun b u v
 accepting_too a b u v r is_start leads returns meets = record {
   start = r.start;
   state = r.state;

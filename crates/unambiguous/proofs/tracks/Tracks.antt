@@ -10,8 +10,8 @@ use Rattle.aut_base.proofs.numbers.Truth.{and_comm, or_comm}
 use Rattle.aut_base.specs.Automaton.{Automaton}
 use Rattle.aut_base.specs.Formula.{FormulaTree, met}
 use Rattle.aut_base.specs.Word.{NameSet, copies, nth}
+use Rattle.unambiguous.proofs.tracks.IndexedRuns.{IndexedRun, IsEdgePath, edge_marks}
 use Rattle.unambiguous.proofs.tracks.Nth.{nth_copies, nth_turned}
-use Rattle.unambiguous.specs.Runs.{AcceptingRun, IsEdgePath, edge_marks}
 
 module _ (a : Automaton) where
   pub as_long : (p : ℕ) (xs : List NameSet) (ms : List ℕ) (q : ℕ) → IsEdgePath a p xs ms q → length ms ≡ length xs
@@ -62,7 +62,7 @@ module _ (a : Automaton) where
     pub leads : IsEdgePath a start (u ++ copies stem_rounds v) path_edges state
     pub returns : IsEdgePath a state (copies cycle_rounds v) cycle state
 
-  abbrev pub run_of : (u v : List NameSet) (r : AcceptingRun a u v) → Run u v r.stem_rounds r.cycle_rounds
+  abbrev pub run_of : (u v : List NameSet) (r : IndexedRun a u v) → Run u v r.stem_rounds r.cycle_rounds
   run_of u v r = record { start = r.start; state = r.state; path_edges = r.path_edges; cycle = r.cycle; is_start = r.is_start; leads = r.leads; returns = r.returns }
 
   -- a run along the same edges, whose cycle meets the same conditions

@@ -1,5 +1,5 @@
 use Rattle.std.proofs.Common.{◌≡◌, ◌∙◌, Bool, List, ap, length, refl, subst, sym}
-use Rattle.aut_core.specs.SymbolicAutomata.{AreSymbolicParts, SymbolicAutomaton, automaton_of}
+use Rattle.aut_core.specs.SymbolicAutomata.{AreSymbolicParts, automaton_of}
 use Rattle.aut_ops.specs.Paired.{symbolic_of_pairs}
 use Rattle.unambiguous.proofs.parting.Parted.{begun_parts, grown_parts, grown_same, no_more_pairs, states_within}
 use Rattle.unambiguous.specs.Parted.{ArePartings, IsParted}
