@@ -3,10 +3,10 @@ use Rattle.std.proofs.Common.{◌≡◌, ◌∙◌, ℕ, List, ap, codes, refl, 
 use Rattle.std.specs.Prelude.{◌↔◌}
 use Rattle.clap.specs.Words.{Row, matches_of}
 use Rattle.filter_plan.proofs.Alike.{alike}
-use Rattle.filter_plan.proofs.OneReading.{same_output, same_pattern}
+use Rattle.filter_plan.proofs.OneReading.{same_file, same_format, same_hidden, same_made, same_number, same_output, same_pattern, same_range}
 use Rattle.filter_plan.proofs.TableRows.{given}
 use Rattle.filter_plan.specs.Laws.{SamePlan}
-use Rattle.filter_plan.specs.Table.{EachGives, File, Flag, FormFlag, Format, Hiding, MadeCount, Number, Span, Word, figures, refuted, table}
+use Rattle.filter_plan.specs.Table.{EachGives, figures, refuted, table}
 use Rattle.filter_plan.specs.Words.{IsPlan, KeepsRules, autfilt, named_streams, streams_of}
 use Rattle.filter_plan.specs.declared.plan.Form.{Form}
 use Rattle.filter_plan.specs.declared.plan.Form.TheVariants.{AsIs, Deterministic, Parity, Buchi, RemoveFin, Dnf, Monitor}
@@ -37,12 +37,12 @@ forms_alike rows p q h k = same_form p.form q.form each
   where
     each : (form : Form) → (form ≡ AsIs → ⊥) → (p.form ≡ form) ↔ (q.form ≡ form)
     each AsIs own = absurd (own refl)
-    each Deterministic own = alike rows p q h k (codes "deterministic") (FormFlag Deterministic) refl
-    each Parity own = alike rows p q h k (codes "parity") (FormFlag Parity) refl
-    each Buchi own = alike rows p q h k (codes "buchi") (FormFlag Buchi) refl
-    each RemoveFin own = alike rows p q h k (codes "remove-fin") (FormFlag RemoveFin) refl
-    each Dnf own = alike rows p q h k (codes "dnf-acceptance") (FormFlag Dnf) refl
-    each Monitor own = alike rows p q h k (codes "monitor") (FormFlag Monitor) refl
+    each Deterministic own = alike rows p q h k (codes "deterministic")
+    each Parity own = alike rows p q h k (codes "parity")
+    each Buchi own = alike rows p q h k (codes "buchi")
+    each RemoveFin own = alike rows p q h k (codes "remove-fin")
+    each Dnf own = alike rows p q h k (codes "dnf-acceptance")
+    each Monitor own = alike rows p q h k (codes "monitor")
 
 -- ---- all but the patterns
 
@@ -54,36 +54,36 @@ same_but_patterns : (rows : List Row) (p q : Plan) → IsGiven rows p → IsGive
 unfolding table
 same_but_patterns rows p q h k =
     let same = alike rows p q h.options k.options in
-    let made : p.made ≡ q.made = same (codes "made") (MadeCount (λ x. x.made)) refl in
+    let made : p.made ≡ q.made = same (codes "made") same_made in
     let streams : p.streams ≡ q.streams = h.streams ∙ ap (streams_of (named_streams rows)) made ∙ sym k.streams in
-    let shown : figures p.output ≡ figures q.output = same (codes "stats") (Format (λ x. figures x.output)) refl in
-    let against : refuted p.output ≡ refuted q.output = same (codes "refute") (File (λ x. refuted x.output)) refl in
+    let shown : figures p.output ≡ figures q.output = same (codes "stats") same_format in
+    let against : refuted p.output ≡ refuted q.output = same (codes "refute") same_file in
     λ t. record {
       accept_word = p.accept_word;
       reject_word = p.reject_word;
-      invert = same (codes "invert-match") (Flag (λ x. x.invert)) refl t;
-      count = same (codes "count") (Flag (λ x. x.count)) refl t;
-      quiet = same (codes "quiet") (Flag (λ x. x.quiet)) refl t;
-      most = same (codes "max-count") (Number (λ x. x.most)) refl t;
-      is_empty = same (codes "is-empty") (Flag (λ x. x.is_empty)) refl t;
-      included_in = same (codes "included-in") (File (λ x. x.included_in)) refl t;
-      equivalent_to = same (codes "equivalent-to") (File (λ x. x.equivalent_to)) refl t;
-      intersect = same (codes "intersect") (File (λ x. x.intersect)) refl t;
-      is_deterministic = same (codes "is-deterministic") (Flag (λ x. x.is_deterministic)) refl t;
-      is_complete = same (codes "is-complete") (Flag (λ x. x.is_complete)) refl t;
-      is_unambiguous = same (codes "is-unambiguous") (Flag (λ x. x.is_unambiguous)) refl t;
-      states = same (codes "states") (Span (λ x. x.states)) refl t;
-      edges = same (codes "edges") (Span (λ x. x.edges)) refl t;
-      acc_sets = same (codes "acc-sets") (Span (λ x. x.acc_sets)) refl t;
-      ap = same (codes "ap") (Span (λ x. x.ap)) refl t;
-      product = same (codes "product") (File (λ x. x.product)) refl t;
-      product_or = same (codes "product-or") (File (λ x. x.product_or)) refl t;
-      sum = same (codes "sum") (File (λ x. x.sum)) refl t;
-      remove_ap = same (codes "remove-ap") (Hiding (λ x. x.remove_ap)) refl t;
-      trim = same (codes "remove-unreachable-states") (Flag (λ x. x.trim)) refl t;
-      complement = same (codes "complement") (Flag (λ x. x.complement)) refl t;
+      invert = same (codes "invert-match") t;
+      count = same (codes "count") t;
+      quiet = same (codes "quiet") t;
+      most = same (codes "max-count") same_number t;
+      is_empty = same (codes "is-empty") t;
+      included_in = same (codes "included-in") same_file t;
+      equivalent_to = same (codes "equivalent-to") same_file t;
+      intersect = same (codes "intersect") same_file t;
+      is_deterministic = same (codes "is-deterministic") t;
+      is_complete = same (codes "is-complete") t;
+      is_unambiguous = same (codes "is-unambiguous") t;
+      states = same (codes "states") same_range t;
+      edges = same (codes "edges") same_range t;
+      acc_sets = same (codes "acc-sets") same_range t;
+      ap = same (codes "ap") same_range t;
+      product = same (codes "product") same_file t;
+      product_or = same (codes "product-or") same_file t;
+      sum = same (codes "sum") same_file t;
+      remove_ap = same (codes "remove-ap") same_hidden t;
+      trim = same (codes "remove-unreachable-states") t;
+      complement = same (codes "complement") t;
       form = forms_alike rows p q h.options k.options t;
-      complete = same (codes "complete") (Flag (λ x. x.complete)) refl t;
+      complete = same (codes "complete") t;
       output = same_output p.output q.output shown against t;
       streams = streams t;
       made = made t;
@@ -100,10 +100,8 @@ rules_pass_on rows p q h k rules =
 same_given : ((text : List ℕ) → OneReading text) → (rows : List Row) (p q : Plan) → IsGiven rows p → IsGiven rows q → SamePlan p q
 unfolding table
 same_given law rows p q h k = record {
-  accept_word = same_pattern law _ p.accept_word q.accept_word (given rows p h.options (codes "accept-word") (Word (λ x. x.accept_word)) refl)
-      (given rows q k.options (codes "accept-word") (Word (λ x. x.accept_word)) refl);
-  reject_word = same_pattern law _ p.reject_word q.reject_word (given rows p h.options (codes "reject-word") (Word (λ x. x.reject_word)) refl)
-      (given rows q k.options (codes "reject-word") (Word (λ x. x.reject_word)) refl);
+  accept_word = same_pattern law _ p.accept_word q.accept_word (given rows p h.options (codes "accept-word")) (given rows q k.options (codes "accept-word"));
+  reject_word = same_pattern law _ p.reject_word q.reject_word (given rows p h.options (codes "reject-word")) (given rows q k.options (codes "reject-word"));
   others = same_but_patterns rows p q h k;
 }
 

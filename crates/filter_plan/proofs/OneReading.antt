@@ -9,9 +9,9 @@ use Rattle.filter_plan.proofs.FormatTexts.{first_of_text}
 use Rattle.filter_plan.proofs.RangeTexts.{IsOnlyCut, bounds_of_range, digits_have_no_dot, dot_is_no_digit}
 use Rattle.filter_plan.specs.Formats.{IsFormat, piece_text}
 use Rattle.filter_plan.specs.Hiding.{IsHideOption, suffix}
-use Rattle.filter_plan.specs.Numbers.{IsNumber}
+use Rattle.filter_plan.specs.Numbers.{IsMadeCount, IsNumber}
 use Rattle.filter_plan.specs.Spans.{IsRange, one, between, from, up_to, range}
-use Rattle.filter_plan.specs.Table.{IsPattern, ReadsOption, figures, refuted}
+use Rattle.filter_plan.specs.Table.{IsFile, IsPattern, ReadsOption, figures, refuted}
 use Rattle.filter_plan.specs.declared.format.Piece.{Piece}
 use Rattle.filter_plan.specs.declared.plan.Hidden.{Hidden}
 use Rattle.ap_project.specs.declared.hide.Hide.{Hide}
@@ -28,6 +28,12 @@ use Rattle.word_syntax.specs.declared.token.Token.TheVariants.{Name}
 
 pub same_number : (t : List ℕ) (n m : ℕ) → IsNumber t n → IsNumber t m → n ≡ m
 same_number t n m h k = sym h.1 ∙ k.1
+
+pub same_made : (t : List ℕ) (n m : ℕ) → IsMadeCount t n → IsMadeCount t m → n ≡ m
+same_made t n m h k = same_number t n m h.0 k.0
+
+pub same_file : (t f g : List ℕ) → IsFile t f → IsFile t g → f ≡ g
+same_file t f g h k = h ∙ sym k
 
 -- ---- ranges
 

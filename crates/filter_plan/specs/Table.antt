@@ -12,29 +12,22 @@ use Rattle.filter_plan.specs.Spans.{IsRange}
 use Rattle.filter_plan.specs.declared.format.Piece.{Piece}
 use Rattle.filter_plan.specs.declared.plan.Form.{Form}
 use Rattle.filter_plan.specs.declared.plan.Form.TheVariants.{Deterministic, Parity, Buchi, RemoveFin, Dnf, Monitor}
-use Rattle.filter_plan.specs.declared.plan.Hidden.{Hidden}
 use Rattle.filter_plan.specs.declared.plan.Output.{Output}
 use Rattle.filter_plan.specs.declared.plan.Output.TheVariants.{Stats, Refute}
 use Rattle.filter_plan.specs.declared.plan.Plan.{Plan}
-use Rattle.filter_plan.specs.declared.range.Range.{Range}
 
 -- Whether an option takes a value, what that is read as, and the field of the plan that has it.
-pub data Place : Type 0 where
+pub data Place : Type 1 where
   -- no value: whether the option is given
   Flag : (Plan → Bool) → Place
   -- no value: the plan has this form if the option is given
   FormFlag : Form → Place
-  Number : (Plan → Option ℕ) → Place
-  MadeCount : (Plan → Option ℕ) → Place
-  Span : (Plan → Option Range) → Place
-  File : (Plan → Option (List ℕ)) → Place
-  Word : (Plan → Option Pattern) → Place
-  Hiding : (Plan → Option Hidden) → Place
-  Format : (Plan → Option (List Piece)) → Place
+  -- a value that is read so
+  Value : {X : Type 0} → (List ℕ → X → Type 0) → (Plan → Option X) → Place
   -- the first of the streams
   Stream : Place
 
-pub record OptionRow : Type 0 where
+pub record OptionRow : Type 1 where
   pub long : List ℕ
   pub short : Option ℕ
   pub place : Place
@@ -45,6 +38,14 @@ option long place = record { long = long; short = None; place = place }
 -- an option with a short name too
 abbrev pub lettered : List ℕ → ℕ → Place → OptionRow
 lettered long letter place = record { long = long; short = Some letter; place = place }
+
+-- a file is in the plan as it is named
+abbrev pub IsFile : List ℕ → List ℕ → Type 0
+IsFile value file = file ≡ value
+
+-- a word is in the plan as the pattern that it spells
+abbrev pub IsPattern : List ℕ → Pattern → Type 0
+IsPattern value pattern = WritesWord value (word_pattern pattern)
 
 -- the format of the figures, if these are printed
 abbrev pub figures : Output → Option (List Piece)
@@ -59,24 +60,24 @@ refuted _ = None
 unfoldable pub table : List OptionRow
 table =
     -- filters
-    option (codes "accept-word") (Word (λ p. p.accept_word))
-    ∷ option (codes "reject-word") (Word (λ p. p.reject_word))
+    option (codes "accept-word") (Value IsPattern (λ p. p.accept_word))
+    ∷ option (codes "reject-word") (Value IsPattern (λ p. p.reject_word))
     ∷ option (codes "is-empty") (Flag (λ p. p.is_empty))
-    ∷ option (codes "included-in") (File (λ p. p.included_in))
-    ∷ option (codes "equivalent-to") (File (λ p. p.equivalent_to))
-    ∷ option (codes "intersect") (File (λ p. p.intersect))
+    ∷ option (codes "included-in") (Value IsFile (λ p. p.included_in))
+    ∷ option (codes "equivalent-to") (Value IsFile (λ p. p.equivalent_to))
+    ∷ option (codes "intersect") (Value IsFile (λ p. p.intersect))
     ∷ option (codes "is-deterministic") (Flag (λ p. p.is_deterministic))
     ∷ option (codes "is-complete") (Flag (λ p. p.is_complete))
     ∷ option (codes "is-unambiguous") (Flag (λ p. p.is_unambiguous))
-    ∷ option (codes "states") (Span (λ p. p.states))
-    ∷ option (codes "edges") (Span (λ p. p.edges))
-    ∷ option (codes "acc-sets") (Span (λ p. p.acc_sets))
-    ∷ option (codes "ap") (Span (λ p. p.ap))
+    ∷ option (codes "states") (Value IsRange (λ p. p.states))
+    ∷ option (codes "edges") (Value IsRange (λ p. p.edges))
+    ∷ option (codes "acc-sets") (Value IsRange (λ p. p.acc_sets))
+    ∷ option (codes "ap") (Value IsRange (λ p. p.ap))
     -- operations
-    ∷ option (codes "product") (File (λ p. p.product))
-    ∷ option (codes "product-or") (File (λ p. p.product_or))
-    ∷ option (codes "sum") (File (λ p. p.sum))
-    ∷ option (codes "remove-ap") (Hiding (λ p. p.remove_ap))
+    ∷ option (codes "product") (Value IsFile (λ p. p.product))
+    ∷ option (codes "product-or") (Value IsFile (λ p. p.product_or))
+    ∷ option (codes "sum") (Value IsFile (λ p. p.sum))
+    ∷ option (codes "remove-ap") (Value IsHideOption (λ p. p.remove_ap))
     ∷ option (codes "remove-unreachable-states") (Flag (λ p. p.trim))
     ∷ option (codes "complement") (Flag (λ p. p.complement))
     -- forms
@@ -88,15 +89,15 @@ table =
     ∷ lettered (codes "monitor") 77 (FormFlag Monitor)
     ∷ lettered (codes "complete") 67 (Flag (λ p. p.complete))
     -- output
-    ∷ option (codes "stats") (Format (λ p. figures p.output))
-    ∷ option (codes "refute") (File (λ p. refuted p.output))
+    ∷ option (codes "stats") (Value IsFormat (λ p. figures p.output))
+    ∷ option (codes "refute") (Value IsFile (λ p. refuted p.output))
     ∷ lettered (codes "invert-match") 118 (Flag (λ p. p.invert))
     ∷ lettered (codes "count") 99 (Flag (λ p. p.count))
     ∷ lettered (codes "quiet") 113 (Flag (λ p. p.quiet))
-    ∷ lettered (codes "max-count") 110 (Number (λ p. p.most))
+    ∷ lettered (codes "max-count") 110 (Value IsNumber (λ p. p.most))
     -- streams
     ∷ lettered (codes "file") 70 Stream
-    ∷ option (codes "made") (MadeCount (λ p. p.made))
+    ∷ option (codes "made") (Value IsMadeCount (λ p. p.made))
     ∷ []
 
 -- the values that an option or operand was given
@@ -114,26 +115,12 @@ ReadsOption IsRead [] None = ⊤
 ReadsOption IsRead (value ∷ []) (Some x) = IsRead value x
 ReadsOption IsRead _ _ = ⊥
 
--- a file is in the plan as it is named
-abbrev pub IsFile : List ℕ → List ℕ → Type 0
-IsFile value file = file ≡ value
-
--- a word is in the plan as the pattern that it spells
-abbrev pub IsPattern : List ℕ → Pattern → Type 0
-IsPattern value pattern = WritesWord value (word_pattern pattern)
-
 -- The plan has in this field what the values of the option give. Since a plan has one form, no plan has two options of
 -- forms.
 abbrev pub Gives : Place → List (List ℕ) → Plan → Type 0
 Gives (Flag at) values p = at p ≡ is_on values
 Gives (FormFlag form) values p = IsTrue (is_on values) ↔ (p.form ≡ form)
-Gives (Number at) values p = ReadsOption IsNumber values (at p)
-Gives (MadeCount at) values p = ReadsOption IsMadeCount values (at p)
-Gives (Span at) values p = ReadsOption IsRange values (at p)
-Gives (File at) values p = ReadsOption IsFile values (at p)
-Gives (Word at) values p = ReadsOption IsPattern values (at p)
-Gives (Hiding at) values p = ReadsOption IsHideOption values (at p)
-Gives (Format at) values p = ReadsOption IsFormat values (at p)
+Gives (Value IsRead at) values p = ReadsOption IsRead values (at p)
 Gives Stream values p = length values ≤ 1
 
 -- each option of the list, where `rows` has what `clap` found

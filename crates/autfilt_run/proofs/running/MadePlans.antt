@@ -1,8 +1,8 @@
 -- How many automata `--made` generates.
-use Rattle.std.proofs.Common.{◌≡◌, ℕ, ◌≤◌, List, [], ◌∷◌, Option, Some, codes, refl, subst}
+use Rattle.std.proofs.Common.{◌≡◌, ℕ, ◌≤◌, List, [], ◌∷◌, Option, Some, codes, subst}
 use Rattle.filter_plan.proofs.TableRows.{given}
 use Rattle.filter_plan.specs.Numbers.{IsMadeCount}
-use Rattle.filter_plan.specs.Table.{EachGives, MadeCount, ReadsOption, table, values_of}
+use Rattle.filter_plan.specs.Table.{EachGives, ReadsOption, table, values_of}
 use Rattle.filter_plan.specs.Words.{IsPlan}
 use Rattle.filter_plan.specs.declared.plan.Plan.{Plan}
 
@@ -17,7 +17,7 @@ read_as values o n h is = read_of values n (subst (λ (x : Option ℕ). ReadsOpt
 -- the number that its row of options gives a plan
 of_row : (rows : _) (p : Plan) → EachGives table rows p → ReadsOption IsMadeCount (values_of (codes "made") rows) p.made
 unfolding table
-of_row rows p gives = given rows p gives (codes "made") (MadeCount (λ x. x.made)) refl
+of_row rows p gives = given rows p gives (codes "made")
 
 pub made_within : (words : List (List ℕ)) (p : Plan) (n : ℕ) → IsPlan words p → p.made ≡ Some n → (1 ≤ n) × (n ≤ 10000)
 made_within words p n plan is = read_as _ p.made n (of_row _ p plan.options) is
