@@ -1,5 +1,6 @@
 -- The rules.
 pub mod AllDiffer
+pub mod FirstInList
 pub mod Leaves
 pub mod NamesDiffer
 pub mod RisingNumbers

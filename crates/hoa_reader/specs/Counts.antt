@@ -1,5 +1,6 @@
 -- What is counted of a written automaton that keeps the rules, and the numbers that the counts may not pass.
-use Rattle.std.specs.Prelude.{◌≡◌, ◌+◌, ◌/◌, max, ℕ, Bool, true, false, not, if◌then◌else◌, nat_lt, List, [], ◌∷◌, length, map, take, sum_by}
+use Rattle.std.specs.Prelude.{◌≡◌, ◌+◌, ◌/◌, max, ℕ, Bool, true, false, not, if◌then◌else◌, nat_lt, List, [], ◌∷◌, ◌++◌, length, map, sum_by}
+use Rattle.std.specs.List.{AllByRecursion}
 use Rattle.std.specs.Option.{option_map_or}
 use Rattle.aut_base.specs.Label as label
 use Rattle.aut_base.specs.Label.{LabelTree, LabelTrees, label_size}
@@ -76,27 +77,21 @@ PassesCount count w = nat_lt (most_of count) (value_of_count count w) ≡ true
 abbrev pub IsCountWithin : Count → Written → Type 0
 IsCountWithin count w = nat_lt (most_of count) (value_of_count count w) ≡ false
 
--- all of them, in order
+-- all of them, in the order in which they are examined
 abbrev pub limit_counts : List Count
 limit_counts = Names ∷ Sets ∷ States ∷ Edges ∷ Aliases ∷ []
 
--- how many are examined before this one
-abbrev pub count_order : Count → ℕ
-count_order Names = 0
-count_order Sets = 1
-count_order States = 2
-count_order Edges = 3
-count_order Aliases = 4
-
 -- each count of the list is within its number
 abbrev pub AreCountsWithin : List Count → Written → Type 0
-AreCountsWithin [] w = Unit {0}
-AreCountsWithin (count ∷ others) w = IsCountWithin count w × AreCountsWithin others w
+AreCountsWithin list w = AllByRecursion (λ count. IsCountWithin count w) list
 
--- it passes its number, and no earlier one does
+-- The count passes its number, and each that is examined before it is within its own.
 pub record PassesFirst (count : Count) (w : Written) : Type 0 where
+  pub before : List Count
+  pub after : List Count
+  pub all : limit_counts ≡ before ++ count ∷ after
+  pub earlier : AreCountsWithin before w
   pub passes : PassesCount count w
-  pub earlier : AreCountsWithin (take (count_order count) limit_counts) w
 
 -- none passes its number
 abbrev pub PassesNone : Written → Type 0

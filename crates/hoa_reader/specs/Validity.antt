@@ -1,8 +1,8 @@
 -- The rules that an automaton has to keep once it is written down, in the order in which they are examined. A text that
 -- breaks several of them is answered by the earliest.
-use Rattle.std.specs.Prelude.{◌≡◌, ◌^◌, ℕ, Bool, true, false, not, ◌&&◌, ◌||◌, ◌==◌, nat_lt, nat_le, List, [], ◌∷◌, ◌++◌, length, take, map, flat_map}
+use Rattle.std.specs.Prelude.{◌≡◌, ◌^◌, ℕ, Bool, true, false, not, ◌&&◌, ◌||◌, ◌==◌, nat_lt, nat_le, List, [], ◌∷◌, ◌++◌, length, map, flat_map}
 use Rattle.std.specs.Prelude.{filter_map, count_by, codes, get_or, Option, Some, None, is_some, is_none, option_to_list}
-use Rattle.std.specs.List.{list_any, list_all}
+use Rattle.std.specs.List.{AllByRecursion, list_any, list_all}
 use Rattle.aut_base.specs.Formula as formula
 use Rattle.aut_base.specs.Formula.{FormulaTree, FormulaTrees}
 use Rattle.aut_base.specs.Text.{same_text}
@@ -251,27 +251,9 @@ keeps_rule V10 = defines_states_once
 keeps_rule V11 = labels_each_state_one_way
 keeps_rule V12 = has_edges_for_all_letters
 
--- all of them, in order
+-- all of them, in the order in which they are examined
 abbrev pub rules : List Rule
 rules = V1 ∷ V2 ∷ V3 ∷ V4 ∷ V5 ∷ V6 ∷ V7 ∷ V8 ∷ V9 ∷ V10 ∷ V11 ∷ V12 ∷ []
-
--- how many are examined before this one
-abbrev pub rule_order : Rule → ℕ
-rule_order V1 = 0
-rule_order V2 = 1
-rule_order V3 = 2
-rule_order V4 = 3
-rule_order V5 = 4
-rule_order V6 = 5
-rule_order V7 = 6
-rule_order V8 = 7
-rule_order V9 = 8
-rule_order V10 = 9
-rule_order V11 = 10
-rule_order V12 = 11
-
-abbrev pub rules_before : Rule → List Rule
-rules_before rule = take (rule_order rule) rules
 
 abbrev pub IsRuleKept : Rule → Written → Type 0
 IsRuleKept rule w = keeps_rule rule w ≡ true
@@ -281,13 +263,15 @@ IsBroken rule w = keeps_rule rule w ≡ false
 
 -- each rule of the list is kept
 abbrev pub AreRulesKept : List Rule → Written → Type 0
-AreRulesKept [] w = Unit {0}
-AreRulesKept (rule ∷ others) w = IsRuleKept rule w × AreRulesKept others w
+AreRulesKept list w = AllByRecursion (λ rule. IsRuleKept rule w) list
 
--- it is broken, and no earlier one is
+-- The rule is broken, and each that is examined before it is kept.
 pub record IsFirstBroken (rule : Rule) (w : Written) : Type 0 where
+  pub before : List Rule
+  pub after : List Rule
+  pub all : rules ≡ before ++ rule ∷ after
+  pub earlier : AreRulesKept before w
   pub broken : IsBroken rule w
-  pub earlier : AreRulesKept (rules_before rule) w
 
 -- none is broken
 abbrev pub IsValid : Written → Type 0

@@ -1,6 +1,8 @@
 -- The worked examples, by computation.
-use Rattle.std.proofs.Common.{refl}
+use Rattle.std.proofs.Common.{[], drop, refl, take}
+use Rattle.hoa_reader.specs.Counts.{limit_counts}
 use Rattle.hoa_reader.specs.DescribingExamples.{CountExamples, DescribingExamples, DescriptionExamples, RuleExamples}
+use Rattle.hoa_reader.specs.Validity.{rules}
 
 rule_examples : RuleExamples
 rule_examples = record {
@@ -38,7 +40,7 @@ rule_examples = record {
   three_letters_of_four = refl;
   four_letters_of_four = refl;
   both_broken = refl;
-  earlier_is_first = record { broken = refl; earlier = (refl, (refl, (refl, (refl, tt)))) };
+  earlier_is_first = record { before = take 4 rules; after = drop 5 rules; all = refl; earlier = (refl, (refl, (refl, (refl, tt)))); broken = refl };
 }
 
 description_examples : DescriptionExamples
@@ -71,9 +73,9 @@ count_examples = record {
   no_weight = refl;
   height_of_state = refl;
   uncounted = refl;
-  many_sets = record { passes = refl; earlier = (refl, tt) };
-  many_states = record { passes = refl; earlier = (refl, (refl, tt)) };
-  too_many_names = record { passes = refl; earlier = tt };
+  many_sets = record { before = take 1 limit_counts; after = drop 2 limit_counts; all = refl; earlier = (refl, tt); passes = refl };
+  many_states = record { before = take 2 limit_counts; after = drop 3 limit_counts; all = refl; earlier = (refl, (refl, tt)); passes = refl };
+  too_many_names = record { before = []; after = drop 1 limit_counts; all = refl; earlier = tt; passes = refl };
   most_names = refl;
   most_sets = refl;
   most_states = refl;
