@@ -2,5 +2,6 @@
 pub mod AfterAll
 pub mod BodySums
 pub mod EdgeCounts
+pub mod PassedFirst
 pub mod PlainLabels
 pub mod Weights

@@ -4,6 +4,8 @@ use Rattle.std.specs.List.{AllByRecursion}
 use Rattle.std.specs.Option.{option_map_or}
 use Rattle.aut_base.specs.Label as label
 use Rattle.aut_base.specs.Label.{LabelTree, LabelTrees, label_size}
+use Rattle.aut_base.specs.declared.limit.Limit.{Limit}
+use Rattle.aut_base.specs.declared.limit.Limit.TheVariants as limit
 use Rattle.aut_base.specs.declared.limit.TheConstants.{MOST_NAMES, MOST_SETS, MOST_STATES, MOST_EDGES, MOST_ALIASES}
 use Rattle.hoa_reader.specs.Described.{edges_of, expanded, meanings_of, state_count}
 use Rattle.hoa_parser.specs.Raw.{RawTree, Written, WrittenEdge, WrittenState}
@@ -48,51 +50,42 @@ edge_weight w s e = option_map_or (size_in w) s.label (option_map_or (own_weight
 abbrev pub weight : Written → ℕ
 weight w = sum_by (λ s. sum_by (edge_weight w s) s.edges) w.states
 
-pub data Count : Type 0 where
-  Names : Count
-  Sets : Count
-  States : Count
-  Edges : Count
-  -- how far labels grow when their aliases are replaced
-  Aliases : Count
+-- how far labels grow when their aliases are replaced
+abbrev pub growth : Written → ℕ
+growth w = max (greatest (map (height_in w) (body_labels w))) (weight w / 8192)
 
-abbrev pub value_of_count : Count → Written → ℕ
-value_of_count Names w = length (written_names w)
-value_of_count Sets w = (acceptance_of w).sets
-value_of_count States w = state_count w
-value_of_count Edges w = length (edges_of w)
-value_of_count Aliases w = max (greatest (map (height_in w) (body_labels w))) (weight w / 8192)
+-- A count of what is written, the limit on it, and the greatest number that is read.
+pub record Counted : Type 0 where
+  pub which : Limit
+  pub count : ℕ
+  pub most : ℕ
 
--- the greatest number that is read
-abbrev pub most_of : Count → ℕ
-most_of Names = MOST_NAMES
-most_of Sets = MOST_SETS
-most_of States = MOST_STATES
-most_of Edges = MOST_EDGES
-most_of Aliases = MOST_ALIASES
-
-abbrev pub PassesCount : Count → Written → Type 0
-PassesCount count w = nat_lt (most_of count) (value_of_count count w) ≡ true
-
-abbrev pub IsCountWithin : Count → Written → Type 0
-IsCountWithin count w = nat_lt (most_of count) (value_of_count count w) ≡ false
+abbrev pub counted : Limit → ℕ → ℕ → Counted
+counted which count most = record { which = which; count = count; most = most }
 
 -- all of them, in the order in which they are examined
-abbrev pub limit_counts : List Count
-limit_counts = Names ∷ Sets ∷ States ∷ Edges ∷ Aliases ∷ []
+abbrev pub limit_counts : Written → List Counted
+limit_counts w =
+    counted limit.Names (length (written_names w)) MOST_NAMES
+    ∷ counted limit.Sets (acceptance_of w).sets MOST_SETS
+    ∷ counted limit.States (state_count w) MOST_STATES
+    ∷ counted limit.Edges (length (edges_of w)) MOST_EDGES
+    ∷ counted limit.Aliases (growth w) MOST_ALIASES
+    ∷ []
 
--- each count of the list is within its number
-abbrev pub AreCountsWithin : List Count → Written → Type 0
-AreCountsWithin list w = AllByRecursion (λ count. IsCountWithin count w) list
+abbrev pub IsCountWithin : Counted → Type 0
+IsCountWithin c = nat_lt c.most c.count ≡ false
 
--- The count passes its number, and each that is examined before it is within its own.
-pub record PassesFirst (count : Count) (w : Written) : Type 0 where
-  pub before : List Count
-  pub after : List Count
-  pub all : limit_counts ≡ before ++ count ∷ after
-  pub earlier : AreCountsWithin before w
-  pub passes : PassesCount count w
+-- The limit is that of a count that passes its number, and each that is examined before it is within its own.
+pub record PassesFirst (which : Limit) (w : Written) : Type 0 where
+  pub before : List Counted
+  pub first : Counted
+  pub after : List Counted
+  pub all : limit_counts w ≡ before ++ first ∷ after
+  pub earlier : AllByRecursion IsCountWithin before
+  pub passes : nat_lt first.most first.count ≡ true
+  pub shown : which ≡ first.which
 
 -- none passes its number
 abbrev pub PassesNone : Written → Type 0
-PassesNone = AreCountsWithin limit_counts
+PassesNone w = AllByRecursion IsCountWithin (limit_counts w)

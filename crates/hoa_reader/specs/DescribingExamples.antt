@@ -1,11 +1,12 @@
 -- Small automata, worked out by hand: which rules they break, what they describe, and what is counted of them.
-use Rattle.std.specs.Prelude.{◌≡◌, ℕ, true, false, List, [], ◌∷◌, Option, Some, None, codes, not, filter, map, replicate}
+use Rattle.std.specs.Prelude.{◌≡◌, ℕ, true, false, List, [], ◌∷◌, Option, Some, None, codes, not, filter, map, replicate, take}
+use Rattle.std.specs.List.{AllByRecursion}
 use Rattle.aut_base.specs.Automaton.{LabelledEdge}
 use Rattle.aut_base.specs.Formula as formula
 use Rattle.aut_base.specs.Label as label
 use Rattle.aut_base.specs.Label.{LabelTree}
-use Rattle.hoa_reader.specs.Counts as counts
-use Rattle.hoa_reader.specs.Counts.{IsCountWithin, PassesFirst, PassesNone, value_of_count, height_in, size_in, weight}
+use Rattle.aut_base.specs.declared.limit.Limit.TheVariants as limit
+use Rattle.hoa_reader.specs.Counts.{IsCountWithin, PassesFirst, PassesNone, growth, height_in, limit_counts, size_in, weight}
 use Rattle.hoa_reader.specs.Described.{described, letter_label, starts_of, state_count}
 use Rattle.hoa_parser.specs.Raw as raw
 use Rattle.hoa_parser.specs.Raw.{RawTree, Written, WrittenEdge, WrittenItem, WrittenState}
@@ -164,22 +165,22 @@ pub record CountExamples : Type 0 where
   pub height_of_chain : height_in chained (raw.Alias (codes "z")) ≡ 4
   pub size_of_chain : size_in chained (raw.Alias (codes "z")) ≡ 9
   pub weight_of_chain : weight chained ≡ 9
-  pub aliases_of_chain : value_of_count counts.Aliases chained ≡ 4
+  pub aliases_of_chain : growth chained ≡ 4
   -- A state's label weighs as often as the state has edges, and has its height without any.
   pub weight_of_edges : weight (labelled (replicate 3 (written_edge_to None 0 []))) ≡ 15
   pub no_weight : weight (labelled []) ≡ 0
-  pub height_of_state : value_of_count counts.Aliases (labelled []) ≡ 4
+  pub height_of_state : growth (labelled []) ≡ 4
   -- nothing is counted of edges without labels, nor of an alias that nothing uses
-  pub uncounted : value_of_count counts.Aliases (text (raw.AliasOf (codes "x") (raw.Not raw.True) ∷ []) (written_state_with 0 (written_edge_to None 0 [] ∷ []) ∷ [])) ≡ 0
+  pub uncounted : growth (text (raw.AliasOf (codes "x") (raw.Not raw.True) ∷ []) (written_state_with 0 (written_edge_to None 0 [] ∷ []) ∷ [])) ≡ 0
   -- Of two counts that pass their numbers the earlier one is first.
-  pub many_sets : PassesFirst counts.Sets (record { version = codes "v1"; items = raw.Acceptance 513 formula.True ∷ raw.States 100001 ∷ []; states = [] })
-  pub many_states : PassesFirst counts.States (text (raw.States 100001 ∷ []) [])
-  pub too_many_names : PassesFirst counts.Names (text (raw.Ap 33 (replicate 33 (codes "a")) ∷ []) [])
+  pub many_sets : PassesFirst limit.Sets (record { version = codes "v1"; items = raw.Acceptance 513 formula.True ∷ raw.States 100001 ∷ []; states = [] })
+  pub many_states : PassesFirst limit.States (text (raw.States 100001 ∷ []) [])
+  pub too_many_names : PassesFirst limit.Names (text (raw.Ap 33 (replicate 33 (codes "a")) ∷ []) [])
   -- each greatest number is still read
-  pub most_names : IsCountWithin counts.Names (text (raw.Ap 32 (replicate 32 (codes "a")) ∷ []) [])
-  pub most_sets : IsCountWithin counts.Sets (record { version = codes "v1"; items = raw.Acceptance 512 formula.True ∷ []; states = [] })
-  pub most_states : IsCountWithin counts.States (text (raw.States 100000 ∷ []) [])
-  pub greatest_numbers : map counts.most_of counts.limit_counts ≡ 32 ∷ 512 ∷ 100000 ∷ 1000000 ∷ 2048 ∷ []
+  pub most_names : AllByRecursion IsCountWithin (take 1 (limit_counts (text (raw.Ap 32 (replicate 32 (codes "a")) ∷ []) [])))
+  pub most_sets : AllByRecursion IsCountWithin (take 2 (limit_counts (record { version = codes "v1"; items = raw.Acceptance 512 formula.True ∷ []; states = [] })))
+  pub most_states : AllByRecursion IsCountWithin (take 3 (limit_counts (text (raw.States 100000 ∷ []) [])))
+  pub greatest_numbers : (w : Written) → map (λ c. c.most) (limit_counts w) ≡ 32 ∷ 512 ∷ 100000 ∷ 1000000 ∷ 2048 ∷ []
 
 pub record DescribingExamples : Type 0 where
   pub rules : RuleExamples

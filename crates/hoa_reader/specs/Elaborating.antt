@@ -5,9 +5,8 @@ use Rattle.aut_base.specs.CanonicalLabel.{canonical}
 use Rattle.aut_base.specs.declared.description.Description.{Description}
 use Rattle.aut_base.specs.declared.limit.Limit.{Limit}
 use Rattle.aut_core.specs.SymbolicAutomata.{automaton_of}
-use Rattle.hoa_reader.specs.Counts.{Count, PassesFirst, PassesNone}
+use Rattle.hoa_reader.specs.Counts.{PassesFirst, PassesNone}
 use Rattle.hoa_reader.specs.Described.{described}
-use Rattle.hoa_reader.specs.inner.Gathered.{limit_of}
 use Rattle.hoa_parser.specs.Naming.{name_of}
 use Rattle.hoa_parser.specs.Raw.{Written}
 use Rattle.hoa_reader.specs.Validity.{IsFirstBroken, IsValid}
@@ -17,10 +16,8 @@ use Rattle.hoa_reader.specs.declared.elaborate.Named.{Named}
 
 -- It is valid, and this limit is the first that one of its counts passes.
 pub record PassesLimit (which : Limit) (w : Written) : Type 0 where
-  pub count : Count
-  pub shown : which ≡ limit_of count
   pub valid : IsValid w
-  pub passes : PassesFirst count w
+  pub passes : PassesFirst which w
 
 -- why there is no answer
 abbrev pub IsRefusedFor : ElabFault → Written → Type 0

@@ -27,9 +27,9 @@ use Rattle.filter_plan.specs.declared.plan.Output.TheVariants.{Hoa, Refute, Stat
 use Rattle.filter_plan.specs.declared.plan.Plan.{Plan}
 use Rattle.hoa_parser.specs.Raw.{Written}
 use Rattle.hoa_reader.proofs.description.WellFormed.{valid_is_well_formed}
-use Rattle.hoa_reader.specs.Counts.{Names, PassesNone, Sets, States, value_of_count}
-use Rattle.hoa_reader.specs.Described.{described}
-use Rattle.hoa_reader.specs.Validity.{IsValid}
+use Rattle.hoa_reader.specs.Counts.{PassesNone}
+use Rattle.hoa_reader.specs.Described.{described, state_count}
+use Rattle.hoa_reader.specs.Validity.{IsValid, acceptance_of, written_names}
 use Rattle.hoa_writer.specs.CanonicalText.{canonical_text}
 use Rattle.hoa_writer.specs.CanonicalWritten.{CanonicalTextReadsBack}
 use Rattle.plan_meaning.proofs.changes.Promised.{few_sets_kept, promises_kept}
@@ -44,10 +44,10 @@ use Rattle.plan_meaning.specs.Operands.{IsOfReadSize}
 read_fine : (w : Written) → IsValid w → PassesNone w → IsFine IsOfReadSize (canonical (described w))
 read_fine w valid within = record {
   formed = canonical_is_well_formed (described w) (valid_is_well_formed w valid);
-  names = omega (arith, ltb-false MOST_NAMES (value_of_count Names w) within.0);
+  names = omega (arith, ltb-false MOST_NAMES (length (written_names w)) within.0);
   size = record {
-    states = omega (arith, ltb-false MOST_STATES (value_of_count States w) within.1.1.0);
-    sets = omega (arith, ltb-false MOST_SETS (value_of_count Sets w) within.1.0);
+    states = omega (arith, ltb-false MOST_STATES (state_count w) within.1.1.0);
+    sets = omega (arith, ltb-false MOST_SETS (acceptance_of w).sets within.1.0);
   };
 }
 

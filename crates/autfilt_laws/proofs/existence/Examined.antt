@@ -1,10 +1,11 @@
 -- An automaton that was read keeps all rules and limits, or there is a first one that it breaks or passes.
-use Rattle.std.proofs.Common.{◌≡◌, ◌⊎◌, List, [], ◌∷◌, ◌++◌, refl, ap, inl, inr}
+use Rattle.std.proofs.Common.{◌≡◌, ◌⊎◌, true, List, [], ◌∷◌, ◌++◌, refl, ap, inl, inr}
 use Rattle.std.proofs.lemmas.Bool.{cases_Bool}
 use Rattle.std.specs.List.{AllByRecursion}
 use Rattle.std.specs.Prelude.{nat_lt}
+use Rattle.aut_base.specs.declared.limit.Limit.{Limit}
 use Rattle.hoa_parser.specs.Raw.{Written}
-use Rattle.hoa_reader.specs.Counts.{Count, IsCountWithin, PassesCount, PassesFirst, PassesNone, value_of_count, limit_counts, most_of}
+use Rattle.hoa_reader.specs.Counts.{Counted, IsCountWithin, PassesFirst, PassesNone, limit_counts}
 use Rattle.hoa_reader.specs.Validity.{IsBroken, IsFirstBroken, IsRuleKept, IsValid, keeps_rule, rules}
 use Rattle.hoa_reader.specs.declared.elaborate.Rule.{Rule}
 
@@ -41,12 +42,12 @@ keeps_or_breaks w = go (all_or_first (λ rule. IsRuleKept rule w) (λ rule. IsBr
     go (inl h) = inl h
     go (inr h) = inr (h.item, record { before = h.before; after = h.after; all = h.all; earlier = h.earlier; broken = h.fails })
 
-pub within_or_passes : (w : Written) → PassesNone w ⊎ ((count : Count) × PassesFirst count w)
-within_or_passes w = go (all_or_first (λ count. IsCountWithin count w) (λ count. PassesCount count w) test limit_counts)
+pub within_or_passes : (w : Written) → PassesNone w ⊎ ((which : Limit) × PassesFirst which w)
+within_or_passes w = go (all_or_first IsCountWithin (λ c. nat_lt c.most c.count ≡ true) test (limit_counts w))
   where
-    test : (count : Count) → IsCountWithin count w ⊎ PassesCount count w
-    test count = elim (cases_Bool (nat_lt (most_of count) (value_of_count count w))) [ inl passes ↦ inr passes | inr within ↦ inl within ]
+    test : (c : Counted) → IsCountWithin c ⊎ (nat_lt c.most c.count ≡ true)
+    test c = elim (cases_Bool (nat_lt c.most c.count)) [ inl passes ↦ inr passes | inr within ↦ inl within ]
 
-    go : PassesNone w ⊎ FirstIn (λ count. IsCountWithin count w) (λ count. PassesCount count w) limit_counts → PassesNone w ⊎ ((count : Count) × PassesFirst count w)
+    go : PassesNone w ⊎ FirstIn IsCountWithin (λ c. nat_lt c.most c.count ≡ true) (limit_counts w) → PassesNone w ⊎ ((which : Limit) × PassesFirst which w)
     go (inl h) = inl h
-    go (inr h) = inr (h.item, record { before = h.before; after = h.after; all = h.all; earlier = h.earlier; passes = h.fails })
+    go (inr h) = inr (h.item.which, record { before = h.before; first = h.item; after = h.after; all = h.all; earlier = h.earlier; passes = h.fails; shown = refl })

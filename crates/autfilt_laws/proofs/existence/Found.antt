@@ -7,7 +7,7 @@ use Rattle.autfilt_laws.proofs.existence.Examined.{keeps_or_breaks, within_or_pa
 use Rattle.autfilt_laws.proofs.existence.Stopping.{passed_other}
 use Rattle.autfilt_laws.specs.Places.{BadIsShown, CutIsShown, DeepIsShown}
 use Rattle.autfilt_laws.specs.Runs.{IsByText}
-use Rattle.autfilt_run.proofs.handling.PassedLimits.{of_count}
+use Rattle.autfilt_run.proofs.handling.PassedLimits.{counts_pass}
 use Rattle.autfilt_run.proofs.turns.Reading.{past}
 use Rattle.autfilt_run.specs.Events.{IsGood}
 use Rattle.autfilt_run.specs.Runs.{StopsReading}
@@ -17,11 +17,10 @@ use Rattle.hoa_lexer.specs.Blanks.{IsBlanks}
 use Rattle.hoa_parser.specs.Raw.{Written}
 use Rattle.hoa_parser.specs.Standing as standing
 use Rattle.hoa_parser.specs.Standing.{IsWhole, SomeStanding, Standing, Stands}
-use Rattle.hoa_reader.specs.Counts.{Count, PassesFirst, PassesNone}
+use Rattle.hoa_reader.specs.Counts.{PassesFirst, PassesNone}
 use Rattle.hoa_reader.specs.Elaborating.{PassesLimit}
 use Rattle.hoa_reader.specs.Validity.{IsFirstBroken, IsValid}
 use Rattle.hoa_reader.specs.declared.elaborate.Rule.{Rule}
-use Rattle.hoa_reader.specs.inner.Gathered.{limit_of}
 
 -- for each fault of a text there is a byte at which a reader stops
 pub record AreShown : Type 0 where
@@ -44,16 +43,17 @@ pub data Found (over : Limit → Written → Type 0) (start : ℕ) (rest : List 
   OneRefused : IsRefused over start rest → Found over start rest
 
 module _ (over : Limit → Written → Type 0) (start : ℕ) (rest : List ℕ) where
-  within : (w : Written) (next : List ℕ) → IsWhole start rest w next → IsValid w → PassesNone w ⊎ ((count : Count) × PassesFirst count w) → Found over start rest
+  within : (w : Written) (next : List ℕ) → IsWhole start rest w next → IsValid w → PassesNone w ⊎ ((which : Limit) × PassesFirst which w) → Found over start rest
   within w next whole valid (inl h) = OneGood w next (record { whole = whole; valid = valid; within = h })
   within w next whole valid (inr h) =
-      let passed : PassesLimit (limit_of h.0) w = record { count = h.0; shown = refl; valid = valid; passes = h.1 } in
+      let passed : PassesLimit h.0 w = record { valid = valid; passes = h.1 } in
+      let of_whole = counts_pass h.0 w passed in
       OneRefused (record {
-        fault = run.Limit (limit_of h.0);
+        fault = run.Limit h.0;
         by_text = tt;
-        other = passed_other (limit_of h.0) (of_count h.0);
+        other = passed_other h.0 of_whole;
         left = next;
-        stops = past over (limit_of h.0) start rest next (of_count h.0) (record { automaton = w; whole = whole; holds = inl passed });
+        stops = past over h.0 start rest next of_whole (record { automaton = w; whole = whole; holds = inl passed });
       })
 
   whole_found : (w : Written) (next : List ℕ) → IsWhole start rest w next → IsValid w ⊎ ((rule : Rule) × IsFirstBroken rule w) → Found over start rest

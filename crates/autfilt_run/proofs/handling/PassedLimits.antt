@@ -1,10 +1,11 @@
 -- A limit that is passed after reading is noticed at an automaton that was read whole.
-use Rattle.std.proofs.Common.{◌≡◌, ◌⊎◌, ◌∙◌, Bool, false, true, List, [], ◌∷◌, Option, Some, None, Contains, ap, inl, inr, refl}
+use Rattle.std.proofs.Common.{◌≡◌, ◌⊎◌, ◌∙◌, Bool, false, true, List, [], ◌∷◌, Option, Some, None, Contains, ap, inl, inr, refl, subst}
 use Rattle.std.specs.Prelude.{MatchOption}
-use Rattle.std.specs.List.{list_all}
+use Rattle.std.specs.List.{AllByRecursion, list_all}
 use Rattle.std.proofs.lemmas.Bool.{false≢true}
 use Rattle.std.proofs.lemmas.List.Elements.{All-contains}
 use Rattle.std.proofs.lemmas.List.Sums.{AllPass-from_list_all}
+use Rattle.aut_base.proofs.lists.AllByRecursion.{AllByRecursion-right}
 use Rattle.aut_base.specs.Automaton.{Automaton}
 use Rattle.aut_base.specs.declared.limit.Limit.{Limit}
 use Rattle.aut_base.specs.declared.limit.Limit.TheVariants as limit
@@ -19,9 +20,8 @@ use Rattle.filter_plan.specs.declared.plan.Plan.{Plan}
 use Rattle.hoa_lexer.specs.Moves.{Elsewhere}
 use Rattle.hoa_parser.specs.Raw.{Written}
 use Rattle.hoa_reader.specs.Described.{described}
-use Rattle.hoa_reader.specs.Counts.{Count, Names, Sets, States, Edges, Aliases}
+use Rattle.hoa_reader.specs.Counts.{Counted, limit_counts}
 use Rattle.hoa_reader.specs.Elaborating.{PassesLimit}
-use Rattle.hoa_reader.specs.inner.Gathered.{limit_of}
 use Rattle.plan_meaning.proofs.OwnLimits.{only_own_limits}
 use Rattle.plan_meaning.specs.Changes as change
 use Rattle.plan_meaning.specs.Changes.{Change, StopsIn, changes_of, limits_of_change, limits_of_form}
@@ -46,15 +46,12 @@ told_depth _ e = absurd (let none : OfWhole ≡ AtToken = e in cc)
 
 -- ---- the limits of reading
 
-pub of_count : (count : Count) → IsOfWhole (limit_of count)
-of_count Names = refl
-of_count Sets = refl
-of_count States = refl
-of_count Edges = refl
-of_count Aliases = refl
-
 pub counts_pass : (which : Limit) (w : Written) → PassesLimit which w → IsOfWhole which
-counts_pass which w h = ap when_told h.shown ∙ of_count h.count
+counts_pass which w h =
+    let P : Counted → Type 0 = λ c. IsOfWhole c.which in
+    let each : AllByRecursion P (limit_counts w) = (refl, (refl, (refl, (refl, (refl, tt))))) in
+    let parts = subst (AllByRecursion P) h.passes.all each in
+    ap when_told h.passes.shown ∙ (AllByRecursion-right P h.passes.before (h.passes.first ∷ h.passes.after) parts).0
 
 -- ---- those of filters and changes
 

@@ -11,9 +11,9 @@ use Rattle.aut_base.specs.declared.limit.TheConstants.{MOST_SETS, MOST_STATES}
 use Rattle.aut_core.specs.SymbolicAutomata.{automaton_of}
 use Rattle.autfilt_run.specs.inner.Taking.{IsReadAs}
 use Rattle.hoa_parser.specs.Raw.{Written}
-use Rattle.hoa_reader.specs.Counts.{Sets, States, value_of_count}
 use Rattle.hoa_reader.specs.Described as reader
 use Rattle.hoa_reader.specs.Elaborating.{IsBuilt}
+use Rattle.hoa_reader.specs.Validity.{acceptance_of}
 use Rattle.hoa_reader.specs.declared.elaborate.Named.{Named}
 use Rattle.plan_meaning.specs.Operands.{IsOfReadSize}
 
@@ -27,7 +27,7 @@ read_as w n built = record {
   same = refl;
   formed = built.formed;
   size = subst IsOfReadSize (sym built.same)
-      (record { states = ltb-false MOST_STATES (value_of_count States w) built.within.1.1.0; sets = ltb-false MOST_SETS (value_of_count Sets w) built.within.1.0 });
+      (record { states = ltb-false MOST_STATES (reader.state_count w) built.within.1.1.0; sets = ltb-false MOST_SETS (acceptance_of w).sets built.within.1.0 });
 }
 
 -- it is the one in canonical form

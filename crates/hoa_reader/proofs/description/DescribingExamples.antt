@@ -1,6 +1,6 @@
 -- The worked examples, by computation.
-use Rattle.std.proofs.Common.{[], drop, refl, take}
-use Rattle.hoa_reader.specs.Counts.{limit_counts}
+use Rattle.std.proofs.Common.{drop, refl, take}
+use Rattle.hoa_reader.proofs.counting.PassedFirst.{passed_first}
 use Rattle.hoa_reader.specs.DescribingExamples.{CountExamples, DescribingExamples, DescriptionExamples, RuleExamples}
 use Rattle.hoa_reader.specs.Validity.{rules}
 
@@ -73,13 +73,13 @@ count_examples = record {
   no_weight = refl;
   height_of_state = refl;
   uncounted = refl;
-  many_sets = record { before = take 1 limit_counts; after = drop 2 limit_counts; all = refl; earlier = (refl, tt); passes = refl };
-  many_states = record { before = take 2 limit_counts; after = drop 3 limit_counts; all = refl; earlier = (refl, (refl, tt)); passes = refl };
-  too_many_names = record { before = []; after = drop 1 limit_counts; all = refl; earlier = tt; passes = refl };
-  most_names = refl;
-  most_sets = refl;
-  most_states = refl;
-  greatest_numbers = refl;
+  many_sets = passed_first 1 _ _ refl (refl, tt) refl;
+  many_states = passed_first 2 _ _ refl (refl, (refl, tt)) refl;
+  too_many_names = passed_first 0 _ _ refl tt refl;
+  most_names = (refl, tt);
+  most_sets = (refl, (refl, tt));
+  most_states = (refl, (refl, (refl, tt)));
+  greatest_numbers = λ w. refl;
 }
 
 pub describing_examples : DescribingExamples

@@ -1,9 +1,6 @@
 -- What the rules speak of, picked out of what was written.
 use Rattle.std.specs.Prelude.{◌≡◌, false, length, map}
 use Rattle.std.specs.Option.{option_map_or}
-use Rattle.aut_base.specs.declared.limit.Limit.{Limit}
-use Rattle.aut_base.specs.declared.limit.Limit.TheVariants as limit
-use Rattle.hoa_reader.specs.Counts.{Count, Names, Sets, States, Edges, Aliases, PassesFirst}
 use Rattle.hoa_reader.specs.Described.{after_all}
 use Rattle.hoa_reader.specs.inner.PickedOut.{acceptance_def, alias_def, label_refs, numbers}
 use Rattle.hoa_reader.specs.inner.Rising.{rises_from}
@@ -21,17 +18,3 @@ pub record ArePartsOf (w : Written) (p : Parts) : Type 0 where
   pub labels : p.sums.plain ≡ false → map label_refs p.labels.items ≡ body_labels w
   pub after : p.after ≡ after_all (used_states w)
   pub rising : p.rising ≡ rises_from 0 (numbers w.states)
-
--- the limit on a count
-abbrev pub limit_of : Count → Limit
-limit_of Names = limit.Names
-limit_of Sets = limit.Sets
-limit_of States = limit.States
-limit_of Edges = limit.Edges
-limit_of Aliases = limit.Aliases
-
--- this limit is the first that a count passes
-pub record PassesSome (which : Limit) (w : Written) : Type 0 where
-  pub count : Count
-  pub shown : which ≡ limit_of count
-  pub passes : PassesFirst count w

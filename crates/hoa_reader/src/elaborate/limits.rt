@@ -1,9 +1,9 @@
 //! The first limit that is passed.
 
 ghost use Rattle.std.specs.Prelude.{◌≡◌, ◌<◌, ◌-◌, ◌^◌, length, true, nat_lt, MatchOption};
-ghost use Rattle.aut_base.specs.declared.limit.TheConstants.{MOST_EDGES};
-ghost use Rattle.hoa_reader.specs.Counts.{Aliases, PassesNone, value_of_count, most_of};
-ghost use Rattle.hoa_reader.specs.inner.Gathered.{ArePartsOf, PassesSome};
+ghost use Rattle.aut_base.specs.declared.limit.TheConstants.{MOST_ALIASES, MOST_EDGES};
+ghost use Rattle.hoa_reader.specs.Counts.{PassesFirst, PassesNone, growth};
+ghost use Rattle.hoa_reader.specs.inner.Gathered.{ArePartsOf};
 ghost use Rattle.hoa_reader.specs.inner.Growing.{AreAliasesKnown, meanings_by};
 ghost use Rattle.hoa_parser.specs.Raw.{written};
 ghost use Rattle.hoa_reader.specs.Validity.{body_labels, keeps_rule};
@@ -53,7 +53,7 @@ fn is_heavy<'a>(raw: &'a Raw, parts: &Parts<'a>, known: &Places<'a, Known>, most
 fn grow_too_far<'a>(raw: &'a Raw, parts: &Parts<'a>, known: &Places<'a, Known>) -> bool
     requires parts { ArePartsOf (written raw.now) parts.now }
     requires known { AreAliasesKnown (meanings_by parts.now.defs.items) parts.now.defs.items known.now }
-    ensures { result ≡ nat_lt (most_of Aliases) (value_of_count Aliases (written raw.now)) }
+    ensures { result ≡ nat_lt MOST_ALIASES (growth (written raw.now)) }
 {
     // Divided by 8,192, what the edges weigh is greater than the limit from this on.
     let most = (u64::from(MOST_ALIASES) + 1) * 8_192 - 1;
@@ -72,7 +72,7 @@ pub(crate) fn first_passed<'a>(
     requires parts { ArePartsOf (written raw.now) parts.now }
     requires known { AreAliasesKnown (meanings_by parts.now.defs.items) parts.now.defs.items known.now }
     requires below { keeps_rule V6 (written raw.now) ≡ true }
-    ensures { MatchOption result (PassesNone (written raw.now)) (λ which. PassesSome which (written raw.now)) }
+    ensures { MatchOption result (PassesNone (written raw.now)) (λ which. PassesFirst which (written raw.now)) }
 {
     if parts.names.len() > MOST_NAMES as usize {
         return Some(Limit::Names);

@@ -2,7 +2,7 @@ use Rattle.std.proofs.Common.{◌≡◌, ◌+◌, ◌-◌, ◌*◌, ◌||◌, �
 use Rattle.std.specs.Prelude.{sum_by}
 use Rattle.aut_base.specs.declared.limit.TheConstants.{MOST_ALIASES}
 use Rattle.hoa_reader.proofs.counting.Weights.{edge_weighed, either_passes, tall_law, weight_law}
-use Rattle.hoa_reader.specs.Counts.{Aliases, value_of_count, greatest, height, weight}
+use Rattle.hoa_reader.specs.Counts.{greatest, growth, height, weight}
 use Rattle.hoa_reader.specs.Described.{Meaning, expanded, meanings_after, meanings_of}
 use Rattle.hoa_reader.specs.inner.Gathered.{ArePartsOf}
 use Rattle.hoa_reader.specs.inner.Growing.{AreAliasesKnown, cap, meanings_by}
@@ -15,7 +15,7 @@ use Rattle.hoa_reader.specs.declared.elaborate.places.Places.{Places}
 use Rattle.hoa_reader.proofs.elaborate.limits.grow_too_far.Goals as goal
 
 grows : (w : Written) (p : Parts) (known : Places Known) (tall heavy : Bool) → ArePartsOf w p → AreAliasesKnown (meanings_by p.defs.items) p.defs.items known → tall ≡ are_tall known (body_labels w)
-    → heavy ≡ nat_lt 16785407 (states_counted known w.states) → (tall || heavy) ≡ nat_lt MOST_ALIASES (value_of_count Aliases w)
+    → heavy ≡ nat_lt 16785407 (states_counted known w.states) → (tall || heavy) ≡ nat_lt MOST_ALIASES (growth w)
 grows w p known tall heavy parts all t h =
     let ms = meanings_by p.defs.items in
     let same : ms ≡ meanings_of w = ap (meanings_after []) parts.defs in

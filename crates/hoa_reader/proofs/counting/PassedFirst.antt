@@ -1,0 +1,17 @@
+-- A count at a place of the list passes its number, and those before it don't.
+use Rattle.std.proofs.Common.{◌≡◌, ◌+◌, ◌∷◌, ◌++◌, ℕ, true, nat_lt, drop, refl, take}
+use Rattle.std.specs.List.{AllByRecursion}
+use Rattle.hoa_parser.specs.Raw.{Written}
+use Rattle.hoa_reader.specs.Counts.{Counted, IsCountWithin, PassesFirst, limit_counts}
+
+pub passed_first : (place : ℕ) (one : Counted) (w : Written) → limit_counts w ≡ take place (limit_counts w) ++ one ∷ drop (place + 1) (limit_counts w)
+    → AllByRecursion IsCountWithin (take place (limit_counts w)) → nat_lt one.most one.count ≡ true → PassesFirst one.which w
+passed_first place one w all earlier passes = record {
+  before = take place (limit_counts w);
+  first = one;
+  after = drop (place + 1) (limit_counts w);
+  all = all;
+  earlier = earlier;
+  passes = passes;
+  shown = refl;
+}
