@@ -1,8 +1,6 @@
 -- Runs as lists of edge indices (tracks), joined and split, and runs of deterministic automata.
 pub mod Accepted
 pub mod Deterministic
-pub mod IndexedRuns
 pub mod Nth
-pub mod SamePlaces
 pub mod Starts
 pub mod Tracks

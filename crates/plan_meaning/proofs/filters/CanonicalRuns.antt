@@ -11,10 +11,9 @@ use Rattle.aut_base.specs.LabelLaws.{LabelsBelow}
 use Rattle.aut_base.specs.Word.{NameSet}
 use Rattle.aut_core.specs.Deterministic.{is_met}
 use Rattle.plan_meaning.proofs.filters.CanonicalEdges.{same_met, settled}
-use Rattle.unambiguous.proofs.tracks.Accepted.{agree_exactly}
-use Rattle.unambiguous.proofs.tracks.IndexedRuns.{IndexedRun, IsEdgePath, edge_marks}
-use Rattle.unambiguous.proofs.tracks.SamePlaces.{accepting_too}
-use Rattle.unambiguous.specs.Runs.{IsUnambiguous}
+use Rattle.unambiguous.proofs.tracks.Accepted.{accepting_too, run_meets, run_of}
+use Rattle.unambiguous.proofs.tracks.Tracks.{IsEdgePath, edge_marks}
+use Rattle.unambiguous.specs.Runs.{AcceptingRun, IsUnambiguous}
 
 -- the edge of an index, in both automata
 place_to : (a : Automaton) (m : ℕ) (e : LabelledEdge) → slice_get a.edges m ≡ Some e → slice_get (canonical a).edges m ≡ Some (settled a e)
@@ -65,16 +64,20 @@ module _ (a : Automaton) (below : LabelsBelow a) where
       )
 
   -- the same indices make a run of both automata
-  abbrev run_to : (u v : List NameSet) → IndexedRun a u v → IndexedRun (canonical a) u v
-  run_to u v r = accepting_too a (canonical a) u v r r.is_start (track_to r.start r.state _ r.path_edges r.leads) (track_to r.state r.state _ r.cycle r.returns)
-      (ap (λ (ms : List (List ℕ)). met ms a.formula) (all_marks a r.cycle) ∙ r.meets)
+  abbrev run_to : (u v : List NameSet) → AcceptingRun a u v → AcceptingRun (canonical a) u v
+  run_to u v r =
+      let run = run_of a u v r in
+      accepting_too a (canonical a) u v r run.is_start (track_to run.start run.state _ run.path_edges run.leads) (track_to run.state run.state _ run.cycle run.returns)
+      (ap (λ (ms : List (List ℕ)). met ms a.formula) (all_marks a run.cycle) ∙ run_meets a u v r)
 
-  abbrev run_from : (u v : List NameSet) → IndexedRun (canonical a) u v → IndexedRun a u v
-  run_from u v r = accepting_too (canonical a) a u v r r.is_start (track_from r.start r.state _ r.path_edges r.leads) (track_from r.state r.state _ r.cycle r.returns)
-      (sym (ap (λ (ms : List (List ℕ)). met ms a.formula) (all_marks a r.cycle)) ∙ r.meets)
+  abbrev run_from : (u v : List NameSet) → AcceptingRun (canonical a) u v → AcceptingRun a u v
+  run_from u v r =
+      let run = run_of (canonical a) u v r in
+      accepting_too (canonical a) a u v r run.is_start (track_from run.start run.state _ run.path_edges run.leads) (track_from run.state run.state _ run.cycle run.returns)
+      (sym (ap (λ (ms : List (List ℕ)). met ms a.formula) (all_marks a run.cycle)) ∙ run_meets (canonical a) u v r)
 
   pub unambiguous_one : IsUnambiguous (canonical a) → IsUnambiguous a
-  unambiguous_one h = (agree_exactly a).0 (λ u v some r t n. (agree_exactly (canonical a)).1 h u v some (run_to u v r) (run_to u v t) n)
+  unambiguous_one h = λ u v r t n. h u v (run_to u v r) (run_to u v t) n
 
   pub unambiguous_other : IsUnambiguous a → IsUnambiguous (canonical a)
-  unambiguous_other h = (agree_exactly (canonical a)).0 (λ u v some r t n. (agree_exactly a).1 h u v some (run_from u v r) (run_from u v t) n)
+  unambiguous_other h = λ u v r t n. h u v (run_from u v r) (run_from u v t) n

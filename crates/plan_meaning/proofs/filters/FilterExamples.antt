@@ -20,10 +20,9 @@ use Rattle.aut_core.specs.Deterministic as core
 use Rattle.aut_core.specs.Deterministic.{AreApart, HasSuccessor}
 use Rattle.plan_meaning.specs.FilterExamples.{FilterExamples, OneFilter, Verdicts, always_a, any_word, just}
 use Rattle.plan_meaning.specs.Filters.{AllHold, FailsAtFilter, Filter, Holds, HoldsWithin, IsComplete, IsDeterministic, IsEmpty, PassesLimitOf, States}
-use Rattle.unambiguous.proofs.tracks.Accepted.{agree_exactly}
+use Rattle.unambiguous.proofs.tracks.Accepted.{accepting}
 use Rattle.unambiguous.proofs.tracks.Deterministic.{deterministic_is_unambiguous}
-use Rattle.unambiguous.proofs.tracks.IndexedRuns.{IndexedRun}
-use Rattle.unambiguous.specs.Runs.{IsUnambiguous}
+use Rattle.unambiguous.specs.Runs.{AcceptingRun, IsUnambiguous}
 use Rattle.word_syntax.specs.Matching.{AcceptsPattern, AllMeet}
 
 -- ---- words of `again` and of `so_often`
@@ -177,40 +176,32 @@ either_way_complete h =
     (λ from meets. false≢true (sym off_a ∙ meets)) (λ from meets. absurd (omega (arith, from))) next.from next.meets
 
 -- two runs of `ever_after`, which leave its state 0 at once and one letter later
-leaves_at_once : IndexedRun ever_after [] (on ∷ [])
-leaves_at_once = record {
+leaves_at_once : AcceptingRun ever_after [] (on ∷ [])
+leaves_at_once = accepting ever_after [] (on ∷ []) 1 1 (record {
   start = 0;
   state = 1;
-  stem_rounds = 1;
-  cycle_rounds = 1;
   path_edges = 1 ∷ [];
   cycle = 2 ∷ [];
   is_start = (0, lit< tt, refl);
   leads = (edge 0 a 1 [], refl, refl, on_a, refl);
-  positive = lit< tt;
   returns = (edge 1 a 1 (0 ∷ []), refl, refl, on_a, refl);
-  meets = refl;
-}
+}) (lit< tt) (lit< tt) refl
 
-leaves_later : IndexedRun ever_after [] (on ∷ [])
-leaves_later = record {
+leaves_later : AcceptingRun ever_after [] (on ∷ [])
+leaves_later = accepting ever_after [] (on ∷ []) 2 1 (record {
   start = 0;
   state = 1;
-  stem_rounds = 2;
-  cycle_rounds = 1;
   path_edges = 0 ∷ 1 ∷ [];
   cycle = 2 ∷ [];
   is_start = (0, lit< tt, refl);
   leads = (edge 0 LabelTree.True 0 [], refl, refl, refl, (edge 0 a 1 [], refl, refl, on_a, refl));
-  positive = lit< tt;
   returns = (edge 1 a 1 (0 ∷ []), refl, refl, on_a, refl);
-  meets = refl;
-}
+}) (lit< tt) (lit< tt) refl
 
 ever_after_unambiguous : IsUnambiguous ever_after → ⊥
 unfolding leaves_at_once leaves_later
 ever_after_unambiguous alone =
-    let same : 1 ≡ 0 = same_Some 1 0 ((agree_exactly ever_after).1 alone [] (on ∷ []) (lit< tt) leaves_at_once leaves_later 0) in
+    let same : 1 ≡ 0 = same_Some 1 0 (alone [] (on ∷ []) leaves_at_once leaves_later 0) in
     absurd (omega (arith, same))
 
 -- ---- one filter

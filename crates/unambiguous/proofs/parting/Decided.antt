@@ -31,12 +31,11 @@ use Rattle.aut_core.proofs.Made.{label_in_below}
 use Rattle.label_guards.specs.Store.{label_in}
 use Rattle.lasso_emptiness.specs.Emptiness.{AcceptsNothing, AcceptsSome}
 use Rattle.unambiguous.proofs.parting.Tails.{AreLed, Tail, begin_alike, from_one, from_tail, nth_behind, nth_first, tail_before, to_tail}
-use Rattle.unambiguous.proofs.tracks.Accepted.{agree_exactly, gone, placed}
-use Rattle.unambiguous.proofs.tracks.IndexedRuns.{IndexedRun, IndexedRunsAgree, IsEdgePath, edge_marks}
-use Rattle.unambiguous.proofs.tracks.Tracks.{Likewise, Run, as_long, later, run_of, some_edges, track_join, track_split}
+use Rattle.unambiguous.proofs.tracks.Accepted.{gone, placed, run_meets, run_of}
+use Rattle.unambiguous.proofs.tracks.Tracks.{IsEdgePath, Likewise, Run, as_long, edge_marks, later, some_edges, track_join, track_split}
 use Rattle.unambiguous.specs.Laws.{PartedDecides}
 use Rattle.unambiguous.specs.Parted.{AreTwins, IsParted, do_meet, flag, parts}
-use Rattle.unambiguous.specs.Runs.{IsUnambiguous}
+use Rattle.unambiguous.specs.Runs.{AcceptingRun, IsUnambiguous}
 
 not_true : (b : Bool) → not b ≡ true → b ≡ false
 not_true true e = absurd (false≢true e)
@@ -158,7 +157,7 @@ module _ (a : SymbolicAutomaton) (s : Automaton) (core : IsWellFormedSymbolic a)
       (l.0, here, same_Some (edge_of a.store l.0) e (sym (edge_at m l.0 here) ∙ at))
 
   -- in an unambiguous automaton no accepting run continues from the target of twins
-  none_behind : IndexedRunsAgree x → (q : ℕ) (u v : List NameSet) → 0 < length v → Tail x q u v → (m n : ℕ) → AreTwins a parted.pairs m n q → ⊥
+  none_behind : IsUnambiguous x → (q : ℕ) (u v : List NameSet) → 0 < length v → Tail x q u v → (m n : ℕ) → AreTwins a parted.pairs m n q → ⊥
   none_behind alone q u v endless t m n twins =
       let l = twins.first in
       let k = twins.second in
@@ -178,7 +177,7 @@ module _ (a : SymbolicAutomaton) (s : Automaton) (core : IsWellFormedSymbolic a)
       ∙ (begin_alike x (letter ∷ u) v endless alone l.from l.from led first second ∙ nth_first n his.path_edges his.cycle)) in
       omega (arith, places, twins.before)
 
-  accepts_none : IndexedRunsAgree x → AcceptsNothing s
+  accepts_none : IsUnambiguous x → AcceptsNothing s
   accepts_none alone u v r =
       let k = r.start in
       let start = parted.starts.sound k r.is_start in
@@ -317,22 +316,22 @@ module _ (a : SymbolicAutomaton) (s : Automaton) (core : IsWellFormedSymbolic a)
         ] in
         at ∙ (elim (cases_eq mine.place his.place) [ inl same ↦ ap Some same | inr other ↦ absurd (apart other) ] ∙ sym at_too)
 
-    same_edges : (r t : IndexedRun x u v) (n : ℕ) → nth r.path_edges r.cycle n ≡ nth t.path_edges t.cycle n
+    same_edges : (r t : AcceptingRun x u v) (n : ℕ) → nth r.path_edges r.cycle n ≡ nth t.path_edges t.cycle n
     same_edges r t n =
-        let mine = later x u v endless r.stem_rounds r.cycle_rounds (t.stem_rounds + suc n) t.cycle_rounds (run_of x u v r) r.positive t.positive in
-        let his = later x u v endless t.stem_rounds t.cycle_rounds (r.stem_rounds + suc n) r.cycle_rounds (run_of x u v t) t.positive r.positive in
-        let stem_rounds : t.stem_rounds + (r.stem_rounds + suc n) ≡ r.stem_rounds + (t.stem_rounds + suc n) = omega arith in
-        let other = subst (λ k. Likewise x u v k (t.cycle_rounds * r.cycle_rounds) t.path_edges t.cycle) stem_rounds
-        (subst (λ m. Likewise x u v (t.stem_rounds + (r.stem_rounds + suc n)) m t.path_edges t.cycle) (mul_comm r.cycle_rounds t.cycle_rounds) his) in
-        let wide : t.cycle_rounds ≤ t.cycle_rounds * r.cycle_rounds = le-mul_of_pos_right t.cycle_rounds r.positive in
-        sym (mine.same n) ∙ (one_place (r.stem_rounds + (t.stem_rounds + suc n)) (t.cycle_rounds * r.cycle_rounds) n (omega (arith, wide, t.positive)) (omega arith) mine.run other.run
-        (mine.alike x.formula ∙ r.meets)
-        (other.alike x.formula ∙ t.meets) ∙ other.same n)
+        let one = r.accepted in
+        let two = t.accepted in
+        let mine = later x u v endless one.stem_rounds one.cycle_rounds (two.stem_rounds + suc n) two.cycle_rounds (run_of x u v r) one.positive two.positive in
+        let his = later x u v endless two.stem_rounds two.cycle_rounds (one.stem_rounds + suc n) one.cycle_rounds (run_of x u v t) two.positive one.positive in
+        let stem_rounds : two.stem_rounds + (one.stem_rounds + suc n) ≡ one.stem_rounds + (two.stem_rounds + suc n) = omega arith in
+        let other = subst (λ k. Likewise x u v k (two.cycle_rounds * one.cycle_rounds) t.path_edges t.cycle) stem_rounds
+        (subst (λ m. Likewise x u v (two.stem_rounds + (one.stem_rounds + suc n)) m t.path_edges t.cycle) (mul_comm one.cycle_rounds two.cycle_rounds) his) in
+        let wide : two.cycle_rounds ≤ two.cycle_rounds * one.cycle_rounds = le-mul_of_pos_right two.cycle_rounds one.positive in
+        sym (mine.same n) ∙ (one_place (one.stem_rounds + (two.stem_rounds + suc n)) (two.cycle_rounds * one.cycle_rounds) n (omega (arith, wide, two.positive)) (omega arith) mine.run other.run
+        (mine.alike x.formula ∙ run_meets x u v r)
+        (other.alike x.formula ∙ run_meets x u v t) ∙ other.same n)
 
 pub parted_decides : PartedDecides
-parted_decides a s core parted =
-    let exactly = agree_exactly (automaton_of a) in
-    (λ none. exactly.0 (same_edges a s core parted none), λ alone. accepts_none a s core parted (exactly.1 alone))
+parted_decides a s core parted = ((λ none u v r t n. same_edges a s core parted none u v r.accepted.endless r t n), accepts_none a s core parted)
 
 -- so the automaton is unambiguous where no word of the square is found
 pub verdict : (a : SymbolicAutomaton) (s : Automaton) (found : Bool) → IsWellFormedSymbolic a → IsParted a s → (IsTrue found ↔ AcceptsSome s) → IsTrue (not found) ↔ IsUnambiguous (automaton_of a)

@@ -14,10 +14,10 @@ use Rattle.aut_base.specs.Formula.{met}
 use Rattle.aut_base.specs.Label.{holds_at, truth}
 use Rattle.aut_base.specs.Word.{NameSet, copies, nth}
 use Rattle.aut_ops.specs.Languages.{begun}
-use Rattle.unambiguous.proofs.tracks.Accepted.{gone, placed, same_marks}
-use Rattle.unambiguous.proofs.tracks.IndexedRuns.{IndexedRun, IndexedRunsAgree, IsEdgePath, edge_marks}
+use Rattle.unambiguous.proofs.tracks.Accepted.{accepting, gone, placed, same_marks}
 use Rattle.unambiguous.proofs.tracks.Starts.{Begins, begins}
-use Rattle.unambiguous.proofs.tracks.Tracks.{as_long, some_edges, track_join}
+use Rattle.unambiguous.proofs.tracks.Tracks.{IsEdgePath, as_long, edge_marks, some_edges, track_join}
+use Rattle.unambiguous.specs.Runs.{AcceptingRun, IsUnambiguous}
 
 -- after a prefix of its stem, a stem and cycle go on as without the prefix
 pub nth_behind : (front path_edges cycle : List ℕ) (n : ℕ) → 0 < length cycle → nth (front ++ path_edges) cycle (length front + n) ≡ nth path_edges cycle n
@@ -90,21 +90,17 @@ module _ (a : Automaton) where
   }
 
   -- and a track from a start
-  abbrev pub run_before : (start p : ℕ) (xs u v : List NameSet) (front : List ℕ) → Contains a.starts start → IsEdgePath a start xs front p → Tail p u v → IndexedRun a (xs ++ u) v
-  run_before start p xs u v front is_start leads t = record {
+  abbrev pub run_before : (start p : ℕ) (xs u v : List NameSet) (front : List ℕ) → Contains a.starts start → IsEdgePath a start xs front p → 0 < length v → Tail p u v → AcceptingRun a (xs ++ u) v
+  run_before start p xs u v front is_start leads endless t = accepting a (xs ++ u) v t.stem_rounds t.cycle_rounds (record {
     start = start;
     state = t.state;
-    stem_rounds = t.stem_rounds;
-    cycle_rounds = t.cycle_rounds;
     path_edges = front ++ t.path_edges;
     cycle = t.cycle;
     is_start = is_start;
     leads = subst (λ w. IsEdgePath a start w (front ++ t.path_edges) t.state) (sym (append_assoc xs u (copies t.stem_rounds v)))
         (track_join a start p t.state xs (u ++ copies t.stem_rounds v) front t.path_edges leads t.leads);
-    positive = t.positive;
     returns = t.returns;
-    meets = t.meets;
-  }
+  }) endless t.positive t.meets
 
   -- two tracks from starts that read the same
   pub record AreLed (p q : ℕ) : Type 0 where
@@ -123,15 +119,15 @@ module _ (a : Automaton) where
     some_cycle p t = some_edges a u v endless t.state t.state t.cycle_rounds t.cycle t.positive t.returns
 
     -- in an unambiguous automaton both rests begin with the same edge
-    pub begin_alike : IndexedRunsAgree a → (p q : ℕ) → AreLed p q → (t : Tail p u v) (s : Tail q u v) → nth t.path_edges t.cycle 0 ≡ nth s.path_edges s.cycle 0
+    pub begin_alike : IsUnambiguous a → (p q : ℕ) → AreLed p q → (t : Tail p u v) (s : Tail q u v) → nth t.path_edges t.cycle 0 ≡ nth s.path_edges s.cycle 0
     begin_alike alone p q led t s =
-        let one = run_before led.first p led.letters u v led.path_edges led.is_first led.leads t in
-        let two = run_before led.second q led.letters u v led.other led.is_second led.leads_too s in
+        let one = run_before led.first p led.letters u v led.path_edges led.is_first led.leads endless t in
+        let two = run_before led.second q led.letters u v led.other led.is_second led.leads_too endless s in
         let long : length led.path_edges ≡ length led.letters = as_long a led.first led.letters led.path_edges p led.leads in
         let long_too : length led.other ≡ length led.letters = as_long a led.second led.letters led.other q led.leads_too in
         let n : length led.path_edges + 0 ≡ length led.other + 0 = omega (arith, long, long_too) in
         sym (nth_behind led.path_edges t.path_edges t.cycle 0 (some_cycle p t))
-        ∙ (alone (led.letters ++ u) v endless one two (length led.path_edges + 0)
+        ∙ (alone (led.letters ++ u) v one two (length led.path_edges + 0)
         ∙ (ap (nth (led.other ++ s.path_edges) s.cycle) n ∙ nth_behind led.other s.path_edges s.cycle 0 (some_cycle q s)))
 
     -- so they begin in the same state

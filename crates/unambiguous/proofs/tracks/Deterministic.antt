@@ -9,10 +9,10 @@ use Rattle.aut_base.specs.Automaton.{Automaton, LabelledEdge}
 use Rattle.aut_base.specs.Label.{holds_at, truth}
 use Rattle.aut_base.specs.Word.{NameSet, copies, nth}
 use Rattle.aut_core.specs.Deterministic.{IsDeterministic}
-use Rattle.unambiguous.proofs.tracks.Accepted.{agree_exactly}
-use Rattle.unambiguous.proofs.tracks.IndexedRuns.{IndexedRun, IndexedRunsAgree, IsEdgePath}
-use Rattle.unambiguous.proofs.tracks.Tracks.{later, run_of}
+use Rattle.unambiguous.proofs.tracks.Accepted.{accepting, run_of}
+use Rattle.unambiguous.proofs.tracks.Tracks.{IsEdgePath, later}
 use Rattle.unambiguous.specs.Laws.{DeterministicIsUnambiguous, TwiceIsAmbiguous, self_loop, twice}
+use Rattle.unambiguous.specs.Runs.{AcceptingRun, IsUnambiguous}
 
 module _ (a : Automaton) (det : IsDeterministic a) where
   -- at most one start
@@ -58,43 +58,34 @@ module _ (a : Automaton) (det : IsDeterministic a) where
       let rest = same two.0.to q r xs ms ns (subst (λ (e : LabelledEdge). IsEdgePath a e.to xs ms q) edge one.4) two.4 in
       record { places = ap (λ k. k ∷ ms) place ∙ ap (λ ks. n ∷ ks) rest.places; ends = rest.ends }
 
-  agree : IndexedRunsAgree a
-  agree u v endless r t n =
-      let mine = later a u v endless r.stem_rounds r.cycle_rounds t.stem_rounds t.cycle_rounds (run_of a u v r) r.positive t.positive in
-      let his = later a u v endless t.stem_rounds t.cycle_rounds r.stem_rounds r.cycle_rounds (run_of a u v t) t.positive r.positive in
-      let stem_rounds : t.stem_rounds + r.stem_rounds ≡ r.stem_rounds + t.stem_rounds = omega arith in
-      let cycle_rounds : r.cycle_rounds * t.cycle_rounds ≡ t.cycle_rounds * r.cycle_rounds = mul_comm r.cycle_rounds t.cycle_rounds in
+  unambiguous : IsUnambiguous a
+  unambiguous u v r t n =
+      let one = r.accepted in
+      let two = t.accepted in
+      let mine = later a u v one.endless one.stem_rounds one.cycle_rounds two.stem_rounds two.cycle_rounds (run_of a u v r) one.positive two.positive in
+      let his = later a u v two.endless two.stem_rounds two.cycle_rounds one.stem_rounds one.cycle_rounds (run_of a u v t) two.positive one.positive in
+      let stem_rounds : two.stem_rounds + one.stem_rounds ≡ one.stem_rounds + two.stem_rounds = omega arith in
+      let cycle_rounds : one.cycle_rounds * two.cycle_rounds ≡ two.cycle_rounds * one.cycle_rounds = mul_comm one.cycle_rounds two.cycle_rounds in
       let start : his.run.start ≡ mine.run.start = one_start his.run.start mine.run.start his.run.is_start mine.run.is_start in
-      let leads : IsEdgePath a mine.run.start (u ++ copies (r.stem_rounds + t.stem_rounds) v) his.run.path_edges his.run.state =
-      subst (λ p. IsEdgePath a p (u ++ copies (r.stem_rounds + t.stem_rounds) v) his.run.path_edges his.run.state)
+      let leads : IsEdgePath a mine.run.start (u ++ copies (one.stem_rounds + two.stem_rounds) v) his.run.path_edges his.run.state =
+      subst (λ p. IsEdgePath a p (u ++ copies (one.stem_rounds + two.stem_rounds) v) his.run.path_edges his.run.state)
       start (subst (λ k. IsEdgePath a his.run.start (u ++ copies k v) his.run.path_edges his.run.state) stem_rounds his.run.leads) in
-      let ways = same mine.run.start mine.run.state his.run.state (u ++ copies (r.stem_rounds + t.stem_rounds) v) mine.run.path_edges his.run.path_edges mine.run.leads leads in
-      let returns : IsEdgePath a mine.run.state (copies (t.cycle_rounds * r.cycle_rounds) v) his.run.cycle his.run.state =
-      subst (λ p. IsEdgePath a p (copies (t.cycle_rounds * r.cycle_rounds) v) his.run.cycle his.run.state)
+      let ways = same mine.run.start mine.run.state his.run.state (u ++ copies (one.stem_rounds + two.stem_rounds) v) mine.run.path_edges his.run.path_edges mine.run.leads leads in
+      let returns : IsEdgePath a mine.run.state (copies (two.cycle_rounds * one.cycle_rounds) v) his.run.cycle his.run.state =
+      subst (λ p. IsEdgePath a p (copies (two.cycle_rounds * one.cycle_rounds) v) his.run.cycle his.run.state)
       (sym ways.ends) (subst (λ k. IsEdgePath a his.run.state (copies k v) his.run.cycle his.run.state) cycle_rounds his.run.returns) in
-      let cycles = same mine.run.state mine.run.state his.run.state (copies (t.cycle_rounds * r.cycle_rounds) v) mine.run.cycle his.run.cycle mine.run.returns returns in
+      let cycles = same mine.run.state mine.run.state his.run.state (copies (two.cycle_rounds * one.cycle_rounds) v) mine.run.cycle his.run.cycle mine.run.returns returns in
       sym (mine.same n) ∙ (ap (λ ws. nth ws mine.run.cycle n) ways.places ∙ (ap (λ cs. nth his.run.path_edges cs n) cycles.places ∙ his.same n))
 
 pub deterministic_is_unambiguous : DeterministicIsUnambiguous
-deterministic_is_unambiguous a det = (agree_exactly a).0 (agree a det)
+deterministic_is_unambiguous a det = unambiguous a det
 
-abbrev round_at : (x : NameSet) (m : ℕ) → slice_get twice.edges m ≡ Some self_loop → IndexedRun twice [] (x ∷ [])
-round_at x m at = record {
-  start = 0;
-  state = 0;
-  stem_rounds = 0;
-  cycle_rounds = 1;
-  path_edges = [];
-  cycle = m ∷ [];
-  is_start = first_there 0 [];
-  leads = refl;
-  positive = omega arith;
-  returns = (self_loop, at, refl, refl, refl);
-  meets = refl;
-}
+abbrev round_at : (x : NameSet) (m : ℕ) → slice_get twice.edges m ≡ Some self_loop → AcceptingRun twice [] (x ∷ [])
+round_at x m at = accepting twice [] (x ∷ []) 0 1
+    (record { start = 0; state = 0; path_edges = []; cycle = m ∷ []; is_start = first_there 0 []; leads = refl; returns = (self_loop, at, refl, refl, refl) }) (omega arith) (omega arith) refl
 
 pub twice_is_ambiguous : TwiceIsAmbiguous
 twice_is_ambiguous alone =
     let x : NameSet = empty in
-    let same : 0 ≡ 1 = same_Some 0 1 ((agree_exactly twice).1 alone [] (x ∷ []) (omega arith) (round_at x 0 refl) (round_at x 1 refl) 0) in
+    let same : 0 ≡ 1 = same_Some 0 1 (alone [] (x ∷ []) (round_at x 0 refl) (round_at x 1 refl) 0) in
     absurd (omega (arith, same))

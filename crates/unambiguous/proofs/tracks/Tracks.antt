@@ -1,17 +1,31 @@
--- Tracks joined and split, and runs taken to a later closing state and to more rounds of the cycle.
-use Rattle.std.proofs.Common.{◌≡◌, ◌∙◌, ℕ, zero, suc, ◌+◌, ◌*◌, ◌<◌, List, [], ◌∷◌, ◌++◌, Contains, ap, append_assoc, arith, length, map, refl, subst, sym}
+-- Tracks, which are paths by the indices of their edges, joined and split, and runs along them taken to a later closing state
+-- and to more rounds of the cycle.
+use Rattle.std.proofs.Common.{◌≡◌, ◌∙◌, ℕ, zero, suc, ◌+◌, ◌*◌, ◌<◌, true, List, [], ◌∷◌, ◌++◌, Contains, Some, ap, append_assoc, arith, length, map, refl, slice_get, subst, sym}
 use Rattle.std.proofs.lemmas.List.{map-append}
 use Rattle.std.proofs.lemmas.List.Folds.{list_all-append, list_any-append}
 use Rattle.std.proofs.lemmas.Nat.{mul-lt}
 use Rattle.std.specs.List.{list_all, list_any}
+use Rattle.std.specs.Option.{option_map_or}
 use Rattle.aut_base.proofs.lists.Copies.{copies-copies, copies-push, length-copies}
 use Rattle.aut_base.proofs.words.SameEdges.{Alike, gone_alike, met_alike}
 use Rattle.aut_base.proofs.numbers.Truth.{and_comm, or_comm}
-use Rattle.aut_base.specs.Automaton.{Automaton}
+use Rattle.aut_base.specs.Automaton.{Automaton, LabelledEdge}
 use Rattle.aut_base.specs.Formula.{FormulaTree, met}
+use Rattle.aut_base.specs.Label.{holds_at, truth}
 use Rattle.aut_base.specs.Word.{NameSet, copies, nth}
-use Rattle.unambiguous.proofs.tracks.IndexedRuns.{IndexedRun, IsEdgePath, edge_marks}
 use Rattle.unambiguous.proofs.tracks.Nth.{nth_copies, nth_turned}
+
+-- the marks of the edge of this index
+abbrev pub edge_marks : Automaton → ℕ → List ℕ
+edge_marks a m = option_map_or (λ (e : LabelledEdge). e.marks) (slice_get a.edges m) []
+
+-- a path from `p` to `q` along the edges of these indices, which reads these letters
+abbrev pub IsEdgePath : Automaton → ℕ → List NameSet → List ℕ → ℕ → Type 0
+IsEdgePath a p [] [] q = p ≡ q
+IsEdgePath a p [] (m ∷ ms) q = ⊥
+IsEdgePath a p (x ∷ xs) [] q = ⊥
+IsEdgePath a p (x ∷ xs) (m ∷ ms) q =
+    (e : LabelledEdge) × (slice_get a.edges m ≡ Some e) × (p ≡ e.from) × (truth (holds_at a.names x) e.label ≡ true) × IsEdgePath a e.to xs ms q
 
 module _ (a : Automaton) where
   pub as_long : (p : ℕ) (xs : List NameSet) (ms : List ℕ) (q : ℕ) → IsEdgePath a p xs ms q → length ms ≡ length xs
@@ -61,9 +75,6 @@ module _ (a : Automaton) where
     pub is_start : Contains a.starts start
     pub leads : IsEdgePath a start (u ++ copies stem_rounds v) path_edges state
     pub returns : IsEdgePath a state (copies cycle_rounds v) cycle state
-
-  abbrev pub run_of : (u v : List NameSet) (r : IndexedRun a u v) → Run u v r.stem_rounds r.cycle_rounds
-  run_of u v r = record { start = r.start; state = r.state; path_edges = r.path_edges; cycle = r.cycle; is_start = r.is_start; leads = r.leads; returns = r.returns }
 
   -- a run along the same edges, whose cycle meets the same conditions
   pub record Likewise (u v : List NameSet) (stem_rounds cycle_rounds : ℕ) (path_edges cycle : List ℕ) : Type 0 where
