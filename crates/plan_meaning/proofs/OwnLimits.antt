@@ -8,11 +8,11 @@ use Rattle.aut_base.specs.declared.limit.Limit.TheVariants as limit
 use Rattle.filter_plan.specs.declared.plan.Form.{Form}
 use Rattle.filter_plan.specs.declared.plan.Form.TheVariants as form
 use Rattle.plan_meaning.specs.Changes as change
-use Rattle.plan_meaning.specs.Changes.{Change, PassesBuchi, PassesDnf, PassesForm, PassesIn, PassesMonitor, PassesWithoutFin, limits_of_change, limits_of_form}
+use Rattle.plan_meaning.specs.Changes.{Change, PassesBuchi, PassesForm, PassesIn, PassesMonitor, limits_of_change, limits_of_form}
 use Rattle.plan_meaning.specs.Filters as filter
 use Rattle.plan_meaning.specs.Filters.{Filter, PassesLimitOf, limits_of_filter}
 use Rattle.plan_meaning.specs.Laws.{PassTheirOwn}
-use Rattle.plan_meaning.specs.Limits.{PassesOfBoth, PassesOfEither, PassesOfEquivalence, PassesOfInclusion, PassesOfSquare, PassesOfSum, PassesOfWord, PassesParityLimit}
+use Rattle.plan_meaning.specs.Limits.{PassesOfBoth, PassesOfEither, PassesOfEquivalence, PassesOfInclusion, PassesOfWord, PassesParityLimit}
 use Rattle.plan_meaning.specs.Limits.{limits_of_inclusion, limits_of_parity, limits_of_product}
 use Rattle.word_syntax.specs.Grammar.{WordPattern}
 
@@ -28,17 +28,9 @@ of_either limit.Names a b h = (0, omega arith, refl)
 of_either limit.Pairs a b h = (1, omega arith, refl)
 of_either _ a b h = absurd h
 
-of_sum : (which : Limit) (a b : Automaton) → PassesOfSum which a b → Contains (limits_of_change (change.Sum b)) which
-of_sum limit.Names a b h = (0, omega arith, refl)
-of_sum _ a b h = absurd h
-
 of_word : (which : Limit) (a : Automaton) (p : WordPattern) → PassesOfWord which a p → Contains limits_of_product which
 of_word which a p (inl h) = (0, omega arith, sym h.0)
 of_word which a p (inr h) = of_both which a _ h.1
-
-of_square : (which : Limit) (a : Automaton) → PassesOfSquare which a → Contains (limits_of_filter filter.IsUnambiguous) which
-of_square limit.Pairs a h = (0, omega arith, refl)
-of_square _ a h = absurd h
 
 of_parity : (which : Limit) (a : Automaton) → PassesParityLimit which a → Contains limits_of_parity which
 of_parity limit.Terms a h = (0, omega arith, refl)
@@ -64,7 +56,7 @@ of_filter (filter.RejectsWord p) which a h = of_word which (canonical a) p h
 of_filter (filter.IncludedIn b) which a h = of_inclusion which (canonical a) b h
 of_filter (filter.EquivalentTo b) which a h = of_equivalence which (canonical a) b h
 of_filter (filter.Intersects b) which a h = of_both which (canonical a) b h
-of_filter filter.IsUnambiguous which a h = of_square which (canonical a) h
+of_filter filter.IsUnambiguous which a h = (0, omega arith, sym h.0)
 of_filter _ which a h = absurd h
 
 -- ---- of a change
@@ -73,14 +65,6 @@ of_buchi : (which : Limit) (a : Automaton) → PassesBuchi which a → Contains 
 of_buchi limit.Terms a h = (0, omega arith, refl)
 of_buchi limit.BuchiStates a h = (1, omega arith, refl)
 of_buchi _ a h = absurd h
-
-of_fin : (which : Limit) (a : Automaton) → PassesWithoutFin which a → Contains (limits_of_form form.RemoveFin) which
-of_fin limit.Terms a h = (0, omega arith, refl)
-of_fin _ a h = absurd h
-
-of_dnf : (which : Limit) (a : Automaton) → PassesDnf which a → Contains (limits_of_form form.Dnf) which
-of_dnf limit.Terms a h = (0, omega arith, refl)
-of_dnf _ a h = absurd h
 
 of_monitor : (which : Limit) (a : Automaton) → PassesMonitor which a → Contains (limits_of_form form.Monitor) which
 of_monitor limit.Terms a h = (0, omega arith, refl)
@@ -93,15 +77,15 @@ of_form : (f : Form) (which : Limit) (a : Automaton) → PassesForm which f a �
 of_form form.Deterministic which a h = of_parity which a h.1
 of_form form.Parity which a h = of_parity which a h
 of_form form.Buchi which a h = of_buchi which a h
-of_form form.RemoveFin which a h = of_fin which a h
-of_form form.Dnf which a h = of_dnf which a h
+of_form form.RemoveFin which a h = (0, omega arith, sym h.0)
+of_form form.Dnf which a h = (0, omega arith, sym h.0)
 of_form form.Monitor which a h = of_monitor which a h
 of_form _ which a h = absurd h
 
 of_change : (c : Change) (which : Limit) (a : Automaton) → PassesIn which c a → Contains (limits_of_change c) which
 of_change (change.Product b) which a h = of_both which a b h
 of_change (change.ProductOr b) which a h = of_either which a b h
-of_change (change.Sum b) which a h = of_sum which a b h
+of_change (change.Sum b) which a h = (0, omega arith, sym h.0)
 of_change change.Complement which a h = of_parity which a h.1
 of_change (change.Bring f) which a h = of_form f which a h
 of_change _ which a h = absurd h

@@ -78,12 +78,10 @@ PassesBuchi limit.BuchiStates a = (NeedsTooManyTerms a.formula → ⊥) × (MOST
 PassesBuchi _ a = ⊥
 
 abbrev pub PassesWithoutFin : Limit → Automaton → Type 0
-PassesWithoutFin limit.Terms a = (has_fin a.formula ≡ true) × HasTooManyTerms a
-PassesWithoutFin _ a = ⊥
+PassesWithoutFin which a = (which ≡ limit.Terms) × (has_fin a.formula ≡ true) × HasTooManyTerms a
 
 abbrev pub PassesDnf : Limit → Automaton → Type 0
-PassesDnf limit.Terms a = HasTooManyTerms a
-PassesDnf _ a = ⊥
+PassesDnf which a = (which ≡ limit.Terms) × HasTooManyTerms a
 
 -- for a monitor: the limits of the Büchi form, and then the first limit that its subset construction meets
 abbrev pub PassesMonitor : Limit → Automaton → Type 0

@@ -89,7 +89,7 @@ module _ (a b made : Automaton) (operand : IsOperand b) where
       let y = over_names names b in
       let fx = over_formed a a.names names refl among f.formed in
       let fy = over_formed b b.names names refl also operand.formed in
-      let few = few_names a b (m.within limit.Names) in
+      let few = few_names a b (λ many. m.within limit.Names (refl, many)) in
       let is = m.makes in
       let states : made.states ≡ a.states + b.states = ap (λ (z : Automaton). z.states) is in
       let sets : made.sets ≡ a.sets + b.sets + 1 = ap (λ (z : Automaton). z.sets) is in

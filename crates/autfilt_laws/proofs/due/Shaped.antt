@@ -1,5 +1,5 @@
 -- What a change makes of an automaton alone is well formed and within limits, apart from determinisation.
-use Rattle.std.proofs.Common.{◌≡◌, ◌∙◌, ◌≤◌, ℕ, Bool, true, false, cond, List, ap, arith, inl, inr, length, map, subst, sym}
+use Rattle.std.proofs.Common.{◌≡◌, ◌∙◌, ◌≤◌, ℕ, Bool, true, false, cond, List, ap, arith, inl, inr, length, map, refl, subst, sym}
 use Rattle.std.proofs.lemmas.Bool.{cases_Bool}
 use Rattle.std.specs.Prelude.{if◌then◌else◌}
 use Rattle.acc_forms.specs.Atoms.{has_fin}
@@ -90,7 +90,7 @@ pub fin_step : (a made : Automaton) → IsFine IsOfComplementSize a → MakesWit
 fin_step a made f m = elim (cases_Bool (has_fin a.formula)) [
   | inl has ↦ (
       let is : made ≡ copied a = m.makes ∙ ap (λ (b : Bool). cond b (copied a) a) has in
-      let few : HasTooManyTerms a → ⊥ = λ many. m.within limit.Terms (has, many) in
+      let few : HasTooManyTerms a → ⊥ = λ many. m.within limit.Terms (refl, has, many) in
       record {
         is = copies_made a made has few is (subst (λ (z : Automaton). AcceptTheSame z a) (sym is) (copied_accepts_the_same a f.formed));
         fine = record {
@@ -111,7 +111,7 @@ dnf_step a made f m =
     let is : made ≡ in_disjunctive_form a = m.makes in
     let whole = itself_fine a f in
     record {
-      is = dnf_made a made (m.within limit.Terms) is (subst (λ (z : Automaton). AcceptTheSame z a) (sym is) (disjunctive_accepts a));
+      is = dnf_made a made (λ many. m.within limit.Terms (refl, many)) is (subst (λ (z : Automaton). AcceptTheSame z a) (sym is) (disjunctive_accepts a));
       fine = subst (IsFine HasRoom) (sym is) (record {
         formed = disjunctive_formed a f.formed;
         names = f.names;

@@ -20,10 +20,10 @@ use Rattle.parity_det.proofs.ParityLaws.{complement_is_determined, parity_exclud
 use Rattle.parity_det.specs.Complements as det
 use Rattle.parity_det.specs.declared.fault.CompFault.{CompFault}
 use Rattle.parity_det.specs.declared.fault.CompFault.TheVariants as comp
-use Rattle.plan_meaning.specs.Changes.{Bring, Change, Complement, Complete, IsMadeInForm, Makes, MakesAll, MakesWithin, PassesBuchi, PassesDnf}
-use Rattle.plan_meaning.specs.Changes.{PassesForm, PassesIn, PassesMonitor, PassesWithoutFin, Product, ProductOr, RemoveAp, StopsIn, Sum, Trim}
+use Rattle.plan_meaning.specs.Changes.{Bring, Change, Complement, Complete, IsMadeInForm, Makes, MakesAll, MakesWithin, PassesBuchi}
+use Rattle.plan_meaning.specs.Changes.{PassesForm, PassesIn, PassesMonitor, Product, ProductOr, RemoveAp, StopsIn, Sum, Trim}
 use Rattle.plan_meaning.specs.Laws.{ChangesAreDetermined}
-use Rattle.plan_meaning.specs.Limits.{HaveFewNames, HaveManyNames, PassesOfBoth, PassesOfEither, PassesOfSum, PassesParityLimit}
+use Rattle.plan_meaning.specs.Limits.{HaveFewNames, HaveManyNames, PassesOfBoth, PassesOfEither, PassesParityLimit}
 
 -- ---- one change
 
@@ -68,10 +68,6 @@ of_either limit.Names a b h = inl (refl, h)
 of_either limit.Pairs a b h = inr (refl, h.0)
 of_either _ a b h = absurd h
 
-of_sum : (which : Limit) (a b : Automaton) → PassesOfSum which a b → NamesOrPairs which a b
-of_sum limit.Names a b h = inl (refl, h)
-of_sum _ a b h = absurd h
-
 many_or_few : {A : Type 0} (a b : Automaton) → HaveManyNames a b → HaveFewNames a b → A
 many_or_few a b many few = absurd (omega (arith, many, few))
 
@@ -102,14 +98,6 @@ one_of_buchi which other a (inl h) (inl k) = h.0 ∙ sym k.0
 one_of_buchi which other a (inl h) (inr k) = absurd (k.1 h.1)
 one_of_buchi which other a (inr h) (inl k) = absurd (h.1 k.1)
 one_of_buchi which other a (inr h) (inr k) = h.0 ∙ sym k.0
-
-of_fin : (which : Limit) (a : Automaton) → PassesWithoutFin which a → which ≡ limit.Terms
-of_fin limit.Terms a h = refl
-of_fin _ a h = absurd h
-
-of_dnf : (which : Limit) (a : Automaton) → PassesDnf which a → which ≡ limit.Terms
-of_dnf limit.Terms a h = refl
-of_dnf _ a h = absurd h
 
 -- a limit of the subset construction is met, of a Büchi form within its limits
 record IsOfSubsets (which : Limit) (a : Automaton) : Type 0 where
@@ -172,14 +160,14 @@ one_of_form form.AsIs which other a h k = absurd h
 one_of_form form.Deterministic which other a h k = one_of_parity which other a (of_parity which a h.1) (of_parity other a k.1)
 one_of_form form.Parity which other a h k = one_of_parity which other a (of_parity which a h) (of_parity other a k)
 one_of_form form.Buchi which other a h k = one_of_buchi which other a (of_buchi which a h) (of_buchi other a k)
-one_of_form form.RemoveFin which other a h k = of_fin which a h ∙ sym (of_fin other a k)
-one_of_form form.Dnf which other a h k = of_dnf which a h ∙ sym (of_dnf other a k)
+one_of_form form.RemoveFin which other a h k = h.0 ∙ sym k.0
+one_of_form form.Dnf which other a h k = h.0 ∙ sym k.0
 one_of_form form.Monitor which other a h k = one_of_monitor which other a h k
 
 one_limit : (c : Change) (which other : Limit) (a : Automaton) → PassesIn which c a → PassesIn other c a → which ≡ other
 one_limit (Product b) which other a h k = one_of_two which other a b (of_both which a b h) (of_both other a b k)
 one_limit (ProductOr b) which other a h k = one_of_two which other a b (of_either which a b h) (of_either other a b k)
-one_limit (Sum b) which other a h k = one_of_two which other a b (of_sum which a b h) (of_sum other a b k)
+one_limit (Sum b) which other a h k = h.0 ∙ sym k.0
 one_limit (RemoveAp x) which other a h k = absurd h
 one_limit Trim which other a h k = absurd h
 one_limit Complement which other a h k = one_of_parity which other a (of_parity which a h.1) (of_parity other a k.1)

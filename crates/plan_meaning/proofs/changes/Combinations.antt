@@ -13,7 +13,7 @@ use Rattle.aut_ops.specs.Products.{IsUnionProductOf, IsProductOf, over_both}
 use Rattle.aut_base.specs.declared.limit.TheConstants.{MOST_PAIRS}
 use Rattle.plan_meaning.proofs.changes.Stepping.{changed_once}
 use Rattle.plan_meaning.specs.Changes.{Product, ProductOr, Sum}
-use Rattle.plan_meaning.specs.Limits.{HaveFewNames, PassesOfBoth, PassesOfEither, PassesOfSum}
+use Rattle.plan_meaning.specs.Limits.{HaveFewNames, PassesOfBoth, PassesOfEither}
 use Rattle.plan_meaning.specs.Operands.{IsOfReadSize}
 use Rattle.plan_meaning.specs.inner.Stepping.{IsMadeAsPromised, IsOfProductOrSize, IsOfProductSize}
 
@@ -41,9 +41,5 @@ product_or_size a b made is few one two =
 pub product_or_sets : (a b : Automaton) → IsOfProductSize a → IsOfReadSize b → (completed a).sets + (completed b).sets < 4294967296
 product_or_sets a b one two = omega (arith, completed_sets a, completed_sets b, one.sets, two.sets)
 
-sum_within : (a b : Automaton) → HaveFewNames a b → (which : Limit) → PassesOfSum which a b → ⊥
-sum_within a b names limit.Names h = absurd (omega (arith, names, h))
-sum_within a b names _ h = h
-
 pub sum_made : (a b made : Automaton) → made ≡ summed a b → AcceptsEither made a b → HaveFewNames a b → IsMadeAsPromised (Sum b ∷ []) a made
-sum_made a b made is accepts names = changed_once (Sum b) a made (sum_within a b names) is tt accepts
+sum_made a b made is accepts names = changed_once (Sum b) a made (λ which h. omega (arith, names, h.1)) is tt accepts

@@ -1,5 +1,5 @@
 -- An automaton with its condition in disjunctive normal form.
-use Rattle.std.proofs.Common.{◌≡◌, ◌∙◌, ℕ, true, List, [], ◌∷◌, ◌++◌, flat_map, map, refl, subst, sym}
+use Rattle.std.proofs.Common.{◌≡◌, ◌∙◌, ℕ, true, List, ◌∷◌, ◌++◌, flat_map, map, refl, subst, sym}
 use Rattle.std.specs.List.{AllByRecursion}
 use Rattle.acc_forms.proofs.TermLaws.{met-of_terms, met-terms}
 use Rattle.acc_forms.specs.Terms.{choices, each_terms, literal_formula, of_terms, pairs, terms}

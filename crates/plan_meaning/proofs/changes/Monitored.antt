@@ -1,5 +1,5 @@
 -- What is made of an automaton in the form of a monitor.
-use Rattle.std.proofs.Common.{◌≡◌, ◌<◌, ◌≤◌, ℕ, List, [], ◌∷◌, arith, refl}
+use Rattle.std.proofs.Common.{◌≤◌, ℕ, List, [], ◌∷◌, arith, refl}
 use Rattle.aut_base.specs.Acceptance.{Accepts}
 use Rattle.aut_base.specs.Automaton.{Automaton}
 use Rattle.aut_base.specs.Word.{NameSet}
@@ -13,7 +13,6 @@ use Rattle.exploration.specs.declared.fault.Fault.TheVariants as explored
 use Rattle.filter_plan.specs.declared.plan.Form.TheVariants as form
 use Rattle.monitor_form.specs.Prefixes.{AcceptsPrefixes, HasPrefix}
 use Rattle.monitor_form.specs.Subsets.{IsMonitorAutomaton, MeetsLimit}
-use Rattle.monitor_form.specs.declared.fault.MonFault.TheVariants as monitor
 use Rattle.plan_meaning.specs.Changes.{Bring, PassesMonitor, SomePrefix}
 use Rattle.plan_meaning.specs.inner.Stepping.{IsMadeAsPromised}
 

@@ -35,13 +35,9 @@ trim_within a made is within =
 
 -- ---- without Fin
 
-fin_within : (a : Automaton) → (has_fin a.formula ≡ true → HasTooManyTerms a → ⊥) → (which : Limit) → PassesForm which form.RemoveFin a → ⊥
-fin_within a few limit.Terms h = few h.0 h.1
-fin_within a few _ h = h
-
 pub fin_itself : (a : Automaton) → has_fin a.formula ≡ false → IsMadeAsPromised (Bring form.RemoveFin ∷ []) a a
 fin_itself a none = changed_once (Bring form.RemoveFin) a a
-    (fin_within a (λ some many. false≢true (sym none ∙ some)))
+    (λ which h. false≢true (sym none ∙ h.1))
     (sym (ap (λ (b : Bool). cond b (copied a) a) none))
     tt
     (λ u v. ((λ x. x), (λ x. x)))
@@ -60,7 +56,7 @@ fin_room a made few is within =
     not_many n few = omega (arith, few)
 
 pub copies_made : (a made : Automaton) → has_fin a.formula ≡ true → (HasTooManyTerms a → ⊥) → made ≡ copied a → AcceptTheSame made a → IsMadeAsPromised (Bring form.RemoveFin ∷ []) a made
-copies_made a made has few is accepts = changed_once (Bring form.RemoveFin) a made (fin_within a (λ some many. few many)) (is ∙ sym (ap (λ (b : Bool). cond b (copied a) a) has)) tt accepts
+copies_made a made has few is accepts = changed_once (Bring form.RemoveFin) a made (λ which h. few h.2) (is ∙ sym (ap (λ (b : Bool). cond b (copied a) a) has)) tt accepts
 
 -- ---- the Büchi form
 
@@ -74,12 +70,8 @@ buchi_made a made terms few is accepts = changed_once (Bring form.Buchi) a made 
 
 -- ---- the disjunctive form
 
-dnf_within : (a : Automaton) → (HasTooManyTerms a → ⊥) → (which : Limit) → PassesForm which form.Dnf a → ⊥
-dnf_within a few limit.Terms h = few h
-dnf_within a few _ h = h
-
 pub dnf_made : (a made : Automaton) → (HasTooManyTerms a → ⊥) → made ≡ in_disjunctive_form a → AcceptTheSame made a → IsMadeAsPromised (Bring form.Dnf ∷ []) a made
-dnf_made a made few is accepts = changed_once (Bring form.Dnf) a made (dnf_within a few) is tt accepts
+dnf_made a made few is accepts = changed_once (Bring form.Dnf) a made (λ which h. few h.1) is tt accepts
 
 -- ---- completion
 

@@ -10,12 +10,10 @@ use Rattle.aut_base.specs.declared.limit.TheConstants.{MOST_NAMES, MOST_PAIRS}
 use Rattle.aut_core.specs.Deterministic.{IsDeterministic}
 use Rattle.aut_core.specs.OtherNames.{joined_names}
 use Rattle.aut_ops.specs.Products.{HasMorePairs, over_both}
-use Rattle.aut_ops.specs.declared.fault.PairFault.TheVariants as pair
 use Rattle.inclusion.proofs.Common.{included_where_none, not_included_where_word}
 use Rattle.inclusion.specs.Common.{AcceptNoneTogether, IsWordOfBoth}
 use Rattle.parity_det.proofs.ParityLaws.{complement_is_determined}
 use Rattle.parity_det.specs.Complements.{IsWithinParity}
-use Rattle.parity_det.specs.declared.fault.CompFault.TheVariants as comp
 use Rattle.plan_meaning.proofs.changes.Determinised.{within}
 use Rattle.plan_meaning.specs.Complements.{IsKeptComplement}
 use Rattle.plan_meaning.specs.Limits.{HaveFewNames, IsIncluded, PassesOfBoth, PassesOfInclusion, PassesUnlessDeterministic}

@@ -9,7 +9,7 @@ use Rattle.plan_meaning.proofs.changes.ChangeLaws.{of_parity, one_of_parity}
 use Rattle.plan_meaning.specs.Filters.{AcceptsWord, AllHold, EquivalentTo, FailsAtFilter, Filter, HoldsWithin, IncludedIn, Intersects, IsDroppedBy}
 use Rattle.plan_meaning.specs.Filters.{IsKeptBy, IsUnambiguous, LacksWithin, PassesLimitOf, PassesAt, RejectsWord, filters}
 use Rattle.plan_meaning.specs.Laws.{Dropped, Kept, OneLimitOfInclusion, VerdictIsOne, Over, AVerdictExists}
-use Rattle.plan_meaning.specs.Limits.{HaveFewNames, HaveManyNames, PassesOfBoth, PassesOfEquivalence, PassesOfSquare, PassesOfWord}
+use Rattle.plan_meaning.specs.Limits.{HaveFewNames, HaveManyNames, PassesOfBoth, PassesOfEquivalence, PassesOfWord}
 use Rattle.word_syntax.specs.Grammar.{WordPattern}
 use Rattle.word_syntax.specs.Matching.{word_automaton}
 
@@ -40,10 +40,6 @@ one_of_word which other a p (inl x) (inr y) = absurd (omega (arith, x.1, y.0))
 one_of_word which other a p (inr x) (inl y) = absurd (omega (arith, x.0, y.1))
 one_of_word which other a p (inr x) (inr y) = one_of_both which other a (canonical (word_automaton p)) x.1 y.1
 
-of_square : (which : Limit) (a : Automaton) → PassesOfSquare which a → which ≡ limit.Pairs
-of_square limit.Pairs a h = refl
-of_square _ a h = absurd h
-
 pub one_of_inclusion : OneLimitOfInclusion
 one_of_inclusion which other a b (inl x) (inl y) = one_of_parity which other b (of_parity which b x.1) (of_parity other b y.1)
 one_of_inclusion which other a b (inl x) (inr y) = absurd (y.0 which x)
@@ -64,7 +60,7 @@ one_limit (RejectsWord p) which other a h k = one_of_word which other (canonical
 one_limit (IncludedIn b) which other a h k = one_of_inclusion which other (canonical a) b h k
 one_limit (EquivalentTo b) which other a h k = one_of_equivalence which other (canonical a) b h k
 one_limit (Intersects b) which other a h k = one_of_both which other (canonical a) b h k
-one_limit IsUnambiguous which other a h k = of_square which (canonical a) h ∙ sym (of_square other (canonical a) k)
+one_limit IsUnambiguous which other a h k = h.0 ∙ sym k.0
 one_limit _ which other a h k = absurd h
 
 -- ---- where filters end
