@@ -13,7 +13,7 @@ use Rattle.hoa_reader.specs.Described.{described}
 use Rattle.hoa_parser.specs.Grammar.{SpellsAutomaton}
 use Rattle.hoa_parser.specs.Naming.{name_of}
 use Rattle.hoa_parser.specs.Raw as raw
-use Rattle.hoa_parser.specs.Raw.{RawTree, Written, WrittenEdge, WrittenItem, WrittenState, raw_trees}
+use Rattle.hoa_parser.specs.Raw.{RawTree, Written, WrittenEdge, WrittenItem, WrittenState}
 use Rattle.hoa_reader.specs.Validity.{IsValid}
 use Rattle.hoa_writer.specs.CanonicalText.{canonical_text}
 

@@ -23,7 +23,7 @@ use Rattle.hoa_reader.specs.Described.{described}
 use Rattle.hoa_writer.specs.CanonicalText.{canonical_text}
 use Rattle.plan_meaning.specs.Changes.{changes_of}
 use Rattle.plan_meaning.specs.Filters.{IsDropped, IsKept, IsOverFilters}
-use Rattle.plan_meaning.specs.Laws.{ChangesAreDetermined, OneLimitOfInclusion, VerdictIsOne, Verdict}
+use Rattle.plan_meaning.specs.Laws.{ChangesAreDetermined, OneLimitOfInclusion, VerdictIsOne}
 use Rattle.plan_meaning.specs.Laws as verdict
 use Rattle.plan_meaning.specs.Limits.{PassesOfInclusion}
 use Rattle.plan_meaning.specs.Operands.{refuted_operand}

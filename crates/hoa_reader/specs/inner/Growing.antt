@@ -6,7 +6,7 @@ use Rattle.hoa_reader.specs.Described.{Meaning, expanded, meaning_of, meanings_a
 use Rattle.hoa_reader.specs.inner.PickedOut.{alias_def}
 use Rattle.hoa_reader.specs.inner.Places.{place_in}
 use Rattle.hoa_parser.specs.Raw as raw
-use Rattle.hoa_parser.specs.Raw.{RawTree, RawTrees, WrittenEdge, WrittenState, raw_tree}
+use Rattle.hoa_parser.specs.Raw.{RawTree, RawTrees, raw_tree}
 use Rattle.hoa_reader.specs.Validity.{aliases_among, is_listed}
 use Rattle.hoa_reader.specs.declared.elaborate.aliases.Known.{Known}
 use Rattle.hoa_reader.specs.declared.elaborate.parts.AliasDef.{AliasDef}

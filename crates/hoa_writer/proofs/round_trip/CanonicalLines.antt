@@ -6,7 +6,7 @@ use Rattle.aut_base.specs.Automaton.{LabelledEdge, Automaton}
 use Rattle.aut_base.specs.Formula.{FormulaTree}
 use Rattle.hoa_parser.specs.Naming.{name_item, name_of}
 use Rattle.hoa_parser.specs.Raw as raw
-use Rattle.hoa_parser.specs.Raw.{Written, WrittenEdge, WrittenItem, WrittenState}
+use Rattle.hoa_parser.specs.Raw.{WrittenEdge, WrittenItem, WrittenState}
 use Rattle.hoa_reader.specs.Validity.{acceptance_item, acceptance_of, alias_item, alias_lines, edges_written, names_item, written_names, start_item, starts_written, states_item}
 use Rattle.aut_base.proofs.order.Ordered.{range_within}
 use Rattle.hoa_writer.specs.CanonicalWritten.{canonical_edge, canonical_items, canonical_state, canonical_written}

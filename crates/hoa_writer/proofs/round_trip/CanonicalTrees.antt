@@ -4,7 +4,7 @@ use Rattle.std.proofs.lemmas.Bool.{lt-ltb}
 use Rattle.aut_base.specs.Formula as formula
 use Rattle.aut_base.specs.Formula.{EachSetsBelow, FormulaTree, FormulaTrees, SetsBelow}
 use Rattle.aut_base.specs.Label as label
-use Rattle.aut_base.specs.Label.{AllBelow, EachBelow, LabelTree, LabelTrees, trees}
+use Rattle.aut_base.specs.Label.{AllBelow, EachBelow, LabelTree, LabelTrees}
 use Rattle.hoa_reader.specs.Described.{Meaning, each_expanded, expanded}
 use Rattle.hoa_reader.specs.Validity.{aliases_among, all_leaves_pass, all_sets_below, leaves_pass, props_below, sets_below}
 use Rattle.aut_base.proofs.canonical.CanonicalBelow.{canonical_label_below}

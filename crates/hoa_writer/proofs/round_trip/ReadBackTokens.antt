@@ -16,7 +16,7 @@ use Rattle.hoa_parser.specs.Grammar.{edge_tokens, item_meaning, item_tokens, lab
 use Rattle.hoa_parser.specs.Grammar.ItemPhrase.{states_item, start_item, names_item, acceptance_item, name_item, properties_item}
 use Rattle.hoa_parser.proofs.grammar.OneRaw.{one_raw}
 use Rattle.hoa_parser.specs.Raw as raw
-use Rattle.hoa_parser.specs.Raw.{Written, WrittenEdge, WrittenItem, WrittenState}
+use Rattle.hoa_parser.specs.Raw.{Written}
 use Rattle.aut_base.specs.LabelText.{joined}
 use Rattle.hoa_writer.specs.CanonicalText.{line, quoted, marks_text, edge_line, state_lines, name_line, header_lines, canonical_text, formula_text}
 use Rattle.hoa_writer.specs.CanonicalWritten.{canonical_edge, canonical_state, name_items, canonical_items, canonical_written}
