@@ -3,7 +3,8 @@ use Rattle.std.specs.Prelude.{◌/◌, ◌%◌, ◌^◌, ◌+◌, max, ℕ, zero
 use Rattle.std.specs.List.{enumerate_from}
 use Rattle.std.specs.Option.{option_map_or}
 use Rattle.aut_base.specs.Automaton.{LabelledEdge, Automaton}
-use Rattle.aut_base.specs.Label.{LabelTree, LabelTrees, trees}
+use Rattle.aut_base.specs.CanonicalLabel.{all_of}
+use Rattle.aut_base.specs.Label.{LabelTree, LabelTrees}
 use Rattle.aut_base.specs.Marks.{is_in}
 use Rattle.hoa_parser.specs.Raw as raw
 use Rattle.hoa_parser.specs.Raw.{RawTree, RawTrees, Written, WrittenEdge, WrittenState}
@@ -71,15 +72,9 @@ meanings_of w = meanings_after [] (alias_lines w)
 abbrev pub literal : ℕ → ℕ → LabelTree
 literal i k = if (i / (2 ^ k)) % 2 == 1 then LabelTree.Prop k else LabelTree.Not (LabelTree.Prop k)
 
--- the conjunction of the labels; of one it is the label itself
-abbrev pub conjunction : List LabelTree → LabelTree
-conjunction [] = LabelTree.True
-conjunction (t ∷ []) = t
-conjunction (t ∷ u ∷ ts) = LabelTree.And t u (trees ts)
-
 -- the label of the i-th letter over n names
 abbrev pub letter_label : ℕ → ℕ → LabelTree
-letter_label n i = conjunction (map (literal i) (below n))
+letter_label n i = all_of (map (literal i) (below n))
 
 -- The label of the i-th edge of a state: the state's if it has one, else the edge's own, else the letter's.
 abbrev pub edge_label : Written → WrittenState → ℕ → WrittenEdge → LabelTree

@@ -3,12 +3,12 @@ use Rattle.std.proofs.Common.{◌≡◌, ◌/◌, ◌%◌, ◌^◌, ◌<◌, ◌
 use Rattle.std.proofs.lemmas.Bool.{ltb-true, and_parts}
 use Rattle.std.specs.List.{AllByRecursion, list_all}
 use Rattle.std.specs.Option.{option_map_or}
-use Rattle.aut_base.proofs.canonical.CanonicalBelow.{trees_below}
+use Rattle.aut_base.proofs.canonical.CanonicalBelow.{all_of_below}
 use Rattle.aut_base.specs.Formula as formula
 use Rattle.aut_base.specs.Formula.{EachSetsBelow, FormulaTree, FormulaTrees, SetsBelow}
 use Rattle.aut_base.specs.Label as label
 use Rattle.aut_base.specs.Label.{AllBelow, EachBelow, LabelTree}
-use Rattle.hoa_reader.specs.Described.{Meaning, below, conjunction, each_expanded, expanded, letter_label, literal, meaning_of, meanings_after}
+use Rattle.hoa_reader.specs.Described.{Meaning, below, each_expanded, expanded, letter_label, literal, meaning_of, meanings_after}
 use Rattle.hoa_parser.specs.Raw as raw
 use Rattle.hoa_parser.specs.Raw.{RawTree, RawTrees}
 use Rattle.aut_base.specs.Text.{same_text}
@@ -79,11 +79,6 @@ meanings_below n ms (line ∷ lines) all e =
 literal_below : (n i k : ℕ) → k < n → AllBelow n (literal i k)
 literal_below n i k l = elim ((i / (2 ^ k)) % 2 == 1) as (λ b. AllBelow n (cond b (label.Prop k) (label.Not (label.Prop k)))) [ true ↦ l | false ↦ l ]
 
-conjunction_below : (n : ℕ) (ts : List LabelTree) → AllByRecursion (AllBelow n) ts → AllBelow n (conjunction ts)
-conjunction_below n [] all = tt
-conjunction_below n (t ∷ []) all = all.0
-conjunction_below n (t ∷ u ∷ ts) all = (all.0, all.1.0, trees_below n ts all.1.1)
-
 pub numbers_are_below : (n : ℕ) → AllByRecursion (λ k. k < n) (below n)
 numbers_are_below zero = tt
 numbers_are_below (suc n) =
@@ -92,5 +87,5 @@ numbers_are_below (suc n) =
 
 pub letter_below : (n i : ℕ) → AllBelow n (letter_label n i)
 letter_below n i =
-    conjunction_below n (map (literal i) (below n)) (AllByRecursion-map (AllBelow n) (literal i) (below n)
+    all_of_below n (map (literal i) (below n)) (AllByRecursion-map (AllBelow n) (literal i) (below n)
     (AllByRecursion-weaker (λ k. k < n) (λ k. AllBelow n (literal i k)) (below n) (literal_below n i) (numbers_are_below n)))

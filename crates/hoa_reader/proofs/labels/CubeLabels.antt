@@ -3,11 +3,12 @@ use Rattle.std.proofs.Common.{◌≡◌, inl, inr, ◌∙◌, ◌^◌, ◌<◌, 
 use Rattle.std.proofs.lemmas.Bool.{cases_lt}
 use Rattle.std.proofs.lemmas.List.{append-nil, map-append}
 use Rattle.std.specs.Bool.{beq}
+use Rattle.aut_base.specs.CanonicalLabel.{all_of}
 use Rattle.aut_base.specs.Label.{AllBelow, EachBelow, LabelTree, LabelTrees, all_true, trees, truth}
 use Rattle.hoa_parser.proofs.plain.Cubes.{no_bit}
 use Rattle.hoa_parser.specs.Raw.{RawTree, all_literals, cube_literals, has_bit, maybe_literal, raw_all, raw_literal, raw_trees}
-use Rattle.hoa_reader.proofs.labels.LetterTruth.{all_true_push, conjunction_truth, with_nothing}
-use Rattle.hoa_reader.specs.Described.{Meaning, conjunction, each_expanded, expanded}
+use Rattle.hoa_reader.proofs.labels.LetterTruth.{all_true_push, all_of_truth, with_nothing}
+use Rattle.hoa_reader.specs.Described.{Meaning, each_expanded, expanded}
 use Rattle.hoa_reader.specs.inner.Cubes.{each_of}
 use Rattle.label_guards.specs.Guards.{IsGuardOf}
 use Rattle.label_guards.specs.Numbers.{is_as_asked, is_in_cube, is_set}
@@ -19,7 +20,7 @@ each_trees ms [] = refl
 each_trees ms (t ∷ ts) = ap (LabelTrees.more (expanded ms t)) (each_trees ms ts)
 
 -- the label is the conjunction of those of the literals
-pub expanded_all : (ms : List Meaning) (ts : List RawTree) → expanded ms (raw_all ts) ≡ conjunction (each_of ms ts)
+pub expanded_all : (ms : List Meaning) (ts : List RawTree) → expanded ms (raw_all ts) ≡ all_of (each_of ms ts)
 expanded_all ms [] = refl
 expanded_all ms (t ∷ []) = refl
 expanded_all ms (t ∷ u ∷ us) = ap (LabelTree.And (expanded ms t) (expanded ms u)) (each_trees ms us)
@@ -28,10 +29,10 @@ literal_label : (ms : List Meaning) (k : ℕ) (holds : Bool) → expanded ms (ra
 literal_label ms k true = refl
 literal_label ms k false = refl
 
-pub label_whole : (ms : List Meaning) (parts : List LabelTree) (label : LabelTree) (n v k : ℕ) → k ≡ 32 → label ≡ conjunction parts → parts ≡ each_of ms (cube_literals n v k)
+pub label_whole : (ms : List Meaning) (parts : List LabelTree) (label : LabelTree) (n v k : ℕ) → k ≡ 32 → label ≡ all_of parts → parts ≡ each_of ms (cube_literals n v k)
     → label ≡ expanded ms (raw_all (all_literals n v))
 unfolding all_literals
-label_whole ms parts label n v k last is are = is ∙ (ap conjunction are ∙ (ap (λ j. conjunction (each_of ms (cube_literals n v j))) last ∙ sym (expanded_all ms (cube_literals n v 32))))
+label_whole ms parts label n v k last is are = is ∙ (ap all_of are ∙ (ap (λ j. all_of (each_of ms (cube_literals n v j))) last ∙ sym (expanded_all ms (cube_literals n v 32))))
 
 -- The labels are the same whatever aliases stand for.
 alike_step : (ms : List Meaning) (ts : List RawTree) (asked : Bool) (k : ℕ) (holds : Bool) → each_of ms ts ≡ each_of [] ts
@@ -50,7 +51,7 @@ alike ms n v (suc k) = alike_step ms (cube_literals n v k) (has_bit n k) k (has_
 
 pub cube_alike : (ms : List Meaning) (n v : ℕ) → expanded ms (raw_all (all_literals n v)) ≡ expanded [] (raw_all (all_literals n v))
 unfolding all_literals
-cube_alike ms n v = expanded_all ms (cube_literals n v 32) ∙ (ap conjunction (alike ms n v 32) ∙ sym (expanded_all [] (cube_literals n v 32)))
+cube_alike ms n v = expanded_all ms (cube_literals n v 32) ∙ (ap all_of (alike ms n v 32) ∙ sym (expanded_all [] (cube_literals n v 32)))
 
 -- The literals hold where each proposition is as it is asked for.
 literal_holds : (on : ℕ → Bool) (k : ℕ) (holds : Bool) → truth on (expanded [] (raw_literal k holds)) ≡ beq (on k) holds
@@ -111,7 +112,7 @@ from_there on n v m (suc k) below within = elim (cases_lt m (suc k)) [
   | inr from ↦ let same : suc k ≡ m = omega (arith, from, within) in ap (λ j. is_in_cube n v j on) same
 ]
 
-parts_below : (m : ℕ) (ts : List LabelTree) → AllBelow m (conjunction ts) → EachBelow m (trees ts)
+parts_below : (m : ℕ) (ts : List LabelTree) → AllBelow m (all_of ts) → EachBelow m (trees ts)
 parts_below m [] below = tt
 parts_below m (t ∷ []) below = (below, tt)
 parts_below m (t ∷ u ∷ us) below = (below.0, (below.1, below.2))
@@ -119,7 +120,7 @@ parts_below m (t ∷ u ∷ us) below = (below.0, (below.1, below.2))
 cube_truth : (on : ℕ → Bool) (m n v : ℕ) → n < 2 ^ 32 → AllBelow m (expanded [] (raw_all (all_literals n v))) → truth on (expanded [] (raw_all (all_literals n v))) ≡ is_in_cube n v m on
 unfolding all_literals
 cube_truth on m n v few below =
-    ap (truth on) (expanded_all [] (cube_literals n v 32)) ∙ (conjunction_truth on (each_of [] (cube_literals n v 32)) ∙ (hold on n v 32 ∙ elim (cases_lt m 32) [
+    ap (truth on) (expanded_all [] (cube_literals n v 32)) ∙ (all_of_truth on (each_of [] (cube_literals n v 32)) ∙ (hold on n v 32 ∙ elim (cases_lt m 32) [
       | inl less ↦ up_to on n v m 32 (parts_below m (each_of [] (cube_literals n v 32)) (subst (AllBelow m) (expanded_all [] (cube_literals n v 32)) below)) (omega (arith, less))
       | inr from ↦ sym (from_there on n v 32 m few from)
     ]))

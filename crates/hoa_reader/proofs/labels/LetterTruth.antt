@@ -2,8 +2,9 @@
 use Rattle.std.proofs.Common.{◌≡◌, ◌∙◌, ◌&&◌, ◌++◌, ◌∷◌, [], ℕ, zero, suc, Bool, true, false, if◌then◌else◌, List, ap, map, not, refl, sym}
 use Rattle.std.proofs.lemmas.List.{map-append}
 use Rattle.std.specs.Bool.{beq}
+use Rattle.aut_base.specs.CanonicalLabel.{all_of}
 use Rattle.aut_base.specs.Label.{LabelTree, all_true, trees, truth}
-use Rattle.hoa_reader.specs.Described.{below, conjunction, letter_label, literal}
+use Rattle.hoa_reader.specs.Described.{below, letter_label, literal}
 use Rattle.label_guards.specs.Numbers.{is_at, is_set}
 
 pub with_nothing : (b : Bool) → (b && true) ≡ b
@@ -14,10 +15,10 @@ together : (a b c : Bool) → (a && (b && c)) ≡ ((a && b) && c)
 together true b c = refl
 together false b c = refl
 
-pub conjunction_truth : (on : ℕ → Bool) (ts : List LabelTree) → truth on (conjunction ts) ≡ all_true on (trees ts)
-conjunction_truth on [] = refl
-conjunction_truth on (t ∷ []) = sym (with_nothing (truth on t))
-conjunction_truth on (t ∷ u ∷ ts) = refl
+pub all_of_truth : (on : ℕ → Bool) (ts : List LabelTree) → truth on (all_of ts) ≡ all_true on (trees ts)
+all_of_truth on [] = refl
+all_of_truth on (t ∷ []) = sym (with_nothing (truth on t))
+all_of_truth on (t ∷ u ∷ ts) = refl
 
 pub all_true_push : (on : ℕ → Bool) (ts : List LabelTree) (t : LabelTree) → all_true on (trees (ts ++ t ∷ [])) ≡ (all_true on (trees ts) && truth on t)
 all_true_push on [] t = with_nothing (truth on t)
@@ -46,4 +47,4 @@ literals_truth on number (suc n) =
     ∙ (λ i. literals_truth on number n i && literal_truth on number n i))
 
 pub letter_truth : (number n : ℕ) (on : ℕ → Bool) → truth on (letter_label n number) ≡ is_at number n on
-letter_truth number n on = conjunction_truth on (map (literal number) (below n)) ∙ literals_truth on number n
+letter_truth number n on = all_of_truth on (map (literal number) (below n)) ∙ literals_truth on number n

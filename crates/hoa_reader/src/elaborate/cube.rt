@@ -1,9 +1,10 @@
 //! Conjunctions of literals that are given by their bits.
 
 ghost use Rattle.std.specs.Prelude.{◌≡◌, ◌+◌, ◌<◌, ◌++◌, ◌∷◌, [], ℕ, List, length, true, IfOk};
+ghost use Rattle.aut_base.specs.CanonicalLabel.{all_of};
 ghost use Rattle.aut_base.specs.Label.{AllBelow, label_tree, truth};
 ghost use Rattle.hoa_parser.specs.Raw.{RawTree, all_literals, has_bit, maybe_literal, raw_all, raw_literal};
-ghost use Rattle.hoa_reader.specs.Described.{Meaning, conjunction, expanded};
+ghost use Rattle.hoa_reader.specs.Described.{Meaning, expanded};
 ghost use Rattle.hoa_reader.specs.inner.Cubes.{Tells, TellsAll, cube_tree, each_of, parts_of};
 ghost use Rattle.label_guards.specs.Guards.{IsGuardOf};
 ghost use Rattle.label_guards.specs.Store.{Keeps};
@@ -130,7 +131,7 @@ fn one_more_part(alloc: Global, parts: Conjunction, part: Label) -> Result<Conju
 /// The conjunction of the parts.
 #[tactic(auto, using(aut_base::proofs::trees::LabelTrees::label_trees))]
 fn joined_label(alloc: Global, parts: Conjunction) -> Result<Label, Memory>
-    ensures { IfOk result (λ new. label_tree new ≡ conjunction (parts_of parts)) }
+    ensures { IfOk result (λ new. label_tree new ≡ all_of (parts_of parts)) }
 {
     match parts {
         Conjunction::None => Ok(Label::True),
