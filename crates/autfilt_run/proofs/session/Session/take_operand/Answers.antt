@@ -64,6 +64,20 @@ returns-in-Aborted-clause-turns g c =
       keeps = record { plan = refl; most = said.moves.most; opened = refl; kept = refl; stage = refl };
     }
 
+-- it can't be taken
+pub returns-in_err-read-in-Whole-clause-turns : goal.returns-in_err-read-in-Whole-clause-turns
+returns-in_err-read-in-Whole-clause-turns g c =
+    let s = g.I.Inputs.seen c.args.inputs.now in
+    let t = g.I.Inputs.seen c.read_raw.new.inputs in
+    let said = c.in_ok-read_raw.ensures in
+    let f = c.in_err-read-in-Whole.field-0.0 in
+    let M : Front → Type 0 = λ x. MovesLexer (stop_of_front (Ok x)) c.args.self.now.lexer c.read_raw.new.lexer s t in
+    let at = read_at (Ok c.in_ok-read_raw.field-0) c.args.self.now.lexer.since c.args.self.now.lexer.held c.read_raw.new.lexer.held s.left t.left c.requires.held said.answers said.shown in
+    let whole = is_whole c.in_ok-read_raw.field-0 c.in-Whole.raw c.args.self.now.lexer.since c.read_raw.new.lexer.held s.left t.left c.in-Whole.is said.held at in
+    turns_on c.from_residual-in_err-read-in-Whole.result f c.args.self.now _ s t c.from_residual-in_err-read-in-Whole.ensures.1
+    (not_taken f (written c.in-Whole.raw) c.args.self.now _ s t c.requires.is_open refl refl whole (subst M c.in-Whole.is said.moves) c.in_err-read-in-Whole.ensures)
+    (record { plan = refl; most = said.moves.most; opened = refl; kept = refl; stage = refl })
+
 -- memory was wanting for the list of operands
 pub returns-in_err-push-in-Whole-clause-turns : goal.returns-in_err-push-in-Whole-clause-turns
 returns-in_err-push-in-Whole-clause-turns g c =
