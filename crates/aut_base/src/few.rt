@@ -10,10 +10,17 @@ use std::marker::Model;
 // Why so: 'What is short lies in the value itself' in docs/DECISIONS.md.
 /// A list of numbers. Up to three are stored in the value itself, without an allocation: the lists of a text's starts, of an edge's
 /// target states and of its sets are seldom longer. Contracts see the list.
-#[derive(Debug, Drop)]
+#[derive(Debug)]
 pub struct FewNumbers {
     alloc: Global,
     held: Held,
+}
+
+// Written down, so that it is proved here alone.
+impl Drop for FewNumbers {
+    fn drop(self) {
+        let FewNumbers { alloc: _, held: _ } = self;
+    }
 }
 
 /// How the numbers are stored.

@@ -23,11 +23,23 @@ pub enum Formula {
 
 /// The parts of a conjunction or disjunction: at least two.
 #[cycle(formula)]
-#[derive(Debug, Drop)]
+#[derive(Debug)]
 pub struct Formulas {
     first: Box<Formula>,
     second: Box<Formula>,
     others: Vec<Formula>,
+}
+
+// Written down, so that it is proved here alone.
+impl Drop for Formulas {
+    #[cycle(formula_drop)]
+    fn drop(self) {
+        let Formulas {
+            first: _,
+            second: _,
+            others: _,
+        } = self;
+    }
 }
 
 impl Formula {

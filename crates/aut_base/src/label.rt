@@ -24,11 +24,23 @@ pub enum Label {
 // Why so: 'Two parts by structure' in docs/DECISIONS.md.
 /// The parts of a conjunction or disjunction: at least two.
 #[cycle(label)]
-#[derive(Debug, Drop)]
+#[derive(Debug)]
 pub struct Labels {
     first: Label,
     second: Label,
     others: Vec<Label>,
+}
+
+// Written down, so that it is proved here alone.
+impl Drop for Labels {
+    #[cycle(label_drop)]
+    fn drop(self) {
+        let Labels {
+            first: _,
+            second: _,
+            others: _,
+        } = self;
+    }
 }
 
 impl Label {

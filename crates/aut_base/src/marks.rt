@@ -12,10 +12,17 @@ use std::marker::Model;
 // Why so: 'What is short lies in the value itself' in docs/DECISIONS.md.
 /// Numbers of acceptance sets, increasing and without repeats. Where all are below 64, they are the bits of a word. Contracts see the
 /// list of the numbers.
-#[derive(Debug, Drop)]
+#[derive(Debug)]
 pub struct Marks {
     alloc: Global,
     held: HeldMarks,
+}
+
+// Written down, so that it is proved here alone.
+impl Drop for Marks {
+    fn drop(self) {
+        let Marks { alloc: _, held: _ } = self;
+    }
 }
 
 /// How the marks are stored.

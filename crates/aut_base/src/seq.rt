@@ -11,9 +11,16 @@ use std::marker::Model;
 
 // Why so: 'One list type, `Seq<T>`' in docs/DECISIONS.md.
 /// A list that grows at its end. Contracts see the list of its items.
-#[derive(Clone, Debug, Drop)]
+#[derive(Clone, Debug)]
 pub struct Seq<T> {
     items: Vec<T>,
+}
+
+// Written down, so that it is proved here alone.
+impl<T: Drop> Drop for Seq<T> {
+    fn drop(self) {
+        let Seq { items: _ } = self;
+    }
 }
 
 /// Bytes.
@@ -93,7 +100,8 @@ impl<T> Seq<T> {
     pub fn into_vec(self) -> Vec<T>
         ensures { result.items ≡ self }
     {
-        self.items
+        let Seq { items } = self;
+        items
     }
 }
 

@@ -20,10 +20,16 @@ use std::marker::Model;
 
 // Why so: 'An automaton keeps its labels in a store of its own' in docs/DECISIONS.md.
 /// A transition-based omega-automaton with an Emerson-Lei condition, and its labels in a store of its own.
-#[derive(Drop)]
 pub struct Automaton {
     /// In a box, so that moving an automaton moves a pointer, and dropping one is a call and not code at each place.
     fields: Box<Fields>,
+}
+
+// Written down, so that it is proved here alone.
+impl Drop for Automaton {
+    fn drop(self) {
+        let Automaton { fields: _ } = self;
+    }
 }
 
 /// The parts of an automaton.
@@ -337,7 +343,8 @@ impl Automaton {
         requires { SetsBelow self.sets (formula_tree formula) }
         ensures { result ≡ record self { formula = formula_tree formula } }
     {
-        let mut fields = self.fields;
+        let Automaton { fields } = self;
+        let mut fields = fields;
         fields.formula = formula;
         Automaton { fields }
     }

@@ -12,12 +12,24 @@ use std::alloc::Global;
 pub type Links = Seq<Link>;
 
 /// An edge whose label is a guard of the automaton's store, with the acceptance sets that it belongs to.
-#[derive(Clone, Debug, Drop)]
+#[derive(Clone, Debug)]
 pub struct Link {
     pub from: u32,
     pub to: u32,
     pub guard: Guard,
     pub marks: Marks,
+}
+
+// Written down, so that it is proved here alone.
+impl Drop for Link {
+    fn drop(self) {
+        let Link {
+            from: _,
+            to: _,
+            guard: _,
+            marks: _,
+        } = self;
+    }
 }
 
 /// The index of each state's first link, and at the end the number of links. A state without links has that of the next state.

@@ -15,12 +15,24 @@ use std::marker::Model;
 /// Named texts in memory. A call of `open` or `next` fails where its number, counted from 0 over both,
 /// is listed, and `open` also where no text has the name. It has no bytes at hand, so each byte is taken by a call of `next`,
 /// which is counted and may fail.
-#[derive(Debug, Drop)]
+#[derive(Debug)]
 pub struct MemInputs {
     store: TextStore,
     calls: FailingCalls,
     open_faults: u64,
     read_faults: u64,
+}
+
+// Written down, so that it is proved here alone.
+impl Drop for MemInputs {
+    fn drop(self) {
+        let MemInputs {
+            store: _,
+            calls: _,
+            open_faults: _,
+            read_faults: _,
+        } = self;
+    }
 }
 
 impl Model for MemInputs {

@@ -13,13 +13,25 @@ use std::marker::Model;
 /// Keeps what is written, up to its capacity. A write fails where its number, counted from 0, is listed: then
 /// the first half of the piece is written, rounded down, as far as it fits. It also fails where the piece
 /// doesn't fit, and then what fits is written.
-#[derive(Debug, Drop)]
+#[derive(Debug)]
 pub struct MemSink {
     /// `capacity` bytes are allocated when the sink is made.
     written: Vec<u8>,
     capacity: u32,
     calls: FailingCalls,
     faults: u64,
+}
+
+// Written down, so that it is proved here alone.
+impl Drop for MemSink {
+    fn drop(self) {
+        let MemSink {
+            written: _,
+            capacity: _,
+            calls: _,
+            faults: _,
+        } = self;
+    }
 }
 
 impl Model for MemSink {

@@ -10,9 +10,16 @@ use aut_base::{Failed, Names, OpenFail, Text, Words};
 use std::marker::Model;
 
 /// Named texts in memory. No call fails: a name that no text has opens the empty text. The whole unread rest is at hand.
-#[derive(Debug, Drop)]
+#[derive(Debug)]
 pub struct SureInputs {
     store: TextStore,
+}
+
+// Written down, so that it is proved here alone.
+impl Drop for SureInputs {
+    fn drop(self) {
+        let SureInputs { store: _ } = self;
+    }
 }
 
 impl Model for SureInputs {

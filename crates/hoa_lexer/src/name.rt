@@ -12,10 +12,17 @@ const MOST_SHORT: usize = 16;
 
 // Why so: 'What is short lies in the value itself' in docs/DECISIONS.md.
 /// The name of a header, an identifier or an alias. Contracts see the list of its bytes.
-#[derive(Debug, Drop)]
+#[derive(Debug)]
 pub struct Name {
     alloc: Global,
     held: Held,
+}
+
+// Written down, so that it is proved here alone.
+impl Drop for Name {
+    fn drop(self) {
+        let Name { alloc: _, held: _ } = self;
+    }
 }
 
 /// Where the bytes are stored.

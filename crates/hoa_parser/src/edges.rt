@@ -11,10 +11,17 @@ use std::{mem, slice};
 
 /// The edges of a state, in order. One alone lies in the state itself: in a great automaton most states have one. Contracts see the
 /// list.
-#[derive(Debug, Drop)]
+#[derive(Debug)]
 pub struct RawEdges {
     alloc: Global,
     held: HeldEdges,
+}
+
+// Written down, so that it is proved here alone.
+impl Drop for RawEdges {
+    fn drop(self) {
+        let RawEdges { alloc: _, held: _ } = self;
+    }
 }
 
 /// How they are stored.
@@ -98,7 +105,8 @@ impl RawEdges {
     pub fn into_list(self) -> Result<Seq<RawEdge>, Memory>
         ensures { IfOk result (λ edges. edges ≡ self) }
     {
-        listed(self.alloc, self.held)
+        let RawEdges { alloc, held } = self;
+        listed(alloc, held)
     }
 }
 

@@ -9,9 +9,16 @@ use std::marker::Model;
 // Why so: 'What is short lies in the value itself' in docs/DECISIONS.md.
 /// The states to which an edge leads, and the acceptance sets that it is in. One state and up to two sets are stored in the value
 /// itself, without an allocation: in most automata no edge has more. Contracts see both lists.
-#[derive(Debug, Drop)]
+#[derive(Debug)]
 pub struct EdgeEnds {
     held: HeldEnds,
+}
+
+// Written down, so that it is proved here alone.
+impl Drop for EdgeEnds {
+    fn drop(self) {
+        let EdgeEnds { held: _ } = self;
+    }
 }
 
 /// How they are stored: one state with the sets behind it, or two lists.

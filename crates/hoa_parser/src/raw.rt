@@ -32,11 +32,23 @@ pub enum RawLabel {
 
 /// The parts of a conjunction or disjunction: at least two.
 #[cycle(raw_label)]
-#[derive(Debug, Drop)]
+#[derive(Debug)]
 pub struct RawLabels {
     pub first: RawLabel,
     pub second: RawLabel,
     pub others: Vec<RawLabel>,
+}
+
+// Written down, so that it is proved here alone.
+impl Drop for RawLabels {
+    #[cycle(raw_label_drop)]
+    fn drop(self) {
+        let RawLabels {
+            first: _,
+            second: _,
+            others: _,
+        } = self;
+    }
 }
 
 #[tactic(auto, using(crate::proofs::grammar::RawTrees::raw_tree_rules))]

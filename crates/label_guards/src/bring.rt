@@ -16,9 +16,15 @@ use std::alloc::Global;
 use std::marker::Model;
 
 /// What was brought of one store into another so far, so that a node which several guards share is gone through once.
-#[derive(Drop)]
 pub struct Brought {
     done: Done,
+}
+
+// Written down, so that it is proved here alone.
+impl Drop for Brought {
+    fn drop(self) {
+        let Brought { done: _ } = self;
+    }
 }
 
 impl Model for Brought {

@@ -15,12 +15,22 @@ use std::marker::Model;
 
 // Why so: 'What is made to judge an automaton is taken back' in docs/DECISIONS.md.
 /// A store whose new guards go again, with the results that led to them.
-#[derive(Drop)]
 pub struct Draft {
     guards: Guards,
     /// How many nodes stay, and the results that were known of them.
     count: usize,
     results: Computed,
+}
+
+// Written down, so that it is proved here alone.
+impl Drop for Draft {
+    fn drop(self) {
+        let Draft {
+            guards: _,
+            count: _,
+            results: _,
+        } = self;
+    }
 }
 
 impl Model for Draft {
@@ -107,8 +117,13 @@ impl Draft {
     pub fn into_guards(self) -> Guards
         ensures { result ≡ self.kept }
     {
-        let mut guards = self.guards;
-        guards.cut(self.count, self.results);
+        let Draft {
+            guards,
+            count,
+            results,
+        } = self;
+        let mut guards = guards;
+        guards.cut(count, results);
         guards
     }
 }

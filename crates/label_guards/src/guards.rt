@@ -27,10 +27,16 @@ pub(crate) enum Operation {
 }
 
 /// A store of guards.
-#[derive(Drop)]
 pub struct Guards {
     /// In a box, so that a store is passed on as a pointer and let go by a call, wherever that may be.
     fields: Box<Fields>,
+}
+
+// Written down, so that it is proved here alone.
+impl Drop for Guards {
+    fn drop(self) {
+        let Guards { fields: _ } = self;
+    }
 }
 
 /// What a store holds.

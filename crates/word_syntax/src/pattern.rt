@@ -10,7 +10,7 @@ pub type LabelList = Seq<Label>;
 
 /// A pattern of lasso words: a formula for each letter of the stem and of the cycle. A formula refers to a proposition by the
 /// index of its name in `names`.
-#[derive(Debug, Drop)]
+#[derive(Debug)]
 pub struct Pattern {
     pub names: Names,
     pub stem: LabelList,
@@ -19,6 +19,17 @@ pub struct Pattern {
     ghost few: { length stem + length cycle < 2 ^ 32 },
     ghost stem_below: { AllLabelsBelow (length names) stem } by { AllLabelsBelow-prop (length names) stem },
     ghost cycle_below: { AllLabelsBelow (length names) cycle } by { AllLabelsBelow-prop (length names) cycle },
+}
+
+// Written down, so that it is proved here alone.
+impl Drop for Pattern {
+    fn drop(self) {
+        let Pattern {
+            names: _,
+            stem: _,
+            cycle: _,
+        } = self;
+    }
 }
 
 /// Why a text writes no pattern.

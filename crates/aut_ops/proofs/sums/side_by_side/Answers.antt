@@ -28,10 +28,10 @@ core c = record {
 
 is_sum : (c : After-states) → IsSide c.args.a.now c.args.b.now (core c)
 is_sum c = side c.args.a.now c.args.b.now c.in_ok-guards.guards c.in_ok-names.names c.in_ok-starts.starts c.states-states.result c.states.result c.sets-sets.result c.sets.result
-    c.new-links.result c.push_links.new.links c.links.result.now c.push_moved.new.links c.links-3.result.now (formula_tree c.in_ok-formula.formula) (formula_tree c.formula.result.now)
+    c.new-links.result c.push_links.new.links c.links.result.now c.push_moved.new.links c.links-2.result.now (formula_tree c.in_ok-formula.formula) (formula_tree c.formula.result.now)
     (formula_tree c.formula-2.result.now) c.well_formedness.ensures c.well_formedness-2.ensures c.requires.names c.requires.store (c.in_ok-guards.ensures ∙ c.guards.ensures)
     (c.in_ok-names.ensures ∙ c.names.ensures) (c.in_ok-starts.ensures ∙ (λ i. c.starts.ensures i ++ map (λ p. p + c.states-states.result) (c.starts-2.ensures i))) c.states-states.ensures
-    c.states.ensures c.sets-sets.ensures c.sets.ensures c.new-links.ensures c.links.ensures c.in_ok-push_links.ensures c.links-3.ensures c.in_ok-push_moved.ensures c.formula.ensures
+    c.states.ensures c.sets-sets.ensures c.sets.ensures c.new-links.ensures c.links.ensures c.in_ok-push_links.ensures c.links-2.ensures c.in_ok-push_moved.ensures c.formula.ensures
     c.formula-2.ensures c.in_ok-formula.ensures
 
 pub from_parts-requires : goal.from_parts-requires
