@@ -1,8 +1,0 @@
-//! The program `autfilt` once more, for the gate to run on a stream of which nothing is kept.
-#![tactic(auto)]
-
-use std::process::ExitCode;
-
-fn main(rt: HostRuntime) -> ExitCode {
-    autfilt_run::run(rt)
-}
