@@ -1,19 +1,23 @@
 //! Calls of `aut_core` on small automata and names of rows.
 
-use crate::words::{part, text};
-use aut_base::{Memory, Names, Text};
+use crate::guards::calls::add_cubes;
+use crate::values::letter;
+use crate::words::part;
+use aut_base::{Memory, Names};
 use aut_core::{Automaton, NameFault, join_names};
-use row_automata::{named, read};
+use row_automata::read;
 use row_files::{Answer, Fault};
 use std::alloc::Global;
 
 /// Whether an automaton is deterministic and complete.
-pub(crate) fn judged(alloc: Global, line: &str) -> Result<Text, Fault> {
-    Ok(text(alloc, verdict(&read(alloc, line)?))?)
+pub(crate) fn add_verdict(alloc: Global, answer: &mut Answer, line: &str) -> Result<(), Fault> {
+    let a = read(alloc, line)?;
+    answer.add(verdict(a.is_deterministic(), a.is_complete()));
+    Ok(())
 }
 
-fn verdict(a: &Automaton) -> &'static [u8] {
-    match (a.is_deterministic(), a.is_complete()) {
+fn verdict(is_deterministic: bool, is_complete: bool) -> &'static [u8] {
+    match (is_deterministic, is_complete) {
         (true, true) => b"deterministic, complete",
         (true, false) => b"deterministic",
         (false, true) => b"complete",
@@ -23,59 +27,60 @@ fn verdict(a: &Automaton) -> &'static [u8] {
 
 /// From `NAMES; AUTOMATON`: the text of the label of the first edge of the last state, over these names and then the
 /// automaton's own.
-pub(crate) fn over(alloc: Global, line: &str) -> Result<Text, Fault> {
+pub(crate) fn add_over(alloc: Global, answer: &mut Answer, line: &str) -> Result<(), Fault> {
     let a = read(alloc, part(line, 1))?;
-    Ok(label_over(alloc, &a, part(line, 0).as_bytes())?)
+    let first = letter(alloc, part(line, 0).as_bytes())?;
+    Ok(add_label_over(alloc, answer, &a, first.names())?)
 }
 
-/// The text of the label of the first edge of the last state, over these names and then the automaton's own.
-fn label_over(alloc: Global, a: &Automaton, bytes: &[u8]) -> Result<Text, Memory> {
-    let first = named(alloc, bytes)?;
-    match join_names(alloc, &first, a.names()) {
-        Ok(names) => label_at(alloc, &a.over(alloc, &names)?),
-        Err(_) => Ok(Text::new(alloc)),
+/// Adds the text of that label, over these names and then the automaton's own.
+fn add_label_over(
+    alloc: Global,
+    answer: &mut Answer,
+    a: &Automaton,
+    first: &Names,
+) -> Result<(), Memory> {
+    if let Ok(names) = join_names(alloc, first, a.names()) {
+        add_copy(alloc, answer, &a.over(alloc, &names)?)?;
     }
+    Ok(())
 }
 
-/// The text of the label of the first edge of the last state, by a copy.
-fn label_at(alloc: Global, a: &Automaton) -> Result<Text, Memory> {
-    let copy = a.copy(alloc)?;
-    if copy.states() == 0 {
-        return Ok(Text::new(alloc));
+/// Adds the text of that label, by a copy.
+fn add_copy(alloc: Global, answer: &mut Answer, a: &Automaton) -> Result<(), Memory> {
+    add_label(alloc, answer, &a.copy(alloc)?)
+}
+
+/// Adds the text of the label of the first edge of the last state.
+fn add_label(alloc: Global, answer: &mut Answer, a: &Automaton) -> Result<(), Memory> {
+    if a.states() == 0 {
+        return Ok(());
     }
-    match copy.links_of(copy.states() - 1).first() {
-        Some(link) if copy.guards().has(link.guard) => copy.guards().cubes(alloc, link.guard),
-        _ => Ok(Text::new(alloc)),
+    match a.links_of(a.states() - 1).first() {
+        Some(link) => add_cubes(alloc, answer, a.guards(), link.guard),
+        None => Ok(()),
     }
 }
 
 /// From `NAMES; NAMES`: the joined names.
-pub(crate) fn together(alloc: Global, line: &str) -> Result<Text, Memory> {
-    let first = names_of(alloc, part(line, 0))?;
-    joined(alloc, &first, &names_of(alloc, part(line, 1))?)
+pub(crate) fn add_joined(alloc: Global, answer: &mut Answer, line: &str) -> Result<(), Memory> {
+    let first = letter(alloc, part(line, 0).as_bytes())?;
+    let second = letter(alloc, part(line, 1).as_bytes())?;
+    add_names(alloc, answer, first.names(), second.names())
 }
 
-/// The names of one byte each, or none for `-`.
-fn names_of(alloc: Global, word: &str) -> Result<Names, Memory> {
-    if word == "-" {
-        return Ok(Names::new(alloc));
-    }
-    named(alloc, word.as_bytes())
-}
-
-/// The bytes of the joined names, or `!` for too many.
-fn joined(alloc: Global, a: &Names, b: &Names) -> Result<Text, Memory> {
+/// Adds the joined names, or `!` for too many.
+fn add_names(alloc: Global, answer: &mut Answer, a: &Names, b: &Names) -> Result<(), Memory> {
     match join_names(alloc, a, b) {
-        Ok(names) => together_in(alloc, &names),
-        Err(NameFault::Names) => text(alloc, b"!"),
-        Err(NameFault::Memory) => Err(Memory),
+        Ok(names) => add_each(answer, &names),
+        Err(NameFault::Names) => answer.add(b"!"),
+        Err(NameFault::Memory) => return Err(Memory),
     }
+    Ok(())
 }
 
-fn together_in(alloc: Global, names: &Names) -> Result<Text, Memory> {
-    let mut answer = Answer::new(alloc);
+fn add_each(answer: &mut Answer, names: &Names) {
     for name in names.as_slice() {
         answer.add(name.as_bytes());
     }
-    answer.end()
 }

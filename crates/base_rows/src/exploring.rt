@@ -5,8 +5,8 @@ mod rising;
 
 ghost use Rattle.std.specs.Prelude.{◌<◌};
 
-use crate::words::{count, counts, part, rest, two_counts};
-use aut_base::{Memory, Numbers, Text};
+use crate::words::{count, part, rest, two_counts};
+use aut_base::{Memory, Numbers};
 use doubling::{Doubling, Number};
 use exploration::{Explored, Fault, Limits, explore};
 use rising::Rising;
@@ -14,30 +14,23 @@ use row_files::Answer;
 use std::alloc::Global;
 use std::hash::Hash;
 
-/// How an exploration ended: with so many states and edges, or at a limit.
-#[derive(Clone, Copy)]
-enum Outcome {
-    Found { states: usize, edges: usize },
-    Met(Fault),
-}
-
 /// From `BOUND; STATES CLASSES`: how the exploration of the doubled numbers from 1 ends.
-pub(crate) fn doubled(alloc: Global, line: &str) -> Result<Text, Memory> {
+pub(crate) fn add_doubled(alloc: Global, answer: &mut Answer, line: &str) -> Result<(), Memory> {
     let mut system = Doubling {
         bound: count(part(line, 0)),
         made: Numbers::new(alloc),
     };
-    let limits = limits(rest(line));
-    let found = explore(alloc, &mut system, Number { n: 1 }, limits);
-    shown(alloc, outcome_of(found))
+    let found = explore(alloc, &mut system, Number { n: 1 }, limits(rest(line)));
+    add_end(answer, &found);
+    Ok(())
 }
 
 /// From `STATES CLASSES`: how the exploration from the list of 1 and 2 ends.
-pub(crate) fn risen(alloc: Global, line: &str) -> Result<Text, Memory> {
-    let start = counts(alloc, "1 2")?;
-    let mut system = Rising { steps: 0 };
-    let found = explore(alloc, &mut system, start, limits(line));
-    shown(alloc, outcome_of(found))
+pub(crate) fn add_risen(alloc: Global, answer: &mut Answer, line: &str) -> Result<(), Memory> {
+    let start = Numbers::from_vec(Vec::from_slice(alloc, &[1, 2])?);
+    let found = explore(alloc, &mut Rising { steps: 0 }, start, limits(line));
+    add_end(answer, &found);
+    Ok(())
 }
 
 /// The limits of states, which is not 0, and of classes.
@@ -51,23 +44,21 @@ fn limits(words: &str) -> Limits
     }
 }
 
-fn outcome_of<T: Eq + Hash + Drop, C: Copy, N: Copy>(
-    found: Result<Explored<T, C, N>, Fault>,
-) -> Outcome {
+/// Adds how an exploration ended: with so many states and edges, or at a limit.
+fn add_end<T: Eq + Hash + Drop, C: Copy, N: Copy>(
+    answer: &mut Answer,
+    found: &Result<Explored<T, C, N>, Fault>,
+) {
     match found {
-        Ok(found) => Outcome::Found {
-            states: found.states.len(),
-            edges: found.edges.len(),
-        },
-        Err(fault) => Outcome::Met(fault),
+        Ok(found) => {
+            answer.add_number(found.states.len() as u64);
+            answer.add(b" states, ");
+            answer.add_number(found.edges.len() as u64);
+            answer.add(b" edges");
+        }
+        Err(Fault::States) => answer.add(b"limit States"),
+        Err(Fault::Classes) => answer.add(b"limit Classes"),
+        Err(Fault::StepFailed) => answer.add(b"limit StepFailed"),
+        Err(Fault::Memory) => answer.add(b"limit Memory"),
     }
-}
-
-fn shown(alloc: Global, outcome: Outcome) -> Result<Text, Memory> {
-    let mut answer = Answer::new(alloc);
-    answer.add_words(match outcome {
-        Outcome::Found { states, edges } => format!(in alloc; "{states} states, {edges} edges"),
-        Outcome::Met(fault) => format!(in alloc; "limit {fault:?}"),
-    });
-    answer.end()
 }

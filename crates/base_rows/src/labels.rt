@@ -9,34 +9,40 @@ use std::alloc::Global;
 pub(crate) fn label(alloc: Global, text: &str) -> Result<Label, Memory> {
     let mut parts = Vec::new(alloc);
     for word in text.split(' ') {
-        let part = written(alloc, word, &mut parts)?;
-        parts.push(part)?;
+        add_part(alloc, &mut parts, word)?;
     }
     Ok(last(&mut parts))
 }
 
-fn written(alloc: Global, word: &str, parts: &mut Vec<Label>) -> Result<Label, Memory> {
+/// Adds the part of a word, which takes its own parts off.
+fn add_part(alloc: Global, parts: &mut Vec<Label>, word: &str) -> Result<(), Memory> {
+    let part = written(alloc, parts, word)?;
+    parts.push(part)?;
+    Ok(())
+}
+
+fn written(alloc: Global, parts: &mut Vec<Label>, word: &str) -> Result<Label, Memory> {
     match word {
         "t" => Ok(Label::True),
         "f" => Ok(Label::False),
         "!" => Ok(Label::Not(Box::new(alloc, last(parts))?)),
-        "&" => Ok(Label::And(Box::new(alloc, last_two(alloc, parts))?)),
-        "|" => Ok(Label::Or(Box::new(alloc, last_two(alloc, parts))?)),
-        "&&" => Ok(Label::And(Box::new(alloc, last_three(alloc, parts)?)?)),
-        "||" => Ok(Label::Or(Box::new(alloc, last_three(alloc, parts)?)?)),
+        "&" => Ok(Label::And(last_two(alloc, parts)?)),
+        "|" => Ok(Label::Or(last_two(alloc, parts)?)),
+        "&&" => Ok(Label::And(last_three(alloc, parts)?)),
+        "||" => Ok(Label::Or(last_three(alloc, parts)?)),
         _ => Ok(Label::Prop(count(word))),
     }
 }
 
-fn last_two(alloc: Global, parts: &mut Vec<Label>) -> Labels {
+fn last_two(alloc: Global, parts: &mut Vec<Label>) -> Result<Box<Labels>, Memory> {
     let second = last(parts);
     let first = last(parts);
-    Labels::pair(alloc, first, second)
+    Ok(Box::new(alloc, Labels::pair(alloc, first, second))?)
 }
 
-fn last_three(alloc: Global, parts: &mut Vec<Label>) -> Result<Labels, Memory> {
+fn last_three(alloc: Global, parts: &mut Vec<Label>) -> Result<Box<Labels>, Memory> {
     let third = last(parts);
-    let mut all = last_two(alloc, parts);
+    let mut all = last_two(alloc, parts)?;
     all.push(third)?;
     Ok(all)
 }

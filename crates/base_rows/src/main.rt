@@ -13,8 +13,9 @@ mod values;
 mod words;
 
 use aut_base::{Memory, Text};
-use graphs::large::{Shape, explored};
-use row_files::{Answers, Count, Fault, Stop, ask};
+use forms::Call;
+use graphs::arcs::Source;
+use row_files::{Answer, Answers, Count, Fault, Stop, ask};
 use std::alloc::Global;
 
 /// The files of rows, in the folder where the program runs.
@@ -44,59 +45,71 @@ struct Base;
 impl Answers for Base {
     fn answer(&self, rt: &HostRuntime, call: &str, text: &Text) -> Result<Text, Fault> {
         let line = std::str::from_utf8(text.as_bytes()).unwrap_or("");
-        answer(rt.alloc(), call, line.trim_end())
+        let mut answer = Answer::new(rt.alloc());
+        add_answer(rt.alloc(), &mut answer, call, line.trim_end())?;
+        Ok(answer.end()?)
     }
 }
 
-fn answer(alloc: Global, call: &str, line: &str) -> Result<Text, Fault> {
+/// Adds what a call answers of a line.
+fn add_answer(alloc: Global, answer: &mut Answer, call: &str, line: &str) -> Result<(), Fault> {
     match call {
-        "met_by" => values::met_by(alloc, line),
-        "dual" => forms::made(alloc, forms::Call::Dual, line),
-        "shift" => forms::made(alloc, forms::Call::Shift, line),
-        "of_terms" => forms::made(alloc, forms::Call::Spread, line),
-        "conj" => forms::made(alloc, forms::Call::Conj, line),
-        "disj" => forms::made(alloc, forms::Call::Disj, line),
-        "has_fin" => forms::has_fin(alloc, line),
-        "empty_meets" => forms::empty_meets(alloc, line),
-        "terms_count" => forms::terms_count(alloc, line),
-        "disjuncts" => forms::disjuncts(alloc, line),
-        "is_deterministic, is_complete" => automata::judged(alloc, line),
-        "over" => automata::over(alloc, line),
-        _ => Ok(answer_of_lower(alloc, call, line)?),
+        "met_by" => values::add_met_by(alloc, answer, line),
+        "dual" => forms::add_made(alloc, answer, Call::Dual, line),
+        "shift" => forms::add_made(alloc, answer, Call::Shift, line),
+        "of_terms" => forms::add_made(alloc, answer, Call::Spread, line),
+        "conj" => forms::add_made(alloc, answer, Call::Conj, line),
+        "disj" => forms::add_made(alloc, answer, Call::Disj, line),
+        "has_fin" | "empty_meets" | "terms_count" | "disjuncts" => {
+            forms::add_told(alloc, answer, call, line)
+        }
+        "is_deterministic, is_complete" => automata::add_verdict(alloc, answer, line),
+        "over" => automata::add_over(alloc, answer, line),
+        _ => Ok(add_answer_of_lower(alloc, answer, call, line)?),
     }
 }
 
 /// The calls whose rows have no condition.
-fn answer_of_lower(alloc: Global, call: &str, line: &str) -> Result<Text, Memory> {
+fn add_answer_of_lower(
+    alloc: Global,
+    answer: &mut Answer,
+    call: &str,
+    line: &str,
+) -> Result<(), Memory> {
     match call {
-        "holds" => values::holds(alloc, line),
-        "truth" => values::is_true(alloc, line),
-        "names" => values::count_names(alloc, line),
-        "position" => values::position(alloc, line),
-        "has" => values::has(alloc, line),
-        "source" => streams::source(alloc, line),
-        "sure source" => streams::sure_source(alloc, line),
-        "sink" => streams::sink(alloc, line),
-        "sure sink" => streams::sure_sink(alloc, line),
-        "parity_min_odd" => forms::parity_min_odd(alloc, line),
-        _ => answer_of_upper(alloc, call, line),
+        "holds" => values::add_holds(alloc, answer, line),
+        "truth" => values::add_label_truth(alloc, answer, line),
+        "names" | "position" | "has" => values::add_of_names(alloc, answer, call, line),
+        "source" => streams::add_source(alloc, answer, line),
+        "sure source" => streams::add_sure_source(alloc, answer, line),
+        "sink" => streams::add_sink(alloc, answer, line),
+        "sure sink" => streams::add_sure_sink(answer, line),
+        "parity_min_odd" => forms::add_parity(alloc, answer, line),
+        _ => add_answer_of_upper(alloc, answer, call, line),
     }
 }
 
-fn answer_of_upper(alloc: Global, call: &str, line: &str) -> Result<Text, Memory> {
+fn add_answer_of_upper(
+    alloc: Global,
+    answer: &mut Answer,
+    call: &str,
+    line: &str,
+) -> Result<(), Memory> {
     match call {
-        "reach" => graphs::reached(alloc, line),
-        "components" => graphs::numbered(alloc, line),
-        "path" => graphs::walked(alloc, line),
-        "path length" => graphs::length(alloc, line),
-        "line" => explored(alloc, Shape::Line, line),
-        "ring" => explored(alloc, Shape::Ring, line),
-        "comb" => explored(alloc, Shape::Comb, line),
-        "explore doubling" => exploring::doubled(alloc, line),
-        "explore rising" => exploring::risen(alloc, line),
-        "cubes" => guards::canonical(alloc, line),
-        "classes" => guards::divided(alloc, line),
-        "join_names" => automata::together(alloc, line),
-        _ => words::text(alloc, b"no such call"),
+        "reach" | "components" | "path" | "path length" => graphs::add_walk(
+            alloc, answer, call, line,
+        ),
+        "line" => graphs::add_large(alloc, answer, Source::Line, line),
+        "ring" => graphs::add_large(alloc, answer, Source::Ring, line),
+        "comb" => graphs::add_large(alloc, answer, Source::Comb, line),
+        "explore doubling" => exploring::add_doubled(alloc, answer, line),
+        "explore rising" => exploring::add_risen(alloc, answer, line),
+        "cubes" => guards::add_canonical(alloc, answer, line),
+        "classes" => guards::add_divided(alloc, answer, line),
+        "join_names" => automata::add_joined(alloc, answer, line),
+        _ => {
+            answer.add(b"no such call");
+            Ok(())
+        }
     }
 }

@@ -2,44 +2,55 @@
 
 ghost use Rattle.std.specs.Prelude.{◌≡◌, ℕ, List, IfOk, length};
 
-use crate::words::{count, counts, part, text};
-use aut_base::{Memory, Names, OpenFail, Text, Words};
+use crate::words::{count, part};
+use aut_base::{Memory, Names, Numbers, OpenFail, Text, Words};
 use aut_io::{Inputs, MemInputs, MemSink, Sink, SureInputs, SureSink};
 use row_files::Answer;
 use std::alloc::Global;
 
 /// From `SCRIPT; CALLS`: the answers of a source on which these calls fail.
-pub(crate) fn source(alloc: Global, line: &str) -> Result<Text, Memory> {
+pub(crate) fn add_source(alloc: Global, answer: &mut Answer, line: &str) -> Result<(), Memory> {
     let failing = counts(alloc, part(line, 1))?;
     let (names, texts) = two_texts(alloc)?;
-    play(
-        alloc,
-        &mut MemInputs::new(names, texts, failing),
-        part(line, 0),
-    )
+    let mut inputs = MemInputs::new(names, texts, failing);
+    play(alloc, answer, &mut inputs, part(line, 0))
 }
 
 /// The answers of a source that never fails.
-pub(crate) fn sure_source(alloc: Global, line: &str) -> Result<Text, Memory> {
+pub(crate) fn add_sure_source(
+    alloc: Global,
+    answer: &mut Answer,
+    line: &str,
+) -> Result<(), Memory> {
     let (names, texts) = two_texts(alloc)?;
-    play(alloc, &mut SureInputs::new(names, texts), line)
+    play(alloc, answer, &mut SureInputs::new(names, texts), line)
 }
 
 /// From `PIECES; CAPACITY; WRITES`: the answers of a sink of this capacity on which these writes fail, and what it holds
 /// then.
-pub(crate) fn sink(alloc: Global, line: &str) -> Result<Text, Memory> {
+pub(crate) fn add_sink(alloc: Global, answer: &mut Answer, line: &str) -> Result<(), Memory> {
     let failing = counts(alloc, part(line, 2))?;
     let mut sink = MemSink::new(alloc, count(part(line, 1)), failing)?;
-    let mut answer = write_all(alloc, &mut sink, part(line, 0));
-    answer.add(b" <");
-    answer.add(sink.bytes());
-    answer.add(b">");
-    answer.end()
+    write_all(answer, &mut sink, part(line, 0));
+    answer.add_text(sink.bytes());
+    Ok(())
 }
 
 /// The answers of a sink that never fails.
-pub(crate) fn sure_sink(alloc: Global, line: &str) -> Result<Text, Memory> {
-    write_all(alloc, &mut SureSink::new(), line).end()
+pub(crate) fn add_sure_sink(answer: &mut Answer, line: &str) -> Result<(), Memory> {
+    write_all(answer, &mut SureSink::new(), line);
+    Ok(())
+}
+
+/// Numbers separated by spaces, or none for `-`.
+fn counts(alloc: Global, words: &str) -> Result<Numbers, Memory> {
+    let mut list = Numbers::new(alloc);
+    if words != "-" {
+        for word in words.split(' ') {
+            list.push(count(word))?;
+        }
+    }
+    Ok(list)
 }
 
 /// The text "xy" under the name "a", and "z" under "b".
@@ -63,25 +74,30 @@ fn two_words(alloc: Global) -> Result<Words, Memory>
     ensures { IfOk result (λ words. length words ≡ 2) }
 {
     let mut words = Words::new(alloc);
-    words.push(text(alloc, b"xy")?)?;
-    words.push(text(alloc, b"z")?)?;
+    words.push(Text::from_bytes(alloc, b"xy")?)?;
+    words.push(Text::from_bytes(alloc, b"z")?)?;
     Ok(words)
 }
 
-/// Makes the calls of a script and writes their answers: `n` reads, and any other letter opens the text of that name. The
+/// Makes the calls of a script and adds their answers: `n` reads, and any other letter opens the text of that name. The
 /// answers are `-` for a failed call, `+` for a text that was opened, `.` for the end of the text, and else the byte.
-fn play<I: Inputs>(alloc: Global, inputs: &mut I, script: &str) -> Result<Text, Memory>
+fn play<I: Inputs>(
+    alloc: Global,
+    answer: &mut Answer,
+    inputs: &mut I,
+    script: &str,
+) -> Result<(), Memory>
     requires { (name : List ℕ) → I.may_open name }
 {
-    let mut answers = Answer::new(alloc);
-    for letter in script.bytes() {
-        if letter == b'n' {
-            answers.add(&[read(inputs)]);
+    for letter in script.as_bytes() {
+        let told = if *letter == b'n' {
+            read(inputs)
         } else {
-            answers.add(&[open(alloc, inputs, letter)?]);
-        }
+            open(alloc, inputs, *letter)?
+        };
+        answer.add(&[told]);
     }
-    answers.end()
+    Ok(())
 }
 
 fn read<I: Inputs>(inputs: &mut I) -> u8 {
@@ -95,7 +111,7 @@ fn read<I: Inputs>(inputs: &mut I) -> u8 {
 fn open<I: Inputs>(alloc: Global, inputs: &mut I, letter: u8) -> Result<u8, Memory>
     requires { (name : List ℕ) → I.may_open name }
 {
-    let name = text(alloc, &[letter])?;
+    let name = Text::from_bytes(alloc, &[letter])?;
     match inputs.open(&name) {
         Ok(()) => Ok(b'+'),
         Err(OpenFail::Failed) => Ok(b'-'),
@@ -104,11 +120,9 @@ fn open<I: Inputs>(alloc: Global, inputs: &mut I, letter: u8) -> Result<u8, Memo
 }
 
 /// Writes the pieces, which are separated by commas. The answers are `+` where all was written, and `-` for a failed write.
-fn write_all<S: Sink>(alloc: Global, sink: &mut S, pieces: &str) -> Answer {
-    let mut answers = Answer::new(alloc);
+fn write_all<S: Sink>(answer: &mut Answer, sink: &mut S, pieces: &str) {
     for piece in pieces.split(',') {
         let is_written = sink.write(piece.as_bytes()).is_ok();
-        answers.add(if is_written { b"+" } else { b"-" });
+        answer.add(if is_written { b"+" } else { b"-" });
     }
-    answers
 }

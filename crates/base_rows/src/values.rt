@@ -1,106 +1,109 @@
 //! Calls of `aut_base` on conditions, labels and letters of rows.
 
 use crate::labels::label;
-use crate::words::{count, digits, part, rest, text, truth};
-use aut_base::{Letter, Marks, Memory, Names, Text};
-use row_files::{Fault, read_condition};
+use crate::words::{add_truth, count, part, rest};
+use aut_base::{Formula, Label, Letter, Marks, Memory, Names, Text};
+use row_automata::marks;
+use row_files::{Answer, Fault, read_condition};
 use std::alloc::Global;
 
 /// From `CONDITION; EDGE; EDGE..`: whether the cycle of these edges meets the condition.
-pub(crate) fn met_by(alloc: Global, line: &str) -> Result<Text, Fault> {
+pub(crate) fn add_met_by(alloc: Global, answer: &mut Answer, line: &str) -> Result<(), Fault> {
+    let formula = read_condition(alloc, part(line, 0))?;
+    add_truth(answer, is_met_by(alloc, &formula, rest(line))?);
+    Ok(())
+}
+
+fn is_met_by(alloc: Global, formula: &Formula, edges: &str) -> Result<bool, Memory> {
     let mut cycle = Vec::new(alloc);
-    for edge in rest(line).split("; ") {
-        cycle.push(marks(alloc, edge)?)?;
+    for edge in edges.split("; ") {
+        cycle.push(marks(alloc, bits(edge))?)?;
     }
-    Ok(truth(alloc, is_met(alloc, part(line, 0), &cycle)?)?)
+    is_met(alloc, formula, &cycle)
 }
 
 /// Whether the cycle meets the condition, by a copy of it.
-fn is_met(alloc: Global, condition: &str, cycle: &[Marks]) -> Result<bool, Fault> {
-    let formula = read_condition(alloc, condition)?;
+fn is_met(alloc: Global, formula: &Formula, cycle: &[Marks]) -> Result<bool, Memory> {
     if cycle.is_empty() {
         return Ok(false);
     }
     Ok(formula.copy(alloc)?.met_by(cycle))
 }
 
-/// The marks of an edge, in order and separated by commas, or none for `-`.
-fn marks(alloc: Global, words: &str) -> Result<Marks, Memory> {
-    let mut marks = Marks::new(alloc);
+/// The marks of an edge as bits: numbers separated by commas, or none for `-`.
+fn bits(words: &str) -> u32 {
     if words == "-" {
-        return Ok(marks);
+        return 0;
     }
+    let mut bits = 0;
     for word in words.split(',') {
-        let mark = count(word);
-        if marks.are_below(mark) {
-            marks.push(mark)?;
-        }
+        bits |= 1u32 << count(word).min(31);
     }
-    Ok(marks)
+    bits
 }
 
-/// The letter in which the propositions of these names hold, of one byte each, or none for `-`.
-fn letter(alloc: Global, names: &str) -> Result<Letter, Memory> {
+/// The letter in which the propositions of these names hold, of one byte each. `-` is no name.
+pub(crate) fn letter(alloc: Global, names: &[u8]) -> Result<Letter, Memory> {
     let mut letter = Letter::new(alloc);
-    if names == "-" {
-        return Ok(letter);
-    }
-    for name in names.bytes() {
-        letter.add(text(alloc, &[name])?)?;
+    for name in names {
+        if *name != b'-' {
+            letter.add(Text::from_bytes(alloc, &[*name])?)?;
+        }
     }
     Ok(letter)
 }
 
 /// From `LABEL; NAMES; LETTER`: whether the label holds at the letter.
-pub(crate) fn holds(alloc: Global, line: &str) -> Result<Text, Memory> {
-    let known = letter(alloc, part(line, 1))?;
-    let at = letter(alloc, part(line, 2))?;
-    truth(alloc, holds_at(alloc, part(line, 0), known.names(), &at)?)
+pub(crate) fn add_holds(alloc: Global, answer: &mut Answer, line: &str) -> Result<(), Memory> {
+    let label = label(alloc, part(line, 0))?;
+    let known = letter(alloc, part(line, 1).as_bytes())?;
+    let names = known.names();
+    add_truth(answer, holds_at(alloc, &label, names, part(line, 2))?);
+    Ok(())
 }
 
-fn holds_at(alloc: Global, written: &str, names: &Names, at: &Letter) -> Result<bool, Memory> {
-    let label = label(alloc, written)?;
-    Ok(label.is_below(names.len()) && label.holds(names, at))
+fn holds_at(alloc: Global, label: &Label, names: &Names, at: &str) -> Result<bool, Memory> {
+    let at = letter(alloc, at.as_bytes())?;
+    Ok(label.is_below(names.len()) && label.holds(names, &at))
 }
 
-/// From `LABEL; DIGITS`: whether the label is true, where each digit is the truth of a proposition.
-pub(crate) fn is_true(alloc: Global, line: &str) -> Result<Text, Memory> {
-    let digits = part(line, 1);
-    let on: Vec<bool> = digits.bytes().map(|digit| digit == b'1').collect(alloc)?;
-    truth(alloc, is_true_on(alloc, part(line, 0), &on)?)
+/// From `LABEL; DIGITS`: whether the label is true, where each of two digits is the truth of a proposition.
+pub(crate) fn add_label_truth(
+    alloc: Global,
+    answer: &mut Answer,
+    line: &str,
+) -> Result<(), Memory> {
+    let digits = part(line, 1).as_bytes();
+    let on = [digits.first() == Some(&b'1'), digits.get(1) == Some(&b'1')];
+    let label = label(alloc, part(line, 0))?;
+    add_truth(answer, label.is_below(on.len()) && label.truth(&on));
+    Ok(())
 }
 
-fn is_true_on(alloc: Global, written: &str, on: &[bool]) -> Result<bool, Memory> {
-    let label = label(alloc, written)?;
-    Ok(label.is_below(on.len()) && label.truth(on))
-}
-
-/// How many names a letter has.
-pub(crate) fn count_names(alloc: Global, line: &str) -> Result<Text, Memory> {
-    digits(alloc, letter(alloc, line)?.names().len() as u64)
-}
-
-/// From `LETTER; NAME`: the index of the name in the letter, or `none`.
-pub(crate) fn position(alloc: Global, line: &str) -> Result<Text, Memory> {
-    let letter = letter(alloc, part(line, 0))?;
-    let name = text(alloc, part(line, 1).as_bytes())?;
-    match place_in(letter.names(), &name) {
-        Some(place) => digits(alloc, u64::from(place)),
-        None => text(alloc, b"none"),
+/// From `LETTER; NAME`: how many names the letter has, whether it has the name, or the name's index.
+pub(crate) fn add_of_names(
+    alloc: Global,
+    answer: &mut Answer,
+    call: &str,
+    line: &str,
+) -> Result<(), Memory> {
+    let letter = letter(alloc, part(line, 0).as_bytes())?;
+    let name = Text::from_bytes(alloc, part(line, 1).as_bytes())?;
+    match call {
+        "names" => answer.add_number(letter.names().len() as u64),
+        "has" => add_truth(answer, letter.has(&name)),
+        _ => add_position(answer, letter.names(), &name),
     }
+    Ok(())
 }
 
-/// The index of a name among a few.
-fn place_in(names: &Names, name: &Text) -> Option<u32> {
+/// Adds the index of a name among a few, or `none`.
+fn add_position(answer: &mut Answer, names: &Names, name: &Text) {
     if names.len() > 100 {
-        return None;
+        return;
     }
-    names.position(name)
-}
-
-/// From `LETTER; NAME`: whether the letter has the name.
-pub(crate) fn has(alloc: Global, line: &str) -> Result<Text, Memory> {
-    let letter = letter(alloc, part(line, 0))?;
-    let name = text(alloc, part(line, 1).as_bytes())?;
-    truth(alloc, letter.has(&name))
+    match names.position(name) {
+        Some(place) => answer.add_number(u64::from(place)),
+        None => answer.add(b"none"),
+    }
 }

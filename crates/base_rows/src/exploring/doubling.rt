@@ -59,11 +59,11 @@ impl TransitionSystem for Doubling {
         if most < 2 {
             return Ok(None);
         }
-        let mut classes = Vec::new(alloc);
-        classes.push(self.made.len())?;
+        let first = self.made.len();
         self.made.push(0)?;
-        classes.push(self.made.len())?;
+        let second = self.made.len();
         self.made.push(1)?;
+        let classes = Vec::from_slice(alloc, &[first, second])?;
         Ok(Some(classes))
     }
 

@@ -1,110 +1,83 @@
 //! Compares what the calls make of a condition with the truth that it should have.
 
-use crate::forms::calls::{
-    RAISED, both, either, holds_without_marks, opposite, raised, spread, terms, terms_counted,
-};
-use crate::forms::holds::truths;
-use crate::forms::shown;
+use crate::forms::calls::{Call, RAISED, made, terms_made};
+use crate::forms::truths::{Cycles, truths};
+use acc_forms::{empty_meets, terms_count};
 use aut_base::{Formula, Memory};
 use row_automata::{ALL_CONDITIONS, condition};
-use row_files::{Count, Fault, read_condition};
+use row_files::{Answer, Count, Fault, read_condition, show_condition};
 use std::alloc::Global;
+
+/// With which conditions each one is joined.
+const OTHERS: [&str; 4] = ["t", "f", "I0,F1,&", "I!0,F0,|"];
 
 /// Counts all small conditions, and those on which a call is wrong.
 pub(crate) fn count_all(rt: &HostRuntime, count: &mut Count) -> Result<(), Fault> {
     for number in 0..ALL_CONDITIONS {
         let formula = condition(rt.alloc(), number)?;
-        count.take(rt, different(rt.alloc(), &formula)?)?;
+        count_one(rt, &formula, count)?;
     }
     Ok(())
 }
 
-/// The text of the condition, if a call is wrong on it.
-fn different(alloc: Global, formula: &Formula) -> Result<Option<String>, Fault> {
-    if is_right(alloc, formula)? {
-        return Ok(None);
+fn count_one(rt: &HostRuntime, formula: &Formula, count: &mut Count) -> Result<(), Fault> {
+    if is_right(rt.alloc(), formula)? && is_joined_rightly(rt.alloc(), formula)? {
+        return count.take(rt, None);
     }
-    let text = shown(alloc, formula)?;
-    let text = std::str::from_utf8(text.as_bytes()).unwrap_or("(no text)");
-    Ok(Some(format!(in alloc; "condition {text}")?))
+    let text = told(rt.alloc(), formula)?;
+    count.take(rt, Some(text))
 }
 
-/// Whether every call on the condition is right.
-fn is_right(alloc: Global, formula: &Formula) -> Result<bool, Fault> {
-    let own = truths(alloc, formula, 0)?;
-    if own.first() != Some(&holds_without_marks(formula)) {
-        return Ok(false);
-    }
+/// The text of a condition on which a call is wrong.
+fn told(alloc: Global, formula: &Formula) -> Result<String, Fault> {
+    let mut told = Answer::new(alloc);
+    told.add(b"condition ");
+    show_condition(&mut told, formula);
+    Ok(String::from_utf8_lossy(alloc, told.end()?.as_bytes())?)
+}
+
+/// Whether every call on the condition alone is right.
+fn is_right(alloc: Global, f: &Formula) -> Result<bool, Memory> {
+    let own = truths(f, 0);
+    // The edges of the first cycle are in no set.
+    let is_empty_right = empty_meets(f) == (own % 2 == 1);
+    let is_counted_rightly = terms_made(alloc, f)? == Some(terms_count(f));
     Ok(
-        is_turned_rightly(alloc, formula, &own)?
-            && is_raised_rightly(alloc, formula, &own)?
-            && is_spread_rightly(alloc, formula, &own)?
-            && is_joined_rightly(alloc, formula, &own)?,
+        is_empty_right
+            && is_counted_rightly
+            && truths_of_made(alloc, Call::Dual, f, f, 0)? == !own
+            && truths_of_made(alloc, Call::Shift, f, f, RAISED)? == own
+            && truths_of_made(alloc, Call::Spread, f, f, 0)? == own,
     )
 }
 
-fn is_turned_rightly(alloc: Global, formula: &Formula, own: &[bool]) -> Result<bool, Memory> {
-    let opposites = truths(alloc, &opposite(alloc, formula)?, 0)?;
-    Ok(own.len() == opposites.len() && own.iter().zip(opposites.iter()).all(|(a, b)| *a != *b))
-}
-
-fn is_raised_rightly(alloc: Global, formula: &Formula, own: &[bool]) -> Result<bool, Memory> {
-    match raised(alloc, formula)? {
-        Some(higher) => Ok(truths(alloc, &higher, RAISED)?.as_slice() == own),
-        None => Ok(false),
-    }
-}
-
-fn is_spread_rightly(alloc: Global, formula: &Formula, own: &[bool]) -> Result<bool, Memory> {
-    let Some(found) = terms(alloc, formula)? else {
-        return Ok(false);
-    };
-    let truths = truths(alloc, &spread(alloc, &found)?, 0)?;
-    Ok(truths.as_slice() == own && found.len() as u64 == terms_counted(formula))
+/// The truths of what a call makes of the conditions.
+fn truths_of_made(
+    alloc: Global,
+    call: Call,
+    f: &Formula,
+    g: &Formula,
+    low: u32,
+) -> Result<Cycles, Memory> {
+    Ok(truths(&made(alloc, call, f, g)?, low))
 }
 
 /// Whether conjunctions and disjunctions with some other conditions have the right truth.
-fn is_joined_rightly(alloc: Global, formula: &Formula, own: &[bool]) -> Result<bool, Fault> {
-    let and = read_condition(alloc, "I0,F1,&")?;
-    let or = read_condition(alloc, "I!0,F0,|")?;
-    let others = [&Formula::True, &Formula::False, &and, &or];
-    Ok(are_joined_with_each(alloc, formula, own, &others)?)
-}
-
-fn are_joined_with_each(
-    alloc: Global,
-    formula: &Formula,
-    own: &[bool],
-    others: &[&Formula],
-) -> Result<bool, Memory> {
-    for other in others {
-        let all = truths_of_both(alloc, formula, other)?;
-        let some = truths_of_either(alloc, other, formula)?;
-        if !are_joined(own, &truths(alloc, other, 0)?, &all, &some) {
+fn is_joined_rightly(alloc: Global, formula: &Formula) -> Result<bool, Fault> {
+    for written in OTHERS {
+        let other = read_condition(alloc, written)?;
+        if !is_joined_with(alloc, formula, &other)? {
             return Ok(false);
         }
     }
     Ok(true)
 }
 
-fn truths_of_both(alloc: Global, f: &Formula, g: &Formula) -> Result<Vec<bool>, Memory> {
-    truths(alloc, &both(alloc, f, g)?, 0)
-}
-
-fn truths_of_either(alloc: Global, f: &Formula, g: &Formula) -> Result<Vec<bool>, Memory> {
-    truths(alloc, &either(alloc, f, g)?, 0)
-}
-
-fn are_joined(own: &[bool], others: &[bool], all: &[bool], some: &[bool]) -> bool {
-    if own.len() != others.len() || own.len() != all.len() || own.len() != some.len() {
-        return false;
-    }
-    for place in 0..own.len() {
-        if all[place] != (own[place] && others[place])
-            || some[place] != (own[place] || others[place])
-        {
-            return false;
-        }
-    }
-    true
+fn is_joined_with(alloc: Global, f: &Formula, g: &Formula) -> Result<bool, Memory> {
+    let own = truths(f, 0);
+    let other = truths(g, 0);
+    Ok(
+        truths_of_made(alloc, Call::Conj, f, g, 0)? == own & other
+            && truths_of_made(alloc, Call::Disj, g, f, 0)? == own | other,
+    )
 }

@@ -1,8 +1,12 @@
 //! The calls, with `None` where their preconditions fail. Each is in a function of its own, so that what compares their answers
 //! doesn't have to prove anything from their contracts.
 
+ghost use Rattle.std.specs.Bool.{OnTrue};
+ghost use Rattle.std.specs.Prelude.{◌<◌, All};
+
 use aut_base::{Label, Letter, Memory, Names, Numbers, Text};
 use label_guards::{Brought, Guard, GuardList, Guards};
+use row_files::Answer;
 use std::alloc::Global;
 
 /// The guard of a label, or `f` where it speaks of other propositions than the store.
@@ -13,25 +17,30 @@ pub(crate) fn of_label(store: &mut Guards, label: &Label) -> Result<Guard, Memor
     store.of_label(label)
 }
 
-pub(crate) fn and(store: &mut Guards, g: Guard, h: Guard) -> Result<Option<Guard>, Memory> {
+/// The calls that make a guard of two guards, or of the first.
+#[derive(Clone, Copy)]
+pub(crate) enum Join {
+    And,
+    Or,
+    Not,
+}
+
+/// What a call makes of two guards.
+pub(crate) fn joined(
+    store: &mut Guards,
+    join: Join,
+    g: Guard,
+    h: Guard,
+) -> Result<Option<Guard>, Memory> {
     if !store.has(g) || !store.has(h) {
         return Ok(None);
     }
-    Ok(Some(store.and(g, h)?))
-}
-
-pub(crate) fn or(store: &mut Guards, g: Guard, h: Guard) -> Result<Option<Guard>, Memory> {
-    if !store.has(g) || !store.has(h) {
-        return Ok(None);
-    }
-    Ok(Some(store.or(g, h)?))
-}
-
-pub(crate) fn not(store: &mut Guards, g: Guard) -> Result<Option<Guard>, Memory> {
-    if !store.has(g) {
-        return Ok(None);
-    }
-    Ok(Some(store.not(g)?))
+    let made = match join {
+        Join::And => store.and(g, h),
+        Join::Or => store.or(g, h),
+        Join::Not => store.not(g),
+    };
+    Ok(Some(made?))
 }
 
 pub(crate) fn fix(
@@ -47,7 +56,7 @@ pub(crate) fn fix(
     Ok(Some(store.fix(alloc, g, prop, value)?))
 }
 
-/// The guard of the other store, brought alone, first and then again.
+/// The guard of the other store, brought alone.
 pub(crate) fn bring(
     alloc: Global,
     store: &mut Guards,
@@ -55,33 +64,49 @@ pub(crate) fn bring(
     g: Guard,
     to: &Numbers,
 ) -> Result<Option<Guard>, Memory> {
-    if !other.has(g) || to.len() != other.names() as usize {
+    if !other.has(g) || to.len() != other.names() as usize || !are_below(to, store.names()) {
         return Ok(None);
     }
-    if !to.as_slice().iter().all(|place| *place < store.names()) {
+    Ok(Some(store.bring(alloc, other, g, to)?))
+}
+
+/// The guard of the other store, brought first and then again.
+pub(crate) fn bring_twice(
+    alloc: Global,
+    store: &mut Guards,
+    other: &Guards,
+    g: Guard,
+    to: &Numbers,
+) -> Result<Option<Guard>, Memory> {
+    if !other.has(g) || to.len() != other.names() as usize || !are_below(to, store.names()) {
         return Ok(None);
     }
-    let alone = store.bring(alloc, other, g, to)?;
     let mut brought = Brought::new(alloc);
     let first = store.bring_more(&mut brought, other, g, to)?;
     let again = store.bring_more(&mut brought, other, g, to)?;
-    Ok((first == alone && again == alone).then_some(alone))
+    Ok((first == again).then_some(first))
 }
 
-/// Whether the guard holds at the letter.
-pub(crate) fn holds(store: &Guards, names: &Names, g: Guard, letter: &Letter) -> Option<bool> {
+/// Whether all propositions are among so many.
+fn are_below(to: &Numbers, names: u32) -> bool
+    ensures { OnTrue result (All (λ place. place < names) to.now) }
+{
+    to.as_slice().iter().all(|place| *place < names)
+}
+
+/// Whether the guard holds at the letter, which has the valuation of this number. Both calls that say it have to agree.
+pub(crate) fn holds(
+    store: &Guards,
+    names: &Names,
+    g: Guard,
+    letter: &Letter,
+    number: u64,
+) -> Option<bool> {
     if !store.has(g) || names.len() != store.names() as usize {
         return None;
     }
-    Some(store.holds(names, g, letter))
-}
-
-/// Whether the guard is true on the valuation of this number.
-pub(crate) fn holds_at(store: &Guards, g: Guard, number: u64) -> Option<bool> {
-    if !store.has(g) {
-        return None;
-    }
-    Some(store.holds_at(g, number))
+    let holds = store.holds(names, g, letter);
+    (store.holds_at(g, number) == holds).then_some(holds)
 }
 
 /// The number of some valuation on which the guard is true, if there is one.
@@ -132,19 +157,23 @@ pub(crate) fn classes(
     store.classes(alloc, list, most)
 }
 
-/// The text of a guard, or none where the store doesn't have it.
-pub(crate) fn cubes(alloc: Global, store: &Guards, g: Guard) -> Result<Text, Memory> {
+/// Adds the text of a guard, if the store has it. Both calls that write it have to agree.
+pub(crate) fn add_cubes(
+    alloc: Global,
+    answer: &mut Answer,
+    store: &Guards,
+    g: Guard,
+) -> Result<(), Memory> {
     if !store.has(g) {
-        return Ok(Text::new(alloc));
+        return Ok(());
     }
-    store.cubes(alloc, g)
-}
-
-/// The same by the call that adds it to a text.
-pub(crate) fn push_cubes(alloc: Global, store: &Guards, g: Guard) -> Result<Text, Memory> {
-    let mut out = Text::new(alloc);
-    if store.has(g) {
-        store.push_cubes(alloc, &mut out, g)?;
+    let text = store.cubes(alloc, g)?;
+    let mut pushed = Text::new(alloc);
+    store.push_cubes(alloc, &mut pushed, g)?;
+    answer.add(text.as_bytes());
+    if pushed != text {
+        answer.add(b" and ");
+        answer.add(pushed.as_bytes());
     }
-    Ok(out)
+    Ok(())
 }

@@ -1,17 +1,19 @@
 //! Truth functions of a few propositions as guards, compared with their tables.
 
 use crate::guards::calls::{
-    and, bring, classes, fix, holds, holds_at, is_false, meeting, not, of_label, or, pick, same,
+    Join, bring, bring_twice, classes, fix, holds, is_false, joined, meeting, of_label, pick, same,
 };
 use crate::guards::tables::{
-    self, Table, bit, brought, fixed, is_letter, label, letter, names, negated,
+    self, Table, bit, brought, class_of, fixed, label, names_on, negated, valuations,
 };
-use aut_base::{Memory, Names, Numbers};
+use crate::values::letter;
+use aut_base::{Letter, Memory, Names, Numbers};
 use label_guards::{Guard, GuardList, Guards};
+use row_automata::named;
 use std::alloc::Global;
 
 /// To which propositions those of another store are brought, in three trials.
-const PLACES: [[u16; 3]; 3] = [[2, 0, 1], [1, 1, 0], [0, 1, 2]];
+const PLACES: [[u32; 3]; 3] = [[2, 0, 1], [1, 1, 0], [0, 1, 2]];
 
 /// A store, and the guards of the first functions, by their tables.
 #[derive(Drop)]
@@ -30,13 +32,18 @@ impl Functions {
             props,
             store: Guards::new(alloc, u32::from(props))?,
             guards: Vec::new(alloc),
-            names: names(alloc, props)?,
+            names: named(alloc, tables::names(props))?,
         };
         for table in 0..first {
-            let guard = functions.made(alloc, table)?;
-            functions.guards.push(guard)?;
+            functions.add(alloc, table)?;
         }
         Ok(functions)
+    }
+
+    fn add(&mut self, alloc: Global, table: Table) -> Result<(), Memory> {
+        let guard = self.made(alloc, table)?;
+        self.guards.push(guard)?;
+        Ok(())
     }
 
     /// The guard of a function, from a label.
@@ -55,62 +62,63 @@ impl Functions {
 
     /// Whether each call on this function alone is right, but for `bring`.
     pub(crate) fn is_right(&mut self, alloc: Global, table: Table) -> Result<bool, Memory> {
-        if !self.is_negated_rightly(alloc, table)? || !self.holds_rightly(alloc, table)? {
-            return Ok(false);
-        }
-        if !self.picks_rightly(alloc, table)? || !self.meets_rightly(alloc, table)? {
-            return Ok(false);
-        }
-        self.fixes_rightly(alloc, table)
+        let g = self.guard(alloc, table)?;
+        let negated = negated(table, self.props);
+        Ok(
+            is_false(&self.store, g) == Some(table == 0)
+                && self.meets_rightly(g, table)
+                && self.is_joined(alloc, Join::Not, g, g, negated)?
+                && self.holds_rightly(alloc, g, table)?
+                && self.picks_rightly(alloc, g, table)?
+                && self.fixes_rightly(alloc, g, table)?,
+        )
     }
 
-    fn is_negated_rightly(&mut self, alloc: Global, table: Table) -> Result<bool, Memory> {
-        let g = self.guard(alloc, table)?;
-        let opposite = not(&mut self.store, g)?;
-        let is_false = is_false(&self.store, g);
-        let wanted = self.guard(alloc, negated(table, self.props))?;
-        Ok(opposite == Some(wanted) && is_false == Some(table == 0))
-    }
-
-    fn holds_rightly(&mut self, alloc: Global, table: Table) -> Result<bool, Memory> {
-        let g = self.guard(alloc, table)?;
-        for valuation in 0..tables::valuations(self.props) {
-            let letter = letter(alloc, valuation, self.props)?;
-            let wanted = Some(bit(table, valuation));
-            if holds(&self.store, &self.names, g, &letter) != wanted
-                || holds_at(&self.store, g, u64::from(valuation)) != wanted
-            {
+    fn holds_rightly(&self, alloc: Global, g: Guard, table: Table) -> Result<bool, Memory> {
+        for valuation in 0..valuations(self.props) {
+            let letter = letter(alloc, &names_on(valuation))?;
+            let holds = holds(&self.store, &self.names, g, &letter, u64::from(valuation));
+            if holds != Some(bit(table, valuation)) {
                 return Ok(false);
             }
         }
         Ok(true)
     }
 
-    fn picks_rightly(&mut self, alloc: Global, table: Table) -> Result<bool, Memory> {
-        let g = self.guard(alloc, table)?;
+    fn picks_rightly(&self, alloc: Global, g: Guard, table: Table) -> Result<bool, Memory> {
         match pick(alloc, &self.store, &self.names, g)? {
-            Some(letter) if table != 0 => {
-                is_letter(alloc, &letter, table.trailing_zeros() as u16, self.props)
-            }
-            Some(_) => Ok(false),
-            None => Ok(table == 0),
-        }
-    }
-
-    fn meets_rightly(&mut self, alloc: Global, table: Table) -> Result<bool, Memory> {
-        let g = self.guard(alloc, table)?;
-        match meeting(&self.store, g) {
-            Some(number) => Ok(
-                number < u64::from(tables::valuations(self.props)) && bit(table, number as u16),
+            Some(letter) => Ok(
+                table != 0 && self.is_letter(&letter, table.trailing_zeros() as u16),
             ),
             None => Ok(table == 0),
         }
     }
 
-    fn fixes_rightly(&mut self, alloc: Global, table: Table) -> Result<bool, Memory> {
+    /// Whether a letter is that of this valuation.
+    fn is_letter(&self, letter: &Letter, valuation: u16) -> bool {
+        let mut place = 0u16;
+        for name in self.names.as_slice() {
+            if letter.has(name) != bit(valuation, place) {
+                return false;
+            }
+            place = place.saturating_add(1);
+        }
+        true
+    }
+
+    fn meets_rightly(&self, g: Guard, table: Table) -> bool {
+        match meeting(&self.store, g) {
+            Some(number) => {
+                number < u64::from(valuations(self.props)) && bit(table, number as u16)
+            }
+            None => table == 0,
+        }
+    }
+
+    fn fixes_rightly(&mut self, alloc: Global, g: Guard, table: Table) -> Result<bool, Memory> {
         for prop in 0..self.props {
-            if !self.is_fixed_rightly(alloc, table, prop, false)?
-                || !self.is_fixed_rightly(alloc, table, prop, true)?
+            if !self.is_fixed(alloc, g, table, prop, false)?
+                || !self.is_fixed(alloc, g, table, prop, true)?
             {
                 return Ok(false);
             }
@@ -118,17 +126,21 @@ impl Functions {
         Ok(true)
     }
 
-    fn is_fixed_rightly(
+    fn is_fixed(
         &mut self,
         alloc: Global,
+        g: Guard,
         table: Table,
         prop: u8,
         value: bool,
     ) -> Result<bool, Memory> {
-        let g = self.guard(alloc, table)?;
-        let guard = fix(alloc, &mut self.store, g, u32::from(prop), value)?;
-        let wanted = self.guard(alloc, fixed(table, self.props, prop, value))?;
-        Ok(guard == Some(wanted))
+        let made = fix(alloc, &mut self.store, g, u32::from(prop), value)?;
+        self.is_of(alloc, made, fixed(table, self.props, prop, value))
+    }
+
+    /// Whether a call made the guard of this function.
+    fn is_of(&mut self, alloc: Global, made: Option<Guard>, table: Table) -> Result<bool, Memory> {
+        Ok(made == Some(self.guard(alloc, table)?))
     }
 
     /// Whether the guard is right after it is brought from a copy of the store, where there are three propositions.
@@ -137,16 +149,29 @@ impl Functions {
         alloc: Global,
         table: Table,
     ) -> Result<bool, Memory> {
-        let g = self.guard(alloc, table)?;
         let other = self.store.copy(alloc)?;
         for to in PLACES {
-            let places = numbers(alloc, to)?;
-            let guard = bring(alloc, &mut self.store, &other, g, &places)?;
-            if guard != Some(self.guard(alloc, brought(table, to))?) {
+            if !self.is_brought(alloc, &other, table, to)? {
                 return Ok(false);
             }
         }
         Ok(true)
+    }
+
+    fn is_brought(
+        &mut self,
+        alloc: Global,
+        other: &Guards,
+        table: Table,
+        to: [u32; 3],
+    ) -> Result<bool, Memory> {
+        let g = self.guard(alloc, table)?;
+        let wanted = self.guard(alloc, brought(table, to))?;
+        let to = Numbers::from_vec(Vec::from_slice(alloc, &to)?);
+        Ok(
+            bring(alloc, &mut self.store, other, g, &to)? == Some(wanted)
+                && bring_twice(alloc, &mut self.store, other, g, &to)? == Some(wanted),
+        )
     }
 
     /// Whether conjunction, disjunction and comparison of two functions are right.
@@ -158,14 +183,23 @@ impl Functions {
     ) -> Result<bool, Memory> {
         let g = self.guard(alloc, first)?;
         let h = self.guard(alloc, second)?;
-        let both = and(&mut self.store, g, h)?;
-        let some = or(&mut self.store, g, h)?;
-        let is_same = same(&self.store, g, h);
         Ok(
-            both == Some(self.guard(alloc, first & second)?)
-                && some == Some(self.guard(alloc, first | second)?)
-                && is_same == Some(first == second),
+            same(&self.store, g, h) == Some(first == second)
+                && self.is_joined(alloc, Join::And, g, h, first & second)?
+                && self.is_joined(alloc, Join::Or, g, h, first | second)?,
         )
+    }
+
+    fn is_joined(
+        &mut self,
+        alloc: Global,
+        join: Join,
+        g: Guard,
+        h: Guard,
+        wanted: Table,
+    ) -> Result<bool, Memory> {
+        let made = joined(&mut self.store, join, g, h)?;
+        self.is_of(alloc, made, wanted)
     }
 
     /// Whether the classes of two functions are right, and are refused where the limit is one less.
@@ -175,30 +209,42 @@ impl Functions {
         first: Table,
         second: Table,
     ) -> Result<bool, Memory> {
-        let wanted = tables::classes(alloc, first, second, self.props)?;
-        let list = self.list(alloc, &[first, second])?;
-        let most = wanted.len().min(16) as u32;
-        let found = classes(alloc, &mut self.store, &list, most)?;
-        let fewer = classes(alloc, &mut self.store, &list, most.saturating_sub(1))?;
-        let wanted = self.list(alloc, &wanted)?;
-        Ok(found == Some(wanted) && fewer.is_none())
-    }
-
-    /// The guards of these functions.
-    fn list(&mut self, alloc: Global, tables: &[Table]) -> Result<GuardList, Memory> {
-        let mut list = GuardList::new(alloc);
-        for table in tables {
-            list.push(self.guard(alloc, *table)?)?;
+        let list = self.list(alloc, first, second)?;
+        let count = tables::count_classes(first, second, self.props);
+        if classes(alloc, &mut self.store, &list, count.saturating_sub(1))?.is_some() {
+            return Ok(false);
         }
-        Ok(list)
+        match classes(alloc, &mut self.store, &list, count)? {
+            Some(found) => self.are_classes(alloc, found.as_slice(), first, second),
+            None => Ok(false),
+        }
     }
-}
 
-/// The list of these numbers.
-fn numbers(alloc: Global, of: [u16; 3]) -> Result<Numbers, Memory> {
-    let mut numbers = Numbers::new(alloc);
-    for number in of {
-        numbers.push(u32::from(number))?;
+    /// The guards of two functions.
+    fn list(&mut self, alloc: Global, first: Table, second: Table) -> Result<GuardList, Memory> {
+        let g = self.guard(alloc, first)?;
+        let h = self.guard(alloc, second)?;
+        Ok(GuardList::from_vec(Vec::from_slice(alloc, &[g, h])?))
     }
-    Ok(numbers)
+
+    /// Whether these are the guards of the classes of two functions, by their least valuations.
+    fn are_classes(
+        &mut self,
+        alloc: Global,
+        found: &[Guard],
+        first: Table,
+        second: Table,
+    ) -> Result<bool, Memory> {
+        let mut place = 0usize;
+        for valuation in 0..valuations(self.props) {
+            let class = class_of(first, second, self.props, valuation);
+            if class != 0 {
+                if !self.is_of(alloc, found.get(place).copied(), class)? {
+                    return Ok(false);
+                }
+                place = place.saturating_add(1);
+            }
+        }
+        Ok(place == found.len())
+    }
 }

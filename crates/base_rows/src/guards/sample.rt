@@ -2,6 +2,7 @@
 
 use crate::guards::functions::Functions;
 use crate::guards::tables::Table;
+use crate::words::take;
 use aut_base::Memory;
 use row_files::{Count, Fault};
 use std::alloc::Global;
@@ -28,7 +29,7 @@ fn count_functions(
     for table in 0..256u16 {
         let is_right = functions.is_right(rt.alloc(), table)?
             && functions.is_brought_rightly(rt.alloc(), table)?;
-        take(rt, count, is_right, table, table)?;
+        take(rt, count, is_right, "functions", (table, table))?;
     }
     Ok(())
 }
@@ -42,7 +43,7 @@ fn count_pairs(
 ) -> Result<(), Fault> {
     for second in 0..256u16 {
         let is_right = is_pair_right(rt.alloc(), functions, first, second)?;
-        take(rt, count, is_right, first, second)?;
+        take(rt, count, is_right, "functions", (first, second))?;
     }
     Ok(())
 }
@@ -57,24 +58,9 @@ fn count_samples(rt: &HostRuntime, count: &mut Count) -> Result<(), Fault> {
         seed = second;
         let is_right = functions.is_right(rt.alloc(), first)?
             && is_pair_right(rt.alloc(), &mut functions, first, second)?;
-        take(rt, count, is_right, first, second)?;
+        take(rt, count, is_right, "functions", (first, second))?;
     }
     Ok(())
-}
-
-/// Counts a pair, and prints it where it isn't right.
-fn take(
-    rt: &HostRuntime,
-    count: &mut Count,
-    is_right: bool,
-    first: Table,
-    second: Table,
-) -> Result<(), Fault> {
-    if is_right {
-        return count.take(rt, None);
-    }
-    let text = format!(in rt.alloc(); "functions {first:b} {second:b}")?;
-    count.take(rt, Some(text))
 }
 
 /// The next number of a sequence that runs through all of 16 bits.

@@ -1,6 +1,6 @@
 //! Truth functions of a few propositions, by their tables, and operations on tables. Nothing here uses guards.
 
-use aut_base::{Label, Labels, Letter, Memory, Names, Text};
+use aut_base::{Label, Labels, Memory};
 use std::alloc::Global;
 
 /// A truth table: bit v is the truth on valuation v. Bit k of v is the truth of proposition k.
@@ -26,11 +26,7 @@ fn with(table: Table, valuation: u16, is_wanted: bool) -> Table {
 
 /// The negation.
 pub(crate) fn negated(of: Table, props: u8) -> Table {
-    let mut table = 0u16;
-    for valuation in 0..valuations(props) {
-        table = with(table, valuation, !bit(of, valuation));
-    }
-    table
+    !of & u16::MAX.wrapping_shr(16 - u32::from(valuations(props).min(16)))
 }
 
 /// The function with one proposition fixed to a value.
@@ -49,7 +45,7 @@ pub(crate) fn fixed(of: Table, props: u8, prop: u8, value: bool) -> Table {
 }
 
 /// The function with its three propositions renamed: proposition k becomes the one at index k of the list.
-pub(crate) fn brought(of: Table, to: [u16; 3]) -> Table {
+pub(crate) fn brought(of: Table, to: [u32; 3]) -> Table {
     let mut table = 0u16;
     for valuation in 0..8u16 {
         table = with(table, valuation, bit(of, before(valuation, to)));
@@ -58,40 +54,40 @@ pub(crate) fn brought(of: Table, to: [u16; 3]) -> Table {
 }
 
 /// The valuation of the propositions before the renaming.
-fn before(valuation: u16, to: [u16; 3]) -> u16 {
+fn before(valuation: u16, to: [u32; 3]) -> u16 {
     let mut before = 0u16;
-    for place in 0..3u16 {
-        before = with(before, place, bit(valuation, to[usize::from(place)]));
+    let mut place = 0u16;
+    for new in to {
+        before = with(before, place, valuation.wrapping_shr(new) % 2 == 1);
+        place = place.saturating_add(1);
     }
     before
 }
 
-/// The classes of valuations that two functions don't distinguish, by their least valuations.
-pub(crate) fn classes(
-    alloc: Global,
-    first: Table,
-    second: Table,
-    props: u8,
-) -> Result<Vec<Table>, Memory> {
-    let mut classes = Vec::new(alloc);
-    for valuation in 0..valuations(props) {
-        let class = class_of(first, second, props, valuation);
-        if class.trailing_zeros() == u32::from(valuation) {
-            classes.push(class)?;
-        }
-    }
-    Ok(classes)
-}
-
-/// The valuations on which both functions have the values that they have on this one.
-fn class_of(first: Table, second: Table, props: u8, valuation: u16) -> Table {
+/// The class of a valuation, if no lesser one is in it, and else no valuation. A class are the valuations on which both functions
+/// have the values that they have on this one.
+pub(crate) fn class_of(first: Table, second: Table, props: u8, valuation: u16) -> Table {
     let mut class = 0u16;
     for other in 0..valuations(props) {
         let is_alike = bit(first, other) == bit(first, valuation)
             && bit(second, other) == bit(second, valuation);
         class = with(class, other, is_alike);
     }
+    if class.trailing_zeros() < u32::from(valuation) {
+        return 0;
+    }
     class
+}
+
+/// The number of classes of valuations that two functions don't distinguish.
+pub(crate) fn count_classes(first: Table, second: Table, props: u8) -> u32 {
+    let mut count = 0u32;
+    for valuation in 0..valuations(props) {
+        if class_of(first, second, props, valuation) != 0 {
+            count = count.saturating_add(1);
+        }
+    }
+    count
 }
 
 /// A label with this table: a disjunction with one conjunction for each valuation on which it is true.
@@ -124,38 +120,23 @@ fn literal(valuation: u16, prop: u8) -> Label {
     Label::Negated(u32::from(prop))
 }
 
-/// The name of a proposition: `a`, `b` and so on.
-fn name(alloc: Global, prop: u8) -> Result<Text, Memory> {
-    Text::from_bytes(alloc, [b'a'.wrapping_add(prop)].as_slice())
-}
-
 /// The names in order.
-pub(crate) fn names(alloc: Global, props: u8) -> Result<Names, Memory> {
-    Ok(letter(alloc, u16::MAX, props)?.names().clone()?)
+pub(crate) fn names(props: u8) -> &'static [u8] {
+    if props < 4 {
+        return b"abc";
+    }
+    b"abcd"
 }
 
-/// The letter of a valuation.
-pub(crate) fn letter(alloc: Global, valuation: u16, props: u8) -> Result<Letter, Memory> {
-    let mut letter = Letter::new(alloc);
-    for prop in 0..props {
-        if bit(valuation, u16::from(prop)) {
-            letter.add(name(alloc, prop)?)?;
+/// The names of the propositions that hold, with `-` in place of each other one.
+pub(crate) fn names_on(valuation: u16) -> [u8; 4] {
+    let mut names = *b"abcd";
+    let mut place = 0u16;
+    for name in names.iter_mut() {
+        if !bit(valuation, place) {
+            *name = b'-';
         }
+        place = place.saturating_add(1);
     }
-    Ok(letter)
-}
-
-/// Whether a letter is that of this valuation.
-pub(crate) fn is_letter(
-    alloc: Global,
-    letter: &Letter,
-    valuation: u16,
-    props: u8,
-) -> Result<bool, Memory> {
-    for prop in 0..props {
-        if letter.has(&name(alloc, prop)?) != bit(valuation, u16::from(prop)) {
-            return Ok(false);
-        }
-    }
-    Ok(true)
+    names
 }
