@@ -1,9 +1,9 @@
 //! The call of a row.
 
-use crate::shown::show;
+use crate::shown::show_plan;
 use aut_base::{Memory, Text, Words};
-use filter_plan::{Plan, UsageFault, read_plan};
-use row_files::{Answers, Fault, add_escaped};
+use filter_plan::{UsageFault, read_plan};
+use row_files::{Answer, Answers, Fault, add_escaped};
 use std::alloc::Global;
 
 /// Answers with the plan of the words in the first line, without the beginning that the second line states.
@@ -17,18 +17,18 @@ impl Answers for Plans {
         }
         let lines = std::str::from_utf8(text.as_bytes()).unwrap_or("");
         let (line, front) = lines.split_once('\n').unwrap_or((lines, ""));
-        let words = words_of(rt.alloc(), line)?;
+        let mut words = Words::new(rt.alloc());
+        add_words(rt.alloc(), &mut words, line)?;
         Ok(answer(rt.alloc(), &words, front)?)
     }
 }
 
-/// The words of a line.
-fn words_of(alloc: Global, line: &str) -> Result<Words, Fault> {
-    let mut words = Words::new(alloc);
+/// Adds the words of a line.
+fn add_words(alloc: Global, words: &mut Words, line: &str) -> Result<(), Fault> {
     for word in line.split_whitespace() {
         words.push(word_of(alloc, word)?)?;
     }
-    Ok(words)
+    Ok(())
 }
 
 /// A word, with its escapes replaced.
@@ -40,23 +40,22 @@ fn word_of(alloc: Global, word: &str) -> Result<Text, Fault> {
 
 /// What follows this beginning of the outcome.
 fn answer(alloc: Global, words: &Words, front: &str) -> Result<Text, Memory> {
-    let outcome = outcome(alloc, words)?;
-    match outcome.as_bytes().strip_prefix(front.as_bytes()) {
-        Some(rest) => Text::from_bytes(alloc, rest),
-        None => Text::from_bytes(alloc, b"another beginning"),
-    }
+    let mut outcome = Answer::new(alloc);
+    add_outcome(alloc, &mut outcome, words)?;
+    rest(alloc, outcome.end()?.as_bytes(), front)
 }
 
-/// The outcome of reading the words, as text.
-fn outcome(alloc: Global, words: &Words) -> Result<Text, Memory> {
-    match plan_of(alloc, words) {
-        Ok(plan) => show(alloc, &plan),
-        Err(UsageFault::Usage) => Text::from_bytes(alloc, b"usage"),
-        Err(UsageFault::Memory) => Err(Memory),
-    }
+fn rest(alloc: Global, outcome: &[u8], front: &str) -> Result<Text, Memory> {
+    let rest = outcome.strip_prefix(front.as_bytes());
+    Text::from_bytes(alloc, rest.unwrap_or(b"another beginning"))
 }
 
-/// The plan of the words.
-fn plan_of(alloc: Global, words: &Words) -> Result<Plan, UsageFault> {
-    read_plan(alloc, words)
+/// Adds the outcome of reading the words.
+fn add_outcome(alloc: Global, outcome: &mut Answer, words: &Words) -> Result<(), Memory> {
+    match read_plan(alloc, words) {
+        Ok(plan) => show_plan(outcome, &plan),
+        Err(UsageFault::Usage) => outcome.add(b"usage"),
+        Err(UsageFault::Memory) => return Err(Memory),
+    }
+    Ok(())
 }

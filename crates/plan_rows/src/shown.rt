@@ -3,20 +3,11 @@
 use crate::values::{
     begin, show_count, show_file, show_hidden, show_output, show_pattern, show_range, show_text,
 };
-use aut_base::{Memory, Text};
 use filter_plan::{Form, Plan};
 use row_files::Answer;
-use std::alloc::Global;
 
-/// The text of the plan.
-pub(crate) fn show(alloc: Global, plan: &Plan) -> Result<Text, Memory> {
-    let mut answer = Answer::new(alloc);
-    show_plan(&mut answer, plan);
-    answer.end()
-}
-
-/// Adds all fields.
-fn show_plan(answer: &mut Answer, plan: &Plan) {
+/// Adds each field that differs.
+pub(crate) fn show_plan(answer: &mut Answer, plan: &Plan) {
     show_filters(answer, plan);
     show_ranges(answer, plan);
     show_operations(answer, plan);
