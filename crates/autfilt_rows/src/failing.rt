@@ -1,6 +1,5 @@
 //! Which calls of a run fail.
 
-use crate::ran::sink;
 use aut_base::{Memory, Numbers};
 use aut_io::MemSink;
 use row_files::{Fault, copied, number, numbers};
@@ -56,16 +55,16 @@ impl Failing {
     }
 
     /// The sink of the output.
-    pub(crate) fn output(&self, alloc: Global) -> Result<Box<MemSink>, Memory> {
-        sink(alloc, self.capacity, copied(alloc, &self.writes)?)
+    pub(crate) fn output(&self, alloc: Global) -> Result<MemSink, Memory> {
+        MemSink::new(alloc, self.capacity, copied(alloc, &self.writes)?)
     }
 
     /// The sink of notes. With `is_mute` its first write fails.
-    pub(crate) fn notes(&self, alloc: Global, is_mute: bool) -> Result<Box<MemSink>, Memory> {
+    pub(crate) fn notes(&self, alloc: Global, is_mute: bool) -> Result<MemSink, Memory> {
         let mut failing = copied(alloc, &self.notes)?;
         if is_mute {
             failing.push(0)?;
         }
-        sink(alloc, CAPACITY, failing)
+        MemSink::new(alloc, CAPACITY, failing)
     }
 }

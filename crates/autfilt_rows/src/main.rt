@@ -2,7 +2,6 @@
 #![tactic(auto)]
 
 mod failing;
-mod inputs;
 mod named;
 mod ran;
 mod row;
@@ -42,12 +41,7 @@ const FILES: [&str; 23] = [
 
 fn main(rt: HostRuntime) -> Result<(), Stop> {
     let mut count = Count::new();
-    run_files(&rt, &mut count)?;
+    run(&rt, &FILES, &mut CommandRow::new(rt.alloc()), &mut count)?;
     sure::count_all(&rt, &mut count)?;
     count.end(&rt)
-}
-
-fn run_files(rt: &HostRuntime, count: &mut Count) -> Result<(), Stop> {
-    let mut row = CommandRow::new(rt.alloc());
-    run(rt, &FILES, &mut row, count)
 }

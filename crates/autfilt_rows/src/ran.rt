@@ -1,59 +1,34 @@
 //! The outcome of a run.
 
-use aut_base::{Memory, Numbers, Words};
+use aut_base::Words;
 use aut_io::{Inputs, MemInputs, MemSink};
-use autfilt_run::{Ended, autfilt};
+use autfilt_run::autfilt;
+use row_files::Answer;
 use std::alloc::Global;
-use std::fmt;
 
 /// The status, what was written and noted, and how many bytes were left of the text that was opened.
-#[derive(Drop)]
-pub(crate) struct Ran {
+#[derive(Clone, Copy)]
+pub(crate) struct Ran<'a> {
     pub(crate) status: u8,
-    pub(crate) out: Box<MemSink>,
-    pub(crate) notes: Box<MemSink>,
+    pub(crate) out: &'a [u8],
+    pub(crate) notes: &'a [u8],
     pub(crate) left: u32,
 }
 
-/// The outcome of the command over these inputs and sinks.
-pub(crate) fn run_over(
-    alloc: Global,
-    words: &Words,
-    inputs: Box<MemInputs>,
-    out: Box<MemSink>,
-    notes: Box<MemSink>,
-) -> Result<Box<Ran>, Memory> {
-    let mut inputs = inputs;
-    let mut out = out;
-    let mut notes = notes;
-    let ended = ended(alloc, words, &mut inputs, &mut out, &mut notes);
-    let ran = Ran {
-        status: ended.status(),
-        out,
-        notes,
-        left: bytes_left(&mut inputs),
-    };
-    Ok(Box::new(alloc, ran)?)
-}
-
-/// A sink of this capacity, whose writes of these numbers fail.
-pub(crate) fn sink(alloc: Global, capacity: u32, failing: Numbers) -> Result<Box<MemSink>, Memory> {
-    Ok(Box::new(alloc, MemSink::new(alloc, capacity, failing)?)?)
-}
-
-/// Runs the command. It is a function of its own so that no other one has to deal with the command's contract.
-fn ended(
+/// Runs the command over these inputs and sinks, and answers with its status. It is a function of its own so that no other one has
+/// to deal with the command's contract.
+pub(crate) fn status(
     alloc: Global,
     words: &Words,
     inputs: &mut MemInputs,
     out: &mut MemSink,
     notes: &mut MemSink,
-) -> Ended {
-    autfilt(alloc, words, inputs, out, notes)
+) -> u8 {
+    autfilt(alloc, words, inputs, out, notes).status()
 }
 
 /// How many bytes are left of the open text. They are read for it, again after reads that fail.
-fn bytes_left(inputs: &mut MemInputs) -> u32 {
+pub(crate) fn bytes_left(inputs: &mut MemInputs) -> u32 {
     let mut left = 0u32;
     for _ in 0..u32::MAX {
         match inputs.next() {
@@ -65,33 +40,25 @@ fn bytes_left(inputs: &mut MemInputs) -> u32 {
     left
 }
 
-impl fmt::Display for Ran {
-    fn fmt<W: fmt::Write>(&self, f: &mut fmt::Formatter<W>) -> fmt::Result {
-        let status = self.status;
-        let left = self.left;
-        writeln!(f, "? {status}")?;
-        write_lines(f, ">", self.out.bytes())?;
-        write_lines(f, "!", self.notes.bytes())?;
-        writeln!(f, "left {left}")
-    }
+/// Adds the outcome, in the notation of rows.
+pub(crate) fn add_ran(shown: &mut Answer, ran: Ran) {
+    shown.add_count(b"?", u32::from(ran.status));
+    shown.add(b"\n");
+    add_lines(shown, b"> ", ran.out);
+    add_lines(shown, b"! ", ran.notes);
+    shown.add_count(b"left", ran.left);
+    shown.add(b"\n");
 }
 
-/// Writes the lines of a text, each with this mark before it, in the notation of rows.
-fn write_lines<W: fmt::Write>(f: &mut fmt::Formatter<W>, mark: &str, bytes: &[u8]) -> fmt::Result {
-    let text = shown(bytes);
+/// Adds the lines of a text, each with this mark before it.
+fn add_lines(shown: &mut Answer, mark: &[u8], bytes: &[u8]) {
+    let text = std::str::from_utf8(bytes).unwrap_or("(no plain text)");
     for line in text.lines() {
-        writeln!(f, "{mark} {line}")?;
+        shown.add(mark);
+        shown.add(line.as_bytes());
+        shown.add(b"\n");
     }
-    if text.is_empty() || text.ends_with('\n') {
-        return Ok(());
-    }
-    writeln!(f, "# without the last line feed")
-}
-
-/// The text of these bytes, if they are one.
-fn shown(bytes: &[u8]) -> &str {
-    match std::str::from_utf8(bytes) {
-        Ok(text) => text,
-        Err(_) => "(no plain text)",
+    if !text.is_empty() && !text.ends_with('\n') {
+        shown.add(b"# without the last line feed\n");
     }
 }

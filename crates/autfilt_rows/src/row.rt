@@ -2,12 +2,12 @@
 
 use crate::failing::Failing;
 use crate::named::NamedTexts;
-use crate::ran::{Ran, run_over};
+use crate::ran::{Ran, add_ran, bytes_left, status};
 use crate::runs::{Each, Runs};
 use crate::stated::Stated;
-use aut_base::{Memory, Text, Words};
-use aut_io::MemInputs;
-use row_files::{Fault, Row, add, add_escaped, kind_and_rest, number};
+use aut_base::{Text, Words};
+use aut_io::{MemInputs, MemSink};
+use row_files::{Answer, Fault, Row, add, add_escaped, kind_and_rest, number};
 use std::alloc::Global;
 
 /// The input of a run and the stated outcome, as far as the row's lines were read.
@@ -72,87 +72,81 @@ impl CommandRow {
         if self.stated.status.is_some() {
             return Err(Fault::Misplaced);
         }
-        for word in rest.split(' ') {
-            match self.stated.status {
-                None => self.stated.status = Some(status(word)?),
-                Some(_) => self.add_word(alloc, word)?,
+        let (status, words) = kind_and_rest(rest);
+        self.stated.status = Some(wanted(status)?);
+        if !words.is_empty() {
+            add_words(alloc, &mut self.words, words)?;
+        }
+        Ok(())
+    }
+
+    /// Adds the runs whose outcome is another than the stated one. Where a note is stated and the row doesn't say which writes of
+    /// notes fail, each run is made again with a failing first write of a note, which may change nothing else.
+    fn add_different(&self, alloc: Global, shown: &mut Answer) -> Result<(), Fault> {
+        for run in self.runs.first..=self.runs.last {
+            let is_met = self.is_met(alloc, shown, run, false)?;
+            if is_met && self.notes_freely() {
+                self.is_met(alloc, shown, run, true)?;
             }
         }
         Ok(())
     }
 
-    /// Adds a word.
-    fn add_word(&mut self, alloc: Global, word: &str) -> Result<(), Fault> {
-        self.words.push(unescaped(alloc, word)?)?;
-        Ok(())
+    /// Whether the run of this number has the stated outcome, which is else added to what is printed. With `is_mute` the first write
+    /// of a note fails.
+    fn is_met(
+        &self,
+        alloc: Global,
+        shown: &mut Answer,
+        run: u32,
+        is_mute: bool,
+    ) -> Result<bool, Fault> {
+        let mut out = self.failing.output(alloc)?;
+        let mut notes = self.failing.notes(alloc, is_mute)?;
+        let (status, left) = self.ran(alloc, run, &mut out, &mut notes)?;
+        let ran = Ran {
+            status,
+            out: out.bytes(),
+            notes: notes.bytes(),
+            left,
+        };
+        let is_met = self.stated.is_met(ran, is_mute);
+        if !is_met {
+            self.show(shown, run, is_mute, ran);
+        }
+        Ok(is_met)
     }
 
-    /// The outcome of the run of this number. With `is_mute` the first write of a note fails.
-    fn ran(&self, alloc: Global, run: u32, is_mute: bool) -> Result<Box<Ran>, Memory> {
-        let out = self.failing.output(alloc)?;
-        let notes = self.failing.notes(alloc, is_mute)?;
-        run_over(alloc, &self.words, self.inputs(alloc, run)?, out, notes)
+    /// The status of the run of this number over these sinks, and how many bytes it leaves.
+    fn ran(
+        &self,
+        alloc: Global,
+        run: u32,
+        out: &mut MemSink,
+        notes: &mut MemSink,
+    ) -> Result<(u8, u32), Fault> {
+        let mut inputs = self.inputs(alloc, run)?;
+        let status = status(alloc, &self.words, &mut inputs, out, notes);
+        Ok((status, bytes_left(&mut inputs)))
     }
 
     /// The inputs of the run of this number.
-    fn inputs(&self, alloc: Global, run: u32) -> Result<Box<MemInputs>, Memory> {
+    fn inputs(&self, alloc: Global, run: u32) -> Result<MemInputs, Fault> {
         let failing = self.failing.calls(alloc, self.runs.failing_call(run))?;
-        let texts = self.texts.fronts(alloc, self.runs.longest_front(run))?;
-        Ok(Box::new(alloc, texts.inputs(failing))?)
-    }
-
-    /// Adds the run of this number to what is printed, where its outcome is another than the stated one. Where a note is
-    /// stated and the row doesn't say which writes of notes fail, the run is made again with a failing first write of a note,
-    /// which may change nothing else.
-    fn add_different(&self, alloc: Global, shown: &mut String, run: u32) -> Result<(), Fault> {
-        if self.is_added(alloc, shown, run)? || !self.notes_freely() {
-            return Ok(());
-        }
-        self.add_mute(alloc, shown, run)
-    }
-
-    /// Adds the run of this number, where its outcome is another than the stated one, and answers whether it is.
-    fn is_added(&self, alloc: Global, shown: &mut String, run: u32) -> Result<bool, Fault> {
-        let ran = self.ran(alloc, run, false)?;
-        if self.stated.is_met(&ran) {
-            return Ok(false);
-        }
-        self.show(alloc, shown, run, "", &ran)?;
-        Ok(true)
-    }
-
-    /// Adds the run of this number with a failing first write of a note, where something else than the note changed.
-    fn add_mute(&self, alloc: Global, shown: &mut String, run: u32) -> Result<(), Fault> {
-        let ran = self.ran(alloc, run, true)?;
-        if self.stated.is_met_but_for_the_note(&ran) {
-            return Ok(());
-        }
-        let how = ", with a failing write of the note";
-        self.show(alloc, shown, run, how, &ran)
-    }
-
-    /// The runs whose outcome is another than the stated one.
-    fn shown(&self, alloc: Global) -> Result<String, Fault> {
-        let mut shown = String::new(alloc);
-        for run in self.runs.first..=self.runs.last {
-            self.add_different(alloc, &mut shown, run)?;
-        }
-        Ok(shown)
+        self.texts
+            .inputs(alloc, self.runs.longest_front(run), failing)
     }
 
     /// Adds the outcome of a run, in the notation of rows.
-    fn show(
-        &self,
-        alloc: Global,
-        shown: &mut String,
-        run: u32,
-        how: &str,
-        ran: &Ran,
-    ) -> Result<(), Fault> {
-        let name = self.name.as_str();
-        let text = format!(in alloc; "= {name}\n# run {run}{how}\n{ran}")?;
-        shown.push_str(text.as_str())?;
-        Ok(())
+    fn show(&self, shown: &mut Answer, run: u32, is_mute: bool, ran: Ran) {
+        shown.add(b"= ");
+        shown.add(self.name.as_bytes());
+        shown.add_count(b"\n# run", run);
+        if is_mute {
+            shown.add(b", with a failing write of the note");
+        }
+        shown.add(b"\n");
+        add_ran(shown, ran);
     }
 }
 
@@ -182,16 +176,31 @@ impl Row for CommandRow {
         if self.stated.status.is_none() {
             return Err(Fault::Missing);
         }
-        let shown = self.shown(rt.alloc())?;
-        if shown.as_str().is_empty() {
-            return Ok(None);
-        }
-        Ok(Some(shown))
+        let mut shown = Answer::new(rt.alloc());
+        self.add_different(rt.alloc(), &mut shown)?;
+        message(rt.alloc(), shown)
     }
 
     fn clear(&mut self, alloc: Global) {
         *self = CommandRow::new(alloc);
     }
+}
+
+/// What is printed, if there is something.
+fn message(alloc: Global, shown: Answer) -> Result<Option<String>, Fault> {
+    let text = shown.end()?;
+    if text.is_empty() {
+        return Ok(None);
+    }
+    Ok(Some(String::from_utf8_lossy(alloc, text.as_bytes())?))
+}
+
+/// Adds words that are separated by spaces.
+fn add_words(alloc: Global, words: &mut Words, line: &str) -> Result<(), Fault> {
+    for word in line.split(' ') {
+        words.push(unescaped(alloc, word)?)?;
+    }
+    Ok(())
 }
 
 /// A word, with its escapes replaced.
@@ -202,7 +211,7 @@ fn unescaped(alloc: Global, word: &str) -> Result<Text, Fault> {
 }
 
 /// An exit status.
-fn status(word: &str) -> Result<u8, Fault> {
+fn wanted(word: &str) -> Result<u8, Fault> {
     match word.parse::<u8>() {
         Ok(status) => Ok(status),
         Err(_) => Err(Fault::NoNumber),

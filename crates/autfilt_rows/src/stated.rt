@@ -28,15 +28,14 @@ impl Stated {
         !self.note.as_bytes().is_empty()
     }
 
-    /// Whether a run has the stated outcome.
-    pub(crate) fn is_met(&self, ran: &Ran) -> bool {
-        self.is_met_but_for_the_note(ran) && ran.notes.bytes() == self.note.as_bytes()
-    }
-
-    /// Whether a run has the stated outcome, apart from its notes.
-    pub(crate) fn is_met_but_for_the_note(&self, ran: &Ran) -> bool {
+    /// Whether a run has the stated outcome. With `is_mute` its notes may be any.
+    pub(crate) fn is_met(&self, ran: Ran, is_mute: bool) -> bool {
         self.status == Some(ran.status)
-            && ran.out.bytes() == self.output.as_bytes()
-            && self.left.is_none_or(|left| left == ran.left)
+            && ran.out == self.output.as_bytes()
+            && (is_mute || ran.notes == self.note.as_bytes())
+            && match self.left {
+                Some(left) => left == ran.left,
+                None => true,
+            }
     }
 }

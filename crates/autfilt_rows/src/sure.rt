@@ -26,25 +26,23 @@ const ROWS: [(&[u8], Ended); 5] = [
 
 /// The end of a run without words over this standard input.
 fn ended(alloc: Global, text: &[u8]) -> Result<Ended, Memory> {
-    let mut inputs = inputs(alloc, text)?;
-    Ok(ended_over(alloc, &Words::new(alloc), &mut inputs))
+    Ok(ended_over(alloc, &mut inputs(alloc, text)?))
 }
 
 /// Inputs with this standard input alone.
 fn inputs(alloc: Global, text: &[u8]) -> Result<SureInputs, Memory> {
-    let name = Text::from_bytes(alloc, b"-")?;
-    let text = Text::from_bytes(alloc, text)?;
     let mut names = Names::new(alloc);
+    names.push(Text::from_bytes(alloc, b"-")?)?;
     let mut texts = Words::new(alloc);
-    names.push(name)?;
-    texts.push(text)?;
+    texts.push(Text::from_bytes(alloc, text)?)?;
     Ok(SureInputs::new(names, texts))
 }
 
-fn ended_over(alloc: Global, words: &Words, inputs: &mut SureInputs) -> Ended {
+fn ended_over(alloc: Global, inputs: &mut SureInputs) -> Ended {
+    let words = Words::new(alloc);
     autfilt(
         alloc,
-        words,
+        &words,
         inputs,
         &mut SureSink::new(),
         &mut SureSink::new(),
