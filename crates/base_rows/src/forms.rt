@@ -56,11 +56,15 @@ pub(crate) fn add_told(
     line: &str,
 ) -> Result<(), Fault> {
     let formula = read_condition(alloc, line)?;
+    Ok(tell(alloc, answer, call, &formula)?)
+}
+
+fn tell(alloc: Global, answer: &mut Answer, call: &str, formula: &Formula) -> Result<(), Memory> {
     match call {
-        "has_fin" => add_truth(answer, has_fin(&formula)),
-        "empty_meets" => add_truth(answer, empty_meets(&formula)),
-        "terms_count" => answer.add_number(terms_count(&formula)),
-        _ => add_terms_made(answer, terms_made(alloc, &formula)?),
+        "has_fin" => add_truth(answer, has_fin(formula)),
+        "empty_meets" => add_truth(answer, empty_meets(formula)),
+        "terms_count" => answer.add_number(terms_count(formula)),
+        _ => add_terms_made(answer, terms_made(alloc, formula)?),
     }
     Ok(())
 }

@@ -6,7 +6,7 @@ pub(crate) mod small;
 ghost use Rattle.std.specs.Prelude.{◌<◌, All, IfOk};
 ghost use Rattle.graph_walk.specs.Walk.{HasNodes};
 
-use crate::words::{add_number, count, part, two_counts};
+use crate::words::{add_number, count, digit, part, two_counts};
 use arcs::{Source, graph};
 use aut_base::{Flags, Memory, Numbers, Places};
 use graph_walk::{Graph, components, path, reach};
@@ -33,20 +33,20 @@ pub(crate) fn add_walk(
 fn add_reached(alloc: Global, answer: &mut Answer, graph: &Graph, from: &str) -> Result<(), Memory>
     requires { HasNodes graph.now.nodes graph.now.arcs }
 {
-    let from = starts(alloc, graph.nodes, from)?;
+    let from = starts(alloc, graph.nodes, from.as_bytes())?;
     add_places(answer, reach(alloc, graph, &from)?.as_slice());
     Ok(())
 }
 
-/// Reads nodes. A word that is no node is left out.
-fn starts(alloc: Global, nodes: u32, words: &str) -> Result<Numbers, Memory>
+/// The nodes that are digits among these bytes.
+fn starts(alloc: Global, nodes: u32, bytes: &[u8]) -> Result<Numbers, Memory>
     ensures { IfOk result (All (λ p. p < nodes)) }
 {
     let mut starts = Numbers::new(alloc);
-    'nodes: for word in words.split(' ') {
-        let node = count(word);
-        if node < nodes {
-            starts.push(node)?;
+    'nodes: for byte in bytes {
+        match digit(*byte) {
+            Some(node) if node < nodes => starts.push(node)?,
+            _ => {}
         }
     }
     Ok(starts)

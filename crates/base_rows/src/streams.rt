@@ -2,7 +2,7 @@
 
 ghost use Rattle.std.specs.Prelude.{◌≡◌, ℕ, List, IfOk, length};
 
-use crate::words::{count, part};
+use crate::words::{count, digit, part};
 use aut_base::{Memory, Names, Numbers, OpenFail, Text, Words};
 use aut_io::{Inputs, MemInputs, MemSink, Sink, SureInputs, SureSink};
 use row_files::Answer;
@@ -10,7 +10,7 @@ use std::alloc::Global;
 
 /// From `SCRIPT; CALLS`: the answers of a source on which these calls fail.
 pub(crate) fn add_source(alloc: Global, answer: &mut Answer, line: &str) -> Result<(), Memory> {
-    let failing = counts(alloc, part(line, 1))?;
+    let failing = digits(alloc, part(line, 1).as_bytes())?;
     let (names, texts) = two_texts(alloc)?;
     let mut inputs = MemInputs::new(names, texts, failing);
     play(alloc, answer, &mut inputs, part(line, 0))
@@ -29,7 +29,7 @@ pub(crate) fn add_sure_source(
 /// From `PIECES; CAPACITY; WRITES`: the answers of a sink of this capacity on which these writes fail, and what it holds
 /// then.
 pub(crate) fn add_sink(alloc: Global, answer: &mut Answer, line: &str) -> Result<(), Memory> {
-    let failing = counts(alloc, part(line, 2))?;
+    let failing = digits(alloc, part(line, 2).as_bytes())?;
     let mut sink = MemSink::new(alloc, count(part(line, 1)), failing)?;
     write_all(answer, &mut sink, part(line, 0));
     answer.add_text(sink.bytes());
@@ -42,15 +42,15 @@ pub(crate) fn add_sure_sink(answer: &mut Answer, line: &str) -> Result<(), Memor
     Ok(())
 }
 
-/// Numbers separated by spaces, or none for `-`.
-fn counts(alloc: Global, words: &str) -> Result<Numbers, Memory> {
-    let mut list = Numbers::new(alloc);
-    if words != "-" {
-        for word in words.split(' ') {
-            list.push(count(word))?;
+/// The numbers that are the digits among these bytes.
+fn digits(alloc: Global, bytes: &[u8]) -> Result<Numbers, Memory> {
+    let mut numbers = Numbers::new(alloc);
+    for byte in bytes {
+        if let Some(number) = digit(*byte) {
+            numbers.push(number)?;
         }
     }
-    Ok(list)
+    Ok(numbers)
 }
 
 /// The text "xy" under the name "a", and "z" under "b".

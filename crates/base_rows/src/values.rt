@@ -1,7 +1,7 @@
 //! Calls of `aut_base` on conditions, labels and letters of rows.
 
 use crate::labels::label;
-use crate::words::{add_truth, count, part, rest};
+use crate::words::{add_truth, digit, part, rest};
 use aut_base::{Formula, Label, Letter, Marks, Memory, Names, Text};
 use row_automata::marks;
 use row_files::{Answer, Fault, read_condition};
@@ -17,7 +17,7 @@ pub(crate) fn add_met_by(alloc: Global, answer: &mut Answer, line: &str) -> Resu
 fn is_met_by(alloc: Global, formula: &Formula, edges: &str) -> Result<bool, Memory> {
     let mut cycle = Vec::new(alloc);
     for edge in edges.split("; ") {
-        cycle.push(marks(alloc, bits(edge))?)?;
+        cycle.push(marks(alloc, bits(edge.as_bytes()))?)?;
     }
     is_met(alloc, formula, &cycle)
 }
@@ -30,14 +30,13 @@ fn is_met(alloc: Global, formula: &Formula, cycle: &[Marks]) -> Result<bool, Mem
     Ok(formula.copy(alloc)?.met_by(cycle))
 }
 
-/// The marks of an edge as bits: numbers separated by commas, or none for `-`.
-fn bits(words: &str) -> u32 {
-    if words == "-" {
-        return 0;
-    }
+/// The marks of an edge, which are digits, as bits.
+fn bits(bytes: &[u8]) -> u32 {
     let mut bits = 0;
-    for word in words.split(',') {
-        bits |= 1u32 << count(word).min(31);
+    for byte in bytes {
+        if let Some(mark) = digit(*byte) {
+            bits |= 1u32 << mark.min(31);
+        }
     }
     bits
 }
@@ -73,8 +72,8 @@ pub(crate) fn add_label_truth(
     answer: &mut Answer,
     line: &str,
 ) -> Result<(), Memory> {
-    let digits = part(line, 1).as_bytes();
-    let on = [digits.first() == Some(&b'1'), digits.get(1) == Some(&b'1')];
+    let digits = part(line, 1);
+    let on = [digits.starts_with('1'), digits.ends_with('1')];
     let label = label(alloc, part(line, 0))?;
     add_truth(answer, label.is_below(on.len()) && label.truth(&on));
     Ok(())

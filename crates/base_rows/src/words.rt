@@ -12,6 +12,14 @@ pub(crate) fn rest(line: &str) -> &str {
     kind_and_rest(line).1
 }
 
+/// The value of a digit.
+pub(crate) fn digit(byte: u8) -> Option<u32> {
+    match byte {
+        b'0'..=b'9' => Some(u32::from(byte - b'0')),
+        _ => None,
+    }
+}
+
 /// A number in decimal digits.
 pub(crate) fn count(word: &str) -> u32 {
     word.parse::<u32>().unwrap_or(0)

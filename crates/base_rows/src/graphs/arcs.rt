@@ -3,7 +3,7 @@
 ghost use Rattle.std.specs.Prelude.{◌≡◌, IfOk};
 ghost use Rattle.graph_walk.specs.Walk.{HasNodes};
 
-use crate::words::count;
+use crate::words::digit;
 use aut_base::{Arcs, Memory};
 use graph_walk::Graph;
 use std::alloc::Global;
@@ -11,7 +11,7 @@ use std::alloc::Global;
 /// What the arcs of a graph are.
 #[derive(Clone, Copy)]
 pub(crate) enum Source<'a> {
-    /// Words separated by spaces: each arc is its tail, `>` and its head, and `-` is none.
+    /// Words with a space between any two: each arc is its tail, a digit, `>` and its head, and `-` is none.
     Written(&'a str),
     /// Bits: the bit 3 p + q says whether there is an arc from p to q, of three nodes.
     Bits(u16),
@@ -54,7 +54,7 @@ impl Source<'_> {
     /// The arc at a place.
     fn arc(self, nodes: u32, place: u32) -> (u32, u32) {
         match self {
-            Source::Written(words) => written(words, place),
+            Source::Written(words) => written(words.as_bytes(), place),
             Source::Bits(bits) if bits.wrapping_shr(place) % 2 == 1 => (place / 3, place % 3),
             Source::Bits(_) => NO_ARC,
             Source::Ring if place == 0 => (nodes.wrapping_sub(1), 0),
@@ -64,11 +64,16 @@ impl Source<'_> {
     }
 }
 
-/// The arc that is the word at a place.
-fn written(words: &str, place: u32) -> (u32, u32) {
-    let word = words.split(' ').nth(place as usize).unwrap_or("");
-    match word.split_once('>') {
-        Some((tail, head)) => (count(tail), count(head)),
-        None => NO_ARC,
+/// The arc at a place, where each one and the space after it are four bytes.
+fn written(words: &[u8], place: u32) -> (u32, u32) {
+    let first = (place as usize).saturating_mul(4);
+    (node(words, first), node(words, first.saturating_add(2)))
+}
+
+/// The node that is the digit at an index, or else a number that is no node.
+fn node(words: &[u8], index: usize) -> u32 {
+    match words.get(index) {
+        Some(byte) => digit(*byte).unwrap_or(u32::MAX),
+        None => u32::MAX,
     }
 }

@@ -1,5 +1,5 @@
-//! The calls, with `None` where their preconditions fail. Each is in a function of its own, so that what compares their answers
-//! doesn't have to prove anything from their contracts.
+//! The calls, with `None` where their preconditions fail. They stand apart, so that what compares their answers doesn't have to prove
+//! anything from their contracts.
 
 ghost use Rattle.std.specs.Bool.{OnTrue};
 ghost use Rattle.std.specs.Prelude.{◌<◌, All};
@@ -23,10 +23,13 @@ pub(crate) enum Join {
     And,
     Or,
     Not,
+    /// One proposition is fixed to a value.
+    Fix(u32, bool),
 }
 
 /// What a call makes of two guards.
 pub(crate) fn joined(
+    alloc: Global,
     store: &mut Guards,
     join: Join,
     g: Guard,
@@ -39,21 +42,10 @@ pub(crate) fn joined(
         Join::And => store.and(g, h),
         Join::Or => store.or(g, h),
         Join::Not => store.not(g),
+        Join::Fix(prop, value) if prop < store.names() => store.fix(alloc, g, prop, value),
+        Join::Fix(..) => return Ok(None),
     };
     Ok(Some(made?))
-}
-
-pub(crate) fn fix(
-    alloc: Global,
-    store: &mut Guards,
-    g: Guard,
-    prop: u32,
-    value: bool,
-) -> Result<Option<Guard>, Memory> {
-    if !store.has(g) || store.names() <= prop {
-        return Ok(None);
-    }
-    Ok(Some(store.fix(alloc, g, prop, value)?))
 }
 
 /// The guard of the other store, brought alone.

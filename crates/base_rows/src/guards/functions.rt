@@ -1,7 +1,7 @@
 //! Truth functions of a few propositions as guards, compared with their tables.
 
 use crate::guards::calls::{
-    Join, bring, bring_twice, classes, fix, holds, is_false, joined, meeting, of_label, pick, same,
+    Join, bring, bring_twice, classes, holds, is_false, joined, meeting, of_label, pick, same,
 };
 use crate::guards::tables::{
     self, Table, bit, brought, class_of, fixed, label, names_on, negated, valuations,
@@ -134,8 +134,8 @@ impl Functions {
         prop: u8,
         value: bool,
     ) -> Result<bool, Memory> {
-        let made = fix(alloc, &mut self.store, g, u32::from(prop), value)?;
-        self.is_of(alloc, made, fixed(table, self.props, prop, value))
+        let wanted = fixed(table, self.props, prop, value);
+        self.is_joined(alloc, Join::Fix(u32::from(prop), value), g, g, wanted)
     }
 
     /// Whether a call made the guard of this function.
@@ -198,7 +198,7 @@ impl Functions {
         h: Guard,
         wanted: Table,
     ) -> Result<bool, Memory> {
-        let made = joined(&mut self.store, join, g, h)?;
+        let made = joined(alloc, &mut self.store, join, g, h)?;
         self.is_of(alloc, made, wanted)
     }
 

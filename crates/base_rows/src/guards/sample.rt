@@ -12,12 +12,21 @@ const SAMPLE: u32 = 200;
 
 /// Counts the functions of three propositions, all pairs of them and the sample, and those that are not right.
 pub(crate) fn count_all(rt: &HostRuntime, count: &mut Count) -> Result<(), Fault> {
-    let mut functions = Functions::new(rt.alloc(), 3, 256)?;
-    count_functions(rt, &mut functions, count)?;
+    count_three(rt, &mut Functions::new(rt.alloc(), 3, 256)?, count)?;
+    count_samples(rt, &mut Functions::new(rt.alloc(), 4, 0)?, count)
+}
+
+/// Counts the functions of three propositions, and all pairs of them.
+fn count_three(
+    rt: &HostRuntime,
+    functions: &mut Functions,
+    count: &mut Count,
+) -> Result<(), Fault> {
+    count_functions(rt, functions, count)?;
     for first in 0..256u16 {
-        count_pairs(rt, &mut functions, first, count)?;
+        count_pairs(rt, functions, first, count)?;
     }
-    count_samples(rt, count)
+    Ok(())
 }
 
 /// Counts the functions of three propositions.
@@ -49,15 +58,18 @@ fn count_pairs(
 }
 
 /// Counts the pairs of a sample of functions of four propositions.
-fn count_samples(rt: &HostRuntime, count: &mut Count) -> Result<(), Fault> {
-    let mut functions = Functions::new(rt.alloc(), 4, 0)?;
+fn count_samples(
+    rt: &HostRuntime,
+    functions: &mut Functions,
+    count: &mut Count,
+) -> Result<(), Fault> {
     let mut seed = 1u16;
     for _ in 0..SAMPLE {
         let first = next(seed);
         let second = next(first);
         seed = second;
         let is_right = functions.is_right(rt.alloc(), first)?
-            && is_pair_right(rt.alloc(), &mut functions, first, second)?;
+            && is_pair_right(rt.alloc(), functions, first, second)?;
         take(rt, count, is_right, "functions", (first, second))?;
     }
     Ok(())
