@@ -1,205 +1,198 @@
 //! The calls of rows, by their names.
 
-ghost use Rattle.std.specs.Prelude.{◌<◌};
-
-use crate::automata::{back, chain};
-use crate::long_letters::letters;
+use crate::automata::{add, add_chain};
 use crate::long_walk::long_walk;
-use crate::made::{Made, made_of};
 use aut_base::{Numbers, Text};
-use row_files::{Answers, Fault, Sequence, kind_and_rest, number, numbers, range};
-use safra_trees::{Move, Moves, SafraTree, start, step};
+use row_files::{Answer, Answers, Fault, kind_and_rest, number, numbers, range};
+use safra_trees::{Event, Moves, SafraTree, TreeFault, start, step};
 use std::alloc::Global;
 
 /// Answers with the trees that are reached.
-#[derive(Drop)]
+#[derive(Clone, Copy)]
 pub(crate) struct Trees;
 
 impl Answers for Trees {
     fn answer(&self, rt: &HostRuntime, call: &str, text: &Text) -> Result<Text, Fault> {
         let alloc = rt.alloc();
-        let lines = std::str::from_utf8(text.as_bytes()).unwrap_or("");
-        let answer = answer(alloc, call, lines)?;
-        Ok(Text::from_bytes(alloc, answer.as_bytes())?)
+        let mut walk = Walk {
+            trees: Vec::new(alloc),
+            moves: Moves::new(alloc),
+            answer: Answer::new(alloc),
+        };
+        walk.call(alloc, call, std::str::from_utf8(text.as_bytes()).unwrap_or(""))?;
+        Ok(walk.answer.end()?)
     }
 }
 
-fn answer(alloc: Global, call: &str, lines: &str) -> Result<String, Fault> {
-    match call {
-        "walk" => walk(alloc, lines),
-        "chain" => chained(alloc, lines, false),
-        "chain_and_back" => chained(alloc, lines, true),
-        "steps" => steps(alloc, lines),
-        _ => Err(Fault::UnknownKind),
+/// The trees that were reached, the moves of a letter, and the answer as far as it is known.
+#[derive(Drop)]
+struct Walk {
+    trees: Vec<SafraTree>,
+    moves: Moves,
+    answer: Answer,
+}
+
+impl Walk {
+    fn call(&mut self, alloc: Global, call: &str, lines: &str) -> Result<(), Fault> {
+        match call {
+            "walk" => self.walk(alloc, lines),
+            "chain" => self.chain(alloc, lines, false),
+            "chain_and_back" => self.chain(alloc, lines, true),
+            "steps" => self.long(alloc, lines),
+            _ => Err(Fault::UnknownKind),
+        }
+    }
+
+    /// The number of nodes of the first tree, and for each step, after a comma: the number of nodes, the least red and green
+    /// names, and the first earlier tree that equals the new one. The first line has the starts, or `-`, and each further line
+    /// the moves of a letter.
+    fn walk(&mut self, alloc: Global, lines: &str) -> Result<(), Fault> {
+        let (first, letters) = lines.split_once('\n').unwrap_or((lines, ""));
+        self.begin(alloc, first)?;
+        self.tell_nodes();
+        for line in letters.lines() {
+            self.answer.add(b", ");
+            self.read_moves(line)?;
+            if self.take(alloc)? {
+                self.tell_earlier();
+            }
+        }
+        Ok(())
+    }
+
+    /// Adds the first tree, of these starts, or of none for `-`.
+    fn begin(&mut self, alloc: Global, line: &str) -> Result<(), Fault> {
+        let starts = if line == "-" {
+            Numbers::new(alloc)
+        } else {
+            numbers(alloc, line)?
+        };
+        self.trees.push(start(alloc, &starts)?)?;
+        Ok(())
+    }
+
+    /// Reads the moves of a line, separated by spaces; or `-`.
+    fn read_moves(&mut self, line: &str) -> Result<(), Fault> {
+        self.moves.clear();
+        for word in line.split(' ') {
+            if word != "-" {
+                self.read_move(word)?;
+            }
+        }
+        Ok(())
+    }
+
+    /// Reads a move: `FROM>TO`, or `FROM*TO` for an accepting one.
+    fn read_move(&mut self, word: &str) -> Result<(), Fault> {
+        let accepting = word.contains('*');
+        let sign = if accepting { '*' } else { '>' };
+        let Some((from, to)) = word.split_once(sign) else {
+            return Err(Fault::Missing);
+        };
+        add(&mut self.moves, number(from)?, number(to)?, accepting)?;
+        Ok(())
+    }
+
+    /// Takes a step, tells what it answered, and answers whether there is a new tree.
+    fn take(&mut self, alloc: Global) -> Result<bool, Fault> {
+        let event = self.next(alloc)?;
+        match event {
+            Some(event) => self.tell(event),
+            None => self.answer.add(b"too many"),
+        }
+        Ok(event.is_some())
+    }
+
+    /// Steps the last tree by the moves, and adds the new one; None where that has too many nodes.
+    fn next(&mut self, alloc: Global) -> Result<Option<Event>, Fault> {
+        let Some(last) = self.trees.last() else {
+            return Err(Fault::Missing);
+        };
+        match step(alloc, last, &self.moves) {
+            Ok((tree, event)) => {
+                self.trees.push(tree)?;
+                Ok(Some(event))
+            }
+            Err(TreeFault::Nodes) => Ok(None),
+            Err(TreeFault::Memory) => Err(Fault::Memory),
+        }
+    }
+
+    /// Tells the number of nodes of the last tree, and the least red and green names.
+    fn tell(&mut self, event: Event) {
+        self.tell_nodes();
+        self.tell_name(event.red);
+        self.tell_name(event.green);
+    }
+
+    fn tell_nodes(&mut self) {
+        if let Some(tree) = self.trees.last() {
+            self.answer.add_number(u64::from(tree.nodes()));
+        }
+    }
+
+    fn tell_name(&mut self, name: Option<u32>) {
+        match name {
+            Some(name) => self.answer.add_count(b"", name),
+            None => self.answer.add(b" -"),
+        }
+    }
+
+    /// Tells which earlier tree equals the last one.
+    fn tell_earlier(&mut self) {
+        if let Some(place) = first_equal(&self.trees) {
+            self.answer.add(b" =");
+            self.answer.add_number(place);
+        }
+    }
+
+    /// The number of nodes after so many steps of a chain of so many states; or with `goes_back`, what a further step that leads
+    /// back to the first state answers.
+    fn chain(&mut self, alloc: Global, line: &str, goes_back: bool) -> Result<(), Fault> {
+        let (states, steps) = range(line)?;
+        add_chain(&mut self.moves, states)?;
+        self.begin(alloc, "0")?;
+        for _ in 0..steps {
+            if self.next(alloc)?.is_none() {
+                self.answer.add(b"too many");
+                return Ok(());
+            }
+        }
+        if goes_back {
+            self.moves.clear();
+            add(&mut self.moves, states.saturating_sub(1), 0, false)?;
+            self.take(alloc)?;
+        } else {
+            self.tell_nodes();
+        }
+        Ok(())
+    }
+
+    /// From `SEED STEPS`: what is seen on a long walk.
+    fn long(&mut self, alloc: Global, line: &str) -> Result<(), Fault> {
+        let (first, steps) = kind_and_rest(line);
+        let told = long_told(alloc, number(first)?, number(steps)?)?;
+        self.answer.add(told.as_bytes());
+        Ok(())
     }
 }
 
-/// The number of nodes of the first tree, and for each step, after a comma: the number of nodes, the least red and green
-/// names, and the first earlier tree that equals the new one. The first line has the starts, or `-`, and each further line
-/// the moves of a letter.
-fn walk(alloc: Global, lines: &str) -> Result<String, Fault> {
-    let (first, letters) = lines.split_once('\n').unwrap_or((lines, ""));
-    let tree = tree_of_starts(alloc, first)?;
-    let mut answer = format!(in alloc; "{}", tree.nodes())?;
-    let mut trees = Vec::new(alloc);
-    trees.push(tree)?;
-    for line in letters.lines() {
-        take(alloc, &mut trees, line, &mut answer)?;
-    }
-    Ok(answer)
-}
-
-/// The first tree of these starts, or of none for `-`.
-fn tree_of_starts(alloc: Global, line: &str) -> Result<Box<SafraTree>, Fault> {
-    let starts = if line == "-" {
-        Numbers::new(alloc)
-    } else {
-        numbers(alloc, line)?
-    };
-    Ok(Box::new(alloc, start(alloc, &starts)?)?)
-}
-
-/// Steps the last tree under the moves of a line, adds the answer, and adds the new tree to the list.
-fn take(
-    alloc: Global,
-    trees: &mut Vec<Box<SafraTree>>,
-    line: &str,
-    answer: &mut String,
-) -> Result<(), Fault> {
-    let Some(last) = trees.last() else {
-        return Err(Fault::Missing);
-    };
-    let Some(made) = next_by_line(alloc, last, line)? else {
-        answer.push_str(", too many")?;
-        return Ok(());
-    };
-    tell(alloc, trees, &made, answer)?;
-    trees.push(made.tree)?;
-    Ok(())
-}
-
-fn next_by_line(alloc: Global, tree: &SafraTree, line: &str) -> Result<Option<Made>, Fault> {
-    let moves = moves(alloc, line)?;
-    next(alloc, tree, &moves)
-}
-
-/// Adds what a step answered, and which earlier tree equals the new one.
-fn tell(
-    alloc: Global,
-    trees: &[Box<SafraTree>],
-    made: &Made,
-    answer: &mut String,
-) -> Result<(), Fault> {
-    answer.push_str(", ")?;
-    answer.push_str(told(alloc, made)?.as_str())?;
-    if let Some(place) = earlier(trees, &made.tree) {
-        answer.push_str(format!(in alloc; " ={place}")?.as_str())?;
-    }
-    Ok(())
-}
-
-/// The first of the trees that equals this one.
-fn earlier(trees: &[Box<SafraTree>], tree: &SafraTree) -> Option<usize> {
-    for (place, earlier) in trees.iter().enumerate() {
-        if **earlier == *tree {
+/// The index of the first of the trees that equals the last, where that is an earlier one.
+fn first_equal(trees: &[SafraTree]) -> Option<u64> {
+    let (last, earlier) = trees.split_last()?;
+    let mut place = 0u64;
+    for tree in earlier {
+        if tree == last {
             return Some(place);
         }
+        place = place.saturating_add(1);
     }
     None
 }
 
-/// The number of nodes of a tree, and the least red and green names.
-fn told(alloc: Global, made: &Made) -> Result<String, Fault> {
-    let red = name(alloc, made.event.red)?;
-    let green = name(alloc, made.event.green)?;
-    Ok(format!(in alloc; "{} {red} {green}", made.tree.nodes())?)
-}
-
-fn name(alloc: Global, name: Option<u32>) -> Result<String, Fault> {
-    match name {
-        Some(name) => Ok(format!(in alloc; "{name}")?),
-        None => Ok(String::from_str(alloc, "-")?),
-    }
-}
-
-/// Reads the moves of a line, separated by spaces; or `-`.
-fn moves(alloc: Global, line: &str) -> Result<Moves, Fault> {
-    let mut moves = Moves::new(alloc);
-    for word in line.split(' ') {
-        if word != "-" {
-            moves.push(one_move(word)?)?;
-        }
-    }
-    Ok(moves)
-}
-
-/// Reads a move: `FROM>TO`, or `FROM*TO` for an accepting one.
-fn one_move(word: &str) -> Result<Move, Fault> {
-    let accepting = word.contains('*');
-    let sign = if accepting { '*' } else { '>' };
-    let Some((from, to)) = word.split_once(sign) else {
-        return Err(Fault::Missing);
-    };
-    Ok(Move {
-        from: number(from)?,
-        to: number(to)?,
-        accepting,
-    })
-}
-
-/// The number of nodes after so many steps of a chain of so many states; or with `goes_back`, what a further step that leads
-/// back to the first state answers.
-fn chained(alloc: Global, line: &str, goes_back: bool) -> Result<String, Fault> {
-    let (states, steps) = range(line)?;
-    let Some(tree) = after_chain(alloc, states, steps)? else {
-        return Ok(String::from_str(alloc, "too many")?);
-    };
-    if !goes_back || states == 0 {
-        return Ok(format!(in alloc; "{}", tree.nodes())?);
-    }
-    told_back(alloc, &tree, states)
-}
-
-/// The tree after so many steps of a chain of so many states, or None where one has too many nodes.
-fn after_chain(alloc: Global, states: u32, steps: u32) -> Result<Option<Box<SafraTree>>, Fault> {
-    let moves = chain(alloc, states)?;
-    let mut tree = tree_of_starts(alloc, "0")?;
-    for _ in 0..steps {
-        match next(alloc, &tree, &moves)? {
-            Some(made) => tree = made.tree,
-            None => return Ok(None),
-        }
-    }
-    Ok(Some(tree))
-}
-
-/// What a step of the tree that leads back to the first of so many states answers.
-fn told_back(alloc: Global, tree: &SafraTree, states: u32) -> Result<String, Fault>
-    requires { 0 < states }
-{
-    let moves = back(alloc, states)?;
-    match next(alloc, tree, &moves)? {
-        Some(made) => told(alloc, &made),
-        None => Err(Fault::Failed),
-    }
-}
-
-/// The next tree, or None where it has too many nodes.
-fn next(alloc: Global, tree: &SafraTree, moves: &Moves) -> Result<Option<Made>, Fault> {
-    made_of(alloc, step(alloc, tree, moves))
-}
-
-/// From `SEED STEPS`: what is seen on a long walk.
-fn steps(alloc: Global, line: &str) -> Result<String, Fault> {
-    let (first, steps) = kind_and_rest(line);
-    steps_told(alloc, number(first)?, number(steps)?)
-}
-
 /// What is seen on a long walk, in two lines. The first argument is the seed of the random sequence.
-pub(crate) fn steps_told(alloc: Global, first: u32, steps: u32) -> Result<String, Fault> {
-    let mut sequence = Sequence::new(first);
-    let letters = letters(alloc, &mut sequence)?;
-    let seen = long_walk(alloc, &letters, &mut sequence, steps)?;
+pub(crate) fn long_told(alloc: Global, first: u32, steps: u32) -> Result<String, Fault> {
+    let seen = long_walk(alloc, first, steps)?;
     let (least, most) = (seen.least, seen.most);
     let (red, green, checksum) = (seen.red, seen.green, seen.checksum);
     Ok(format!(in alloc;

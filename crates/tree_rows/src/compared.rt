@@ -1,14 +1,11 @@
 //! Trees of `safra_trees` and plain ones, stepped together and compared.
 
-ghost use Rattle.std.specs.Prelude.{◌<◌, All, IsTrue};
-
-use crate::automata::{are_within, every_letter, moves_by_chance};
-use crate::made::{Made, made_of};
-use crate::plain::{PlainNode, PlainStep, is_set, plain_start, plain_step};
+use crate::automata::{Letter, are_within, letter_by_chance, letter_by_digits, letters};
+use crate::plain::{PlainStep, PlainTree, bit, names, node, plain_start, plain_step};
 use crate::stored::is_stored;
-use aut_base::Numbers;
+use crate::trees::{are_states, next, one_node};
 use row_files::{Count, Fault, Sequence};
-use safra_trees::{Moves, SafraTree, Scratch, start, step, step_in_room};
+use safra_trees::{Event, Moves, SafraTree, Scratch, TreeFault, step};
 use std::alloc::Global;
 
 /// An upper bound for the number of trees of three states.
@@ -17,174 +14,138 @@ const MOST_TREES: usize = 100;
 /// A tree, and the plain one that it should equal.
 #[derive(Drop)]
 struct Pair {
-    tree: Box<SafraTree>,
-    plain: Vec<PlainNode>,
+    tree: SafraTree,
+    plain: PlainTree,
 }
 
-/// A step of both.
+/// The pairs that were reached, and the moves of a letter.
 #[derive(Drop)]
-struct Stepped {
-    pair: Pair,
-    agrees: bool,
+pub(crate) struct Pairs {
+    pairs: Vec<Pair>,
+    moves: Moves,
+    room: Scratch,
 }
 
-/// Steps all trees of so few states under all letters that there can be among them, which covers all steps of all automata of
-/// so many states. Answers also how many trees there are.
-pub(crate) fn all_of(alloc: Global, states: u32, count: &mut Count) -> Result<usize, Fault> {
-    let letters = every_letter(alloc, states)?;
-    let mut pairs = Vec::new(alloc);
-    pairs.push(first(alloc, states)?)?;
-    for place in 0..MOST_TREES {
-        if place >= pairs.len() {
-            break;
-        }
-        for moves in &letters {
-            visit(alloc, states, &mut pairs, place, moves, count)?;
+impl Pairs {
+    /// None was reached.
+    pub(crate) fn new(alloc: Global) -> Pairs {
+        Pairs {
+            pairs: Vec::new(alloc),
+            moves: Moves::new(alloc),
+            room: Scratch::new(alloc),
         }
     }
-    Ok(pairs.len())
-}
 
-/// A random walk in each of some random automata of one to eight states.
-pub(crate) fn by_chance(alloc: Global, count: &mut Count) -> Result<(), Fault> {
-    let mut sequence = Sequence::new(1);
-    for _ in 0..400 {
+    /// Steps all trees of so few states under all letters that there can be among them, which covers all steps of all automata of
+    /// so many states. Answers also how many trees there are.
+    pub(crate) fn all_of(
+        &mut self,
+        alloc: Global,
+        states: u32,
+        count: &mut Count,
+    ) -> Result<usize, Fault> {
+        self.begin(alloc)?;
+        for place in 0..MOST_TREES {
+            if place >= self.pairs.len() {
+                break;
+            }
+            for number in 0..letters(states) {
+                let letter = letter_by_digits(states, number);
+                self.take(alloc, states, place, letter, count)?;
+                if !self.has_new() {
+                    self.pairs.pop();
+                }
+            }
+        }
+        Ok(self.pairs.len())
+    }
+
+    /// A walk of some steps under random letters, in a random automaton of one to eight states.
+    pub(crate) fn walk(
+        &mut self,
+        alloc: Global,
+        sequence: &mut Sequence,
+        count: &mut Count,
+    ) -> Result<(), Fault> {
         let states = sequence.next(8) + 1;
-        let letters = [
-            moves_by_chance(alloc, states, &mut sequence)?,
-            moves_by_chance(alloc, states, &mut sequence)?,
-        ];
-        walk(alloc, states, &letters, &mut sequence, count)?;
+        let first = letter_by_chance(states, sequence);
+        let second = letter_by_chance(states, sequence);
+        self.begin(alloc)?;
+        for place in 0..50 {
+            let letter = if sequence.next(2) == 0 { first } else { second };
+            self.take(alloc, states, place, letter, count)?;
+        }
+        Ok(())
     }
-    Ok(())
-}
 
-/// Steps the tree at an index under a letter. A tree that is new is added to the list.
-fn visit(
-    alloc: Global,
-    states: u32,
-    pairs: &mut Vec<Pair>,
-    place: usize,
-    moves: &Moves,
-    count: &mut Count,
-) -> Result<(), Fault> {
-    let Some(pair) = after(alloc, states, pairs, place, moves, count)? else {
-        return Err(Fault::Failed);
-    };
-    if is_new(pairs, &pair) {
-        pairs.push(pair)?;
+    /// Begins anew with the first pair.
+    fn begin(&mut self, alloc: Global) -> Result<(), Fault> {
+        self.pairs.clear();
+        self.pairs.push(Pair {
+            tree: one_node(alloc)?,
+            plain: plain_start(),
+        })?;
+        Ok(())
     }
-    Ok(())
-}
 
-/// A walk of some steps under random letters.
-fn walk(
-    alloc: Global,
-    states: u32,
-    letters: &[Moves],
-    sequence: &mut Sequence,
-    count: &mut Count,
-) -> Result<(), Fault> {
-    let mut pairs = Vec::new(alloc);
-    pairs.push(first(alloc, states)?)?;
-    for place in 0..50 {
-        let choice = sequence.next(2) as usize;
-        let Some(moves) = letters.get(choice) else {
-            return Ok(());
+    /// Steps the pair at an index under a letter, which is counted as a row, and adds what it leads to.
+    fn take(
+        &mut self,
+        alloc: Global,
+        states: u32,
+        place: usize,
+        letter: Letter,
+        count: &mut Count,
+    ) -> Result<(), Fault> {
+        letter.list(&mut self.moves)?;
+        let (event, told) = self.step(alloc, states, place)?;
+        let agrees = self.agrees(alloc, place, event, &told)?;
+        count.add(!agrees);
+        Ok(())
+    }
+
+    /// Steps the pair at an index by the moves, and adds the new one. Fails where an end of a move is no state.
+    fn step(&mut self, alloc: Global, states: u32, place: usize) -> Result<(Event, PlainStep), Fault> {
+        let Some(pair) = self.pairs.get(place) else {
+            return Err(Fault::Failed);
         };
-        match after(alloc, states, &pairs, place, moves, count)? {
-            Some(pair) => pairs.push(pair)?,
-            None => return Ok(()),
+        let moves = self.moves.as_slice();
+        if !are_states(states, pair.tree.root_states()) || !are_within(states, moves) {
+            return Err(Fault::Failed);
         }
+        let told = plain_step(&pair.plain, moves);
+        let (tree, event) = next(alloc, states, &pair.tree, &self.moves, &mut self.room)?;
+        let plain = told.tree;
+        self.pairs.push(Pair { tree, plain })?;
+        Ok((event, told))
     }
-    Ok(())
-}
 
-/// What the pair at an index is after a step, which is counted as a row; None where there are too many nodes.
-fn after(
-    alloc: Global,
-    states: u32,
-    pairs: &[Pair],
-    place: usize,
-    moves: &Moves,
-    count: &mut Count,
-) -> Result<Option<Pair>, Fault> {
-    let Some(pair) = pairs.get(place) else {
-        return Err(Fault::Failed);
-    };
-    let Some(stepped) = both(alloc, states, pair, moves)? else {
-        return Ok(None);
-    };
-    count.add(!stepped.agrees || !are_alike(pairs, &stepped.pair));
-    Ok(Some(stepped.pair))
-}
-
-fn first(alloc: Global, states: u32) -> Result<Pair, Fault> {
-    let mut starts = Numbers::new(alloc);
-    if states > 0 {
-        starts.push(0)?;
+    /// Whether the last pair, which a step of that at an index led to, is of equal trees, as the step says.
+    fn agrees(&self, alloc: Global, place: usize, event: Event, told: &PlainStep) -> Result<bool, Fault> {
+        let (Some(before), Some(pair)) = (self.pairs.get(place), self.pairs.last()) else {
+            return Err(Fault::Failed);
+        };
+        let same = event.red == told.red && event.green == told.green;
+        if !same || !has_size(&pair.tree, &pair.plain) || !are_alike(&self.pairs, pair) {
+            return Ok(false);
+        }
+        let again = gives_the_same(alloc, &before.tree, &self.moves, &pair.tree, event)?;
+        Ok(again && is_stored(alloc, &pair.tree, &pair.plain)?)
     }
-    Ok(Pair {
-        tree: Box::new(alloc, start(alloc, &starts)?)?,
-        plain: plain_start(alloc, states, starts.as_slice())?,
-    })
-}
 
-/// The next tree, or None where it has too many nodes. Fails where an end of a move is no state.
-fn next_tree(
-    alloc: Global,
-    states: u32,
-    tree: &SafraTree,
-    moves: &Moves,
-) -> Result<Option<Made>, Fault> {
-    if !are_states(states, tree.root_states()) || !are_within(states, moves.as_slice()) {
-        return Err(Fault::Failed);
-    }
-    made_of(
-        alloc,
-        step_in_room(alloc, states, tree, moves, &mut Scratch::new(alloc)),
-    )
-}
-
-/// Whether all are states.
-fn are_states(states: u32, listed: &[u32]) -> bool
-    ensures { IsTrue result → All (λ s. s < states) listed.now }
-{
-    'states: for state in listed {
-        if *state >= states {
+    /// Whether the last tree is equal to no other.
+    fn has_new(&self) -> bool {
+        let Some(pair) = self.pairs.last() else {
             return false;
+        };
+        let mut equal = 0usize;
+        for earlier in &self.pairs {
+            if earlier.tree == pair.tree {
+                equal = equal.saturating_add(1);
+            }
         }
+        equal == 1
     }
-    true
-}
-
-/// The step of a tree and of the plain one, and whether they agree; None where there are too many nodes.
-fn both(alloc: Global, states: u32, pair: &Pair, moves: &Moves) -> Result<Option<Stepped>, Fault> {
-    let Some(made) = next_tree(alloc, states, &pair.tree, moves)? else {
-        return Ok(None);
-    };
-    let told = plain_step(alloc, &pair.plain, moves.as_slice())?;
-    let agrees = agree(alloc, &pair.tree, moves, &made, &told)?;
-    let pair = Pair {
-        tree: made.tree,
-        plain: told.tree,
-    };
-    Ok(Some(Stepped { pair, agrees }))
-}
-
-/// Whether the step of a tree is that of the plain one.
-fn agree(
-    alloc: Global,
-    tree: &SafraTree,
-    moves: &Moves,
-    made: &Made,
-    told: &PlainStep,
-) -> Result<bool, Fault> {
-    let same = made.event.red == told.red && made.event.green == told.green;
-    if !same || !is_same_size(&made.tree, &told.tree) || !has_root(&made.tree, &told.tree) {
-        return Ok(false);
-    }
-    Ok(gives_the_same(alloc, tree, moves, made)? && is_stored(alloc, &made.tree, &told.tree)?)
 }
 
 /// Whether the step without a given number of states answers the same.
@@ -192,40 +153,37 @@ fn gives_the_same(
     alloc: Global,
     tree: &SafraTree,
     moves: &Moves,
-    made: &Made,
+    made: &SafraTree,
+    event: Event,
 ) -> Result<bool, Fault> {
-    let other = made_of(alloc, step(alloc, tree, moves))?;
-    Ok(other.is_some_and(|other| other == *made))
+    match step(alloc, tree, moves) {
+        Ok((other, told)) => Ok(other == *made && told == event),
+        Err(TreeFault::Nodes) => Ok(false),
+        Err(TreeFault::Memory) => Err(Fault::Memory),
+    }
 }
 
-fn is_same_size(tree: &SafraTree, plain: &[PlainNode]) -> bool {
-    tree.nodes() as usize == plain.len()
+/// Whether there are as many nodes as in the plain tree, and the root has the states of its root.
+fn has_size(tree: &SafraTree, plain: &PlainTree) -> bool {
+    tree.nodes() == names(plain).count_ones() && has_root(tree.root_states(), node(plain, 0).holds)
 }
 
-/// Whether the root has the states of the plain root.
-fn has_root(tree: &SafraTree, plain: &[PlainNode]) -> bool {
-    let Some(root) = plain.first() else {
-        return tree.root_states().len() == 0;
-    };
-    let held = root.holds.iter().filter(|held| **held).count();
-    let all = tree
-        .root_states()
-        .iter()
-        .all(|state| is_set(&root.holds, *state as usize));
-    all && held == tree.root_states().len()
+/// Whether a list in rising order is this set.
+fn has_root(states: &[u32], holds: u64) -> bool {
+    let mut found = 0u64;
+    for state in states {
+        found |= bit(*state as usize);
+    }
+    found == holds && states.len() == holds.count_ones() as usize
 }
 
-/// Whether the tree equals exactly those earlier ones whose plain trees are equal.
+/// Whether a tree equals exactly those whose plain trees are equal.
 fn are_alike(pairs: &[Pair], pair: &Pair) -> bool {
-    for earlier in pairs {
-        let same = earlier.plain == pair.plain;
-        if same != (earlier.tree == pair.tree) || same != earlier.tree.is(&pair.tree) {
+    for other in pairs {
+        let same = other.plain == pair.plain;
+        if same != (other.tree == pair.tree) || same != other.tree.is(&pair.tree) {
             return false;
         }
     }
     true
-}
-
-fn is_new(pairs: &[Pair], pair: &Pair) -> bool {
-    pairs.iter().all(|earlier| earlier.tree != pair.tree)
 }

@@ -1,16 +1,14 @@
 //! A long walk from tree to tree, to measure what a step costs.
 
-ghost use Rattle.std.specs.Prelude.{◌≡◌, ◌<◌, All, length};
-ghost use Rattle.safra_trees.specs.Events.{IsMoveInRange};
+ghost use Rattle.std.specs.Prelude.{◌<◌, All};
 ghost use Rattle.safra_trees.specs.Trees.{root_states};
 ghost use Rattle.safra_trees.specs.View.{tree_of};
-ghost use Rattle.tree_rows.specs.declared.long_letters.TheConstants.{LETTERS, STATES};
+ghost use Rattle.tree_rows.specs.declared.long_letters.TheConstants.{STATES};
 
-use crate::automata::{are_within, chain};
-use crate::long_letters::{LETTERS, STATES};
-use aut_base::Numbers;
+use crate::long_letters::{LETTERS, Letter, STATES, chain_letter, random_letter};
+use crate::trees::{are_states, next, one_node};
 use row_files::{Fault, Sequence};
-use safra_trees::{Event, Moves, SafraTree, Scratch, TreeFault, start, step_in_room};
+use safra_trees::{Event, SafraTree, Scratch};
 use std::alloc::Global;
 
 /// The least and the greatest number of nodes of trees that are stepped.
@@ -44,123 +42,95 @@ pub(crate) struct Seen {
     pub(crate) checksum: u32,
 }
 
-/// Takes so many steps under random letters. A tree with too few or too many nodes isn't stepped; the one before it is
-/// stepped again.
-pub(crate) fn long_walk(
+/// The tree that is stepped next.
+#[derive(Drop)]
+struct Walk {
+    standing: Standing,
+    room: Scratch,
+}
+
+/// Takes so many steps under random letters, by the random sequence of this seed. A tree with too few or too many nodes isn't
+/// stepped; the one before it is stepped again.
+pub(crate) fn long_walk(alloc: Global, first: u32, steps: u32) -> Result<Seen, Fault> {
+    let mut sequence = Sequence::new(first);
+    let mut letters = Vec::new(alloc);
+    add_letters(alloc, &mut letters, &mut sequence)?;
+    first_walk(alloc)?.go(alloc, &letters, sequence, steps)
+}
+
+fn add_letters(
     alloc: Global,
-    letters: &[Moves],
+    letters: &mut Vec<Letter>,
     sequence: &mut Sequence,
-    steps: u32,
-) -> Result<Seen, Fault>
-    requires count { length letters.now ≡ LETTERS }
-    requires within { All (λ letter. All (IsMoveInRange STATES) letter) letters.now }
-{
-    let mut standing = first(alloc)?;
-    let mut room = Scratch::new(alloc);
-    let mut seen = Seen {
-        least: standing.tree.nodes(),
-        most: standing.tree.nodes(),
-        red: 0,
-        green: 0,
-        checksum: 0,
+) -> Result<(), Fault> {
+    for _ in 0..LETTERS {
+        letters.push(random_letter(alloc, sequence)?)?;
+    }
+    Ok(())
+}
+
+/// Before the first step: the tree is a chain of nodes.
+fn first_walk(alloc: Global) -> Result<Walk, Fault> {
+    let mut walk = Walk {
+        standing: standing_at(one_node(alloc)?)?,
+        room: Scratch::new(alloc),
     };
-    'steps: for _ in 0..steps {
-        go_on(
-            alloc,
-            &mut standing,
-            letters,
-            sequence,
-            &mut room,
-            &mut seen,
-        )?;
+    walk.grow(alloc, &chain_letter(alloc)?)?;
+    Ok(walk)
+}
+
+/// The tree, whose states are those of the letters.
+fn standing_at(tree: SafraTree) -> Result<Standing, Fault> {
+    if are_states(STATES, tree.root_states()) {
+        return Ok(Standing { tree });
     }
-    Ok(seen)
+    Err(Fault::Failed)
 }
 
-/// Takes a step under a random letter, and counts it.
-fn go_on(
-    alloc: Global,
-    standing: &mut Standing,
-    letters: &[Moves],
-    sequence: &mut Sequence,
-    room: &mut Scratch,
-    seen: &mut Seen,
-) -> Result<(), Fault>
-    requires count { length letters.now ≡ LETTERS }
-    requires within { All (λ letter. All (IsMoveInRange STATES) letter) letters.now }
-{
-    let (next, event) = next_by_chance(alloc, standing, letters, sequence, room)?;
-    seen.add(&next.tree, &event);
-    if is_stepped(next.tree.nodes()) {
-        *standing = next;
+impl Walk {
+    /// Makes the first tree.
+    fn grow(&mut self, alloc: Global, chain: &Letter) -> Result<(), Fault> {
+        for _ in 1..FIRST_NODES {
+            self.standing = self.next(alloc, chain)?.0;
+        }
+        Ok(())
     }
-    Ok(())
-}
 
-/// The first tree: a chain of nodes.
-fn first(alloc: Global) -> Result<Standing, Fault> {
-    let mut standing = one_node(alloc)?;
-    let moves = chain(alloc, STATES)?;
-    if !are_within(STATES, moves.as_slice()) {
-        return Err(Fault::Failed);
+    /// Takes the steps, and answers what was seen.
+    fn go(
+        &mut self,
+        alloc: Global,
+        letters: &[Letter],
+        sequence: Sequence,
+        steps: u32,
+    ) -> Result<Seen, Fault> {
+        let mut sequence = sequence;
+        let mut seen = Seen::new(self.standing.tree.nodes());
+        for _ in 0..steps {
+            let Some(letter) = letters.get(sequence.next(LETTERS) as usize) else {
+                return Err(Fault::Failed);
+            };
+            self.take(alloc, letter, &mut seen)?;
+        }
+        Ok(seen)
     }
-    let mut room = Scratch::new(alloc);
-    'steps: for _ in 1..FIRST_NODES {
-        grow(alloc, &mut standing, &moves, &mut room)?;
+
+    /// Takes a step, and counts it.
+    fn take(&mut self, alloc: Global, letter: &Letter, seen: &mut Seen) -> Result<(), Fault> {
+        let (standing, event) = self.next(alloc, letter)?;
+        seen.add(&standing.tree, &event);
+        if is_stepped(standing.tree.nodes()) {
+            self.standing = standing;
+        }
+        Ok(())
     }
-    Ok(standing)
-}
 
-/// Takes a step.
-fn grow(
-    alloc: Global,
-    standing: &mut Standing,
-    moves: &Moves,
-    room: &mut Scratch,
-) -> Result<(), Fault>
-    requires { All (IsMoveInRange STATES) moves.now }
-{
-    *standing = next(alloc, standing, moves, room)?.0;
-    Ok(())
-}
-
-/// The tree of the first state alone.
-fn one_node(alloc: Global) -> Result<Standing, Fault> {
-    let mut starts = Numbers::new(alloc);
-    starts.push(0)?;
-    let tree = start(alloc, &starts)?;
-    Ok(Standing { tree })
-}
-
-/// The step of a tree under a random letter.
-fn next_by_chance(
-    alloc: Global,
-    standing: &Standing,
-    letters: &[Moves],
-    sequence: &mut Sequence,
-    room: &mut Scratch,
-) -> Result<(Standing, Event), Fault>
-    requires count { length letters.now ≡ LETTERS }
-    requires within { All (λ letter. All (IsMoveInRange STATES) letter) letters.now }
-{
-    let choice = sequence.next(LETTERS) as usize;
-    next(alloc, standing, &letters[choice], room)
-}
-
-/// The step of a tree.
-fn next(
-    alloc: Global,
-    standing: &Standing,
-    moves: &Moves,
-    room: &mut Scratch,
-) -> Result<(Standing, Event), Fault>
-    requires { All (IsMoveInRange STATES) moves.now }
-{
-    match step_in_room(alloc, STATES, &standing.tree, moves, room) {
-        Ok((tree, event)) => Ok((Standing { tree }, event)),
-        // 64 states can't have a tree of more than 100 nodes.
-        Err(TreeFault::Nodes) => Err(Fault::Failed),
-        Err(TreeFault::Memory) => Err(Fault::Memory),
+    /// The step of the tree.
+    fn next(&mut self, alloc: Global, letter: &Letter) -> Result<(Standing, Event), Fault> {
+        let standing = &self.standing;
+        let room = &mut self.room;
+        let (tree, event) = next(alloc, STATES, &standing.tree, &letter.moves, room)?;
+        Ok((Standing { tree }, event))
     }
 }
 
@@ -184,6 +154,17 @@ fn priority(event: &Event) -> u32 {
 }
 
 impl Seen {
+    /// Before the first step, of a tree of so many nodes.
+    fn new(nodes: u32) -> Seen {
+        Seen {
+            least: nodes,
+            most: nodes,
+            red: 0,
+            green: 0,
+            checksum: 0,
+        }
+    }
+
     /// Counts a step, by the new tree and its event.
     fn add(&mut self, tree: &SafraTree, event: &Event) {
         let nodes = tree.nodes();

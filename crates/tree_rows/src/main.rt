@@ -7,12 +7,13 @@ mod calls;
 mod compared;
 mod long_letters;
 mod long_walk;
-mod made;
 mod plain;
 mod stored;
+mod trees;
 
-use calls::{Trees, steps_told};
-use row_files::{Count, Fault, Stop, ask, number};
+use calls::{Trees, long_told};
+use compared::Pairs;
+use row_files::{Count, Fault, Sequence, Stop, ask, number};
 use std::alloc::Global;
 use std::env;
 
@@ -26,14 +27,18 @@ fn main(rt: HostRuntime) -> Result<(), Stop> {
     }
     let mut count = Count::new();
     ask(&rt, &["trees.rows"], Trees, &mut count)?;
-    compare(rt.alloc(), &mut count)?;
+    compare(rt.alloc(), &mut Pairs::new(rt.alloc()), &mut count)?;
     count.end(&rt)
 }
 
 /// The two numbers after the program's name, or None where there are no arguments.
 fn asked(rt: &HostRuntime) -> Result<Option<(u32, u32)>, Fault> {
     let arguments: Vec<String> = env::args(rt)?.collect(rt.alloc())?;
-    match arguments.as_slice() {
+    numbers_of(&arguments)
+}
+
+fn numbers_of(arguments: &[String]) -> Result<Option<(u32, u32)>, Fault> {
+    match arguments {
         [] | [_] => Ok(None),
         [_, first, steps] => Ok(Some((number(first)?, number(steps)?))),
         _ => Err(Fault::Missing),
@@ -41,16 +46,20 @@ fn asked(rt: &HostRuntime) -> Result<Option<(u32, u32)>, Fault> {
 }
 
 fn print_long_walk(rt: &HostRuntime, first: u32, steps: u32) -> Result<(), Fault> {
-    let told = steps_told(rt.alloc(), first, steps)?;
+    let told = long_told(rt.alloc(), first, steps)?;
     println!(rt; "{told}")?;
     Ok(())
 }
 
 /// The rows that are in no file: each step of all trees of up to three states, the numbers of these, and random walks.
-fn compare(alloc: Global, count: &mut Count) -> Result<(), Fault> {
+fn compare(alloc: Global, pairs: &mut Pairs, count: &mut Count) -> Result<(), Fault> {
     for (states, trees) in TREES {
-        let found = compared::all_of(alloc, states, count)?;
+        let found = pairs.all_of(alloc, states, count)?;
         count.add(found != trees);
     }
-    compared::by_chance(alloc, count)
+    let mut sequence = Sequence::new(1);
+    for _ in 0..400 {
+        pairs.walk(alloc, &mut sequence, count)?;
+    }
+    Ok(())
 }

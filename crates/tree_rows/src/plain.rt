@@ -1,191 +1,182 @@
 //! Safra trees as lists of sets, and their step, written out part by part (Safra 1988, Piterman 2007).
 
 use safra_trees::Move;
-use std::alloc::{AllocError, Global};
 
-/// A node: the name of its parent, and for each state whether it has it in its set.
-#[derive(PartialEq, Eq, Drop)]
+/// The greatest number of states, and so of the nodes of a tree.
+pub(crate) const STATES: usize = 8;
+
+/// The number of names in a step: a fresh child's is `STATES` more than its parent's.
+const NAMES: usize = 16;
+
+/// A node: the name of its parent, and the set of its states, as bits. There is none of a name whose set is empty.
+#[derive(Clone, Copy, PartialEq, Eq)]
 pub(crate) struct PlainNode {
     pub(crate) parent: usize,
-    pub(crate) holds: Vec<bool>,
+    pub(crate) holds: u64,
 }
 
+const NO_NODE: PlainNode = PlainNode {
+    parent: 0,
+    holds: 0,
+};
+
+/// The nodes by their names.
+pub(crate) type PlainTree = [PlainNode; NAMES];
+
 /// The answer of a step.
-#[derive(Drop)]
+#[derive(Clone, Copy)]
 pub(crate) struct PlainStep {
-    pub(crate) tree: Vec<PlainNode>,
+    pub(crate) tree: PlainTree,
     pub(crate) red: Option<u32>,
     pub(crate) green: Option<u32>,
 }
 
-/// The tree of one node with these states, or none.
-pub(crate) fn plain_start(
-    alloc: Global,
-    states: u32,
-    starts: &[u32],
-) -> Result<Vec<PlainNode>, AllocError> {
-    let mut holds = vec![in alloc; false; states as usize]?;
-    for start in starts {
-        add(&mut holds, *start);
-    }
-    let mut tree = Vec::new(alloc);
-    if has_some(&holds) {
-        tree.push(PlainNode { parent: 0, holds })?;
-    }
-    Ok(tree)
+/// The tree of the first state alone.
+pub(crate) fn plain_start() -> PlainTree {
+    let mut tree = [NO_NODE; NAMES];
+    put(&mut tree, 0, 0, bit(0));
+    tree
 }
 
 /// The step: successors and fresh children, horizontal merge, vertical merge, and new names.
-pub(crate) fn plain_step(
-    alloc: Global,
-    tree: &[PlainNode],
-    moves: &[Move],
-) -> Result<PlainStep, AllocError> {
-    let grown = grown(alloc, tree, moves)?;
-    let kept = kept(alloc, &grown)?;
-    let stay = stay(alloc, &kept)?;
-    let mut red = None;
-    let mut green = None;
-    for name in 0..kept.len() {
-        let stays = is_set(&stay, name);
-        if red.is_none() && !stays && name < tree.len() {
-            red = u32::try_from(name).ok();
-        }
-        if green.is_none() && stays && is_covered(&kept, name) {
-            green = u32::try_from(name).ok();
-        }
+pub(crate) fn plain_step(tree: &[PlainNode], moves: &[Move]) -> PlainStep {
+    let kept = kept(&grown(tree, moves));
+    let covered = covered(&kept);
+    let stay = stay(&kept, covered);
+    PlainStep {
+        tree: renamed(&kept, stay),
+        red: least(names(tree) & !stay),
+        green: least(covered & stay),
     }
-    Ok(PlainStep {
-        tree: renamed(alloc, &kept, &stay)?,
-        red,
-        green,
-    })
 }
 
 /// Each node with the successors of its set, and after all of them a youngest child of each with its accepting successors.
-fn grown(alloc: Global, tree: &[PlainNode], moves: &[Move]) -> Result<Vec<PlainNode>, AllocError> {
-    let mut nodes = Vec::new(alloc);
-    for node in tree {
-        nodes.push(PlainNode {
-            parent: node.parent,
-            holds: goals(alloc, &node.holds, moves, false)?,
-        })?;
+fn grown(tree: &[PlainNode], moves: &[Move]) -> PlainTree {
+    let mut nodes = [NO_NODE; NAMES];
+    for name in 0..STATES {
+        let old = node(tree, name);
+        put(&mut nodes, name, old.parent, goals(old.holds, moves, false));
+        let fresh = name + STATES;
+        put(&mut nodes, fresh, name, goals(old.holds, moves, true));
     }
-    for (name, node) in tree.iter().enumerate() {
-        nodes.push(PlainNode {
-            parent: name,
-            holds: goals(alloc, &node.holds, moves, true)?,
-        })?;
-    }
-    Ok(nodes)
+    nodes
 }
 
 /// The successors of a set by all moves, or by accepting ones alone.
-fn goals(
-    alloc: Global,
-    from: &[bool],
-    moves: &[Move],
-    accepting: bool,
-) -> Result<Vec<bool>, AllocError> {
-    let mut found = vec![in alloc; false; from.len()]?;
+fn goals(from: u64, moves: &[Move], accepting: bool) -> u64 {
+    let mut found = 0;
     for one in moves {
         if is_set(from, one.from as usize) && (one.accepting || !accepting) {
-            add(&mut found, one.to);
+            found |= bit(one.to as usize);
         }
     }
-    Ok(found)
+    found
 }
 
 /// The horizontal merge: each node with the states that its parent keeps and no older sibling has.
-fn kept(alloc: Global, nodes: &[PlainNode]) -> Result<Vec<PlainNode>, AllocError> {
-    let mut kept = Vec::new(alloc);
-    for (name, node) in nodes.iter().enumerate() {
-        let mut holds = Vec::new(alloc);
-        for (state, held) in node.holds.iter().enumerate() {
-            holds.push(*held && (name == 0 || is_left(&kept, node.parent, state)))?;
-        }
-        kept.push(PlainNode {
-            parent: node.parent,
-            holds,
-        })?;
+fn kept(nodes: &[PlainNode]) -> PlainTree {
+    let mut kept = [NO_NODE; NAMES];
+    for name in 0..NAMES {
+        let one = node(nodes, name);
+        let left = if name == 0 {
+            one.holds
+        } else {
+            node(&kept, one.parent).holds & !in_children(&kept, one.parent)
+        };
+        put(&mut kept, name, one.parent, one.holds & left);
     }
-    Ok(kept)
+    kept
 }
 
-/// Whether a parent keeps a state that no child before this one in the list has.
-fn is_left(kept: &[PlainNode], parent: usize, state: usize) -> bool {
-    let mut left = false;
-    for (name, node) in kept.iter().enumerate() {
-        if name == parent {
-            left = is_set(&node.holds, state);
-        } else if name > 0 && node.parent == parent && is_set(&node.holds, state) {
-            return false;
+/// The states that the children of a node have.
+fn in_children(nodes: &[PlainNode], parent: usize) -> u64 {
+    let mut found = 0;
+    for name in 1..NAMES {
+        let one = node(nodes, name);
+        if one.parent == parent {
+            found |= one.holds;
         }
     }
-    left
+    found
+}
+
+/// The names of nodes whose children cover them: each state is in one of them.
+fn covered(kept: &[PlainNode]) -> u64 {
+    let mut covered = 0;
+    for name in 0..NAMES {
+        if node(kept, name).holds & !in_children(kept, name) == 0 {
+            covered |= bit(name);
+        }
+    }
+    covered
 }
 
 /// The vertical merge, which nodes stay: those with states, none of whose ancestors is covered by its children.
-fn stay(alloc: Global, kept: &[PlainNode]) -> Result<Vec<bool>, AllocError> {
-    let mut stay = Vec::new(alloc);
-    for (name, node) in kept.iter().enumerate() {
-        let open = name == 0 || (is_set(&stay, node.parent) && !is_covered(kept, node.parent));
-        stay.push(open && has_some(&node.holds))?;
-    }
-    Ok(stay)
-}
-
-/// Whether the children of a node cover it: each of its states is in one of them.
-fn is_covered(kept: &[PlainNode], name: usize) -> bool {
-    let Some(node) = kept.get(name) else {
-        return false;
-    };
-    for (state, held) in node.holds.iter().enumerate() {
-        if *held && !in_child(kept, name, state) {
-            return false;
+fn stay(kept: &[PlainNode], covered: u64) -> u64 {
+    let mut stay = 0;
+    for name in 0..NAMES {
+        let one = node(kept, name);
+        let open = name == 0 || is_set(stay & !covered, one.parent);
+        if open && one.holds != 0 {
+            stay |= bit(name);
         }
     }
-    true
-}
-
-fn in_child(kept: &[PlainNode], parent: usize, state: usize) -> bool {
-    for (name, node) in kept.iter().enumerate() {
-        if name > 0 && node.parent == parent && is_set(&node.holds, state) {
-            return true;
-        }
-    }
-    false
+    stay
 }
 
 /// The nodes that stay, with names closed up.
-fn renamed(alloc: Global, kept: &[PlainNode], stay: &[bool]) -> Result<Vec<PlainNode>, AllocError> {
-    let mut tree = Vec::new(alloc);
-    for (name, node) in kept.iter().enumerate() {
+fn renamed(kept: &[PlainNode], stay: u64) -> PlainTree {
+    let mut tree = [NO_NODE; NAMES];
+    for name in 0..NAMES {
         if is_set(stay, name) {
-            tree.push(PlainNode {
-                parent: rank(stay, node.parent),
-                holds: node.holds.clone()?,
-            })?;
+            let one = node(kept, name);
+            put(&mut tree, rank(stay, name), rank(stay, one.parent), one.holds);
         }
     }
-    Ok(tree)
+    tree
 }
 
 /// How many of the names before this one stay.
-fn rank(stay: &[bool], name: usize) -> usize {
-    stay.iter().take(name).filter(|stays| **stays).count()
+fn rank(stay: u64, name: usize) -> usize {
+    (stay & bit(name).saturating_sub(1)).count_ones() as usize
 }
 
-pub(crate) fn is_set(flags: &[bool], place: usize) -> bool {
-    flags.get(place) == Some(&true)
-}
-
-fn has_some(flags: &[bool]) -> bool {
-    flags.iter().any(|flag| *flag)
-}
-
-fn add(flags: &mut [bool], place: u32) {
-    if (place as usize) < flags.len() {
-        flags[place as usize] = true;
+/// The names of a tree.
+pub(crate) fn names(tree: &[PlainNode]) -> u64 {
+    let mut names = 0;
+    for name in 0..NAMES {
+        if node(tree, name).holds != 0 {
+            names |= bit(name);
+        }
     }
+    names
+}
+
+fn least(names: u64) -> Option<u32> {
+    if names == 0 {
+        return None;
+    }
+    Some(names.trailing_zeros())
+}
+
+/// The node of this name.
+pub(crate) fn node(tree: &[PlainNode], name: usize) -> PlainNode {
+    match tree.get(name) {
+        Some(node) => *node,
+        None => NO_NODE,
+    }
+}
+
+fn put(tree: &mut [PlainNode], name: usize, parent: usize, holds: u64) {
+    if let Some(node) = tree.get_mut(name) {
+        *node = PlainNode { parent, holds };
+    }
+}
+
+pub(crate) fn bit(place: usize) -> u64 {
+    1 << place.min(63)
+}
+
+pub(crate) fn is_set(flags: u64, place: usize) -> bool {
+    flags & bit(place) != 0
 }

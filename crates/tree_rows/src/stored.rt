@@ -1,70 +1,79 @@
 //! Plain trees in the form in which `safra_trees` stores trees.
 
-use crate::plain::{PlainNode, is_set};
-use aut_base::Numbers;
-use row_files::Fault;
+use crate::plain::{PlainNode, STATES, is_set, node};
 use safra_trees::SafraTree;
-use std::alloc::Global;
+use std::alloc::{AllocError, Global};
 
-/// What `safra_trees` stores of a tree. The fields have the same names, so that the debug texts of both are equal but for the
-/// name of the type.
-#[derive(Debug, Drop)]
-struct StoredTree {
-    parents: Numbers,
-    states: Numbers,
-    places: Numbers,
+/// A text that is read from its beginning on, and whether it was so far what was expected.
+#[derive(Clone, Copy)]
+struct Reading<'a> {
+    rest: &'a [u8],
+    agrees: bool,
 }
 
-/// Whether the stored tree is the plain one: the parent of each node, and for each state the deepest node that has it.
+impl<'a> Reading<'a> {
+    /// Reads these bytes.
+    fn bytes(&mut self, bytes: &[u8]) {
+        match self.rest.strip_prefix(bytes) {
+            Some(rest) => self.rest = rest,
+            None => self.agrees = false,
+        }
+    }
+
+    /// Reads the next number of a list. All are below 10.
+    fn number(&mut self, number: usize) {
+        if let Some(rest) = self.rest.strip_prefix(b", ") {
+            self.rest = rest;
+        }
+        self.bytes(&[b'0'.saturating_add(number.min(9) as u8)]);
+    }
+}
+
+/// Whether the stored tree is the plain one, by its debug text: the parent of each node, and for each state the deepest node
+/// that has it.
 pub(crate) fn is_stored(
     alloc: Global,
     tree: &SafraTree,
     plain: &[PlainNode],
-) -> Result<bool, Fault> {
-    let expected = plain_text(alloc, plain)?;
-    let found = format!(in alloc; "{tree:?}")?;
-    Ok(found.strip_prefix("Safra") == expected.strip_prefix("Stored"))
+) -> Result<bool, AllocError> {
+    let text = format!(in alloc; "{tree:?}")?;
+    Ok(is_text(text.as_bytes(), plain))
 }
 
-/// The debug text of a plain tree as it would be stored.
-fn plain_text(alloc: Global, plain: &[PlainNode]) -> Result<String, Fault> {
-    let tree = stored(alloc, plain)?;
-    Ok(format!(in alloc; "{tree:?}")?)
-}
-
-fn stored(alloc: Global, plain: &[PlainNode]) -> Result<StoredTree, Fault> {
-    let mut parents = Numbers::new(alloc);
-    let mut states = Numbers::new(alloc);
-    let mut places = Numbers::new(alloc);
-    for node in plain {
-        parents.push(number(node.parent))?;
-    }
-    let bound = plain.first().map_or(0, |root| root.holds.len());
-    for state in 0..bound {
-        if let Some(place) = deepest(plain, state) {
-            states.push(number(state))?;
-            places.push(number(place))?;
+fn is_text(text: &[u8], plain: &[PlainNode]) -> bool {
+    let mut reading = Reading {
+        rest: text,
+        agrees: true,
+    };
+    reading.bytes(b"SafraTree { parents: Seq { items: [");
+    for one in plain {
+        if one.holds != 0 {
+            reading.number(one.parent);
         }
     }
-    Ok(StoredTree {
-        parents,
-        states,
-        places,
-    })
+    reading.bytes(b"] }, states: Seq { items: [");
+    for state in 0..STATES {
+        if deepest(plain, state).is_some() {
+            reading.number(state);
+        }
+    }
+    reading.bytes(b"] }, places: Seq { items: [");
+    for state in 0..STATES {
+        if let Some(place) = deepest(plain, state) {
+            reading.number(place);
+        }
+    }
+    reading.bytes(b"] } }");
+    reading.agrees && reading.rest.is_empty()
 }
 
 /// The last of the nodes that have a state, which is the deepest.
 fn deepest(plain: &[PlainNode], state: usize) -> Option<usize> {
     let mut last = None;
-    for (name, node) in plain.iter().enumerate() {
-        if is_set(&node.holds, state) {
+    for name in 0..STATES {
+        if is_set(node(plain, name).holds, state) {
             last = Some(name);
         }
     }
     last
-}
-
-/// A number in a tree, all of which are small.
-fn number(small: usize) -> u32 {
-    u32::try_from(small).unwrap_or(u32::MAX)
 }
