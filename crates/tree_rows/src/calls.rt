@@ -19,7 +19,11 @@ impl Answers for Trees {
             moves: Moves::new(alloc),
             answer: Answer::new(alloc),
         };
-        walk.call(alloc, call, std::str::from_utf8(text.as_bytes()).unwrap_or(""))?;
+        walk.call(
+            alloc,
+            call,
+            std::str::from_utf8(text.as_bytes()).unwrap_or(""),
+        )?;
         Ok(walk.answer.end()?)
     }
 }

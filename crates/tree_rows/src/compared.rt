@@ -105,7 +105,12 @@ impl Pairs {
     }
 
     /// Steps the pair at an index by the moves, and adds the new one. Fails where an end of a move is no state.
-    fn step(&mut self, alloc: Global, states: u32, place: usize) -> Result<(Event, PlainStep), Fault> {
+    fn step(
+        &mut self,
+        alloc: Global,
+        states: u32,
+        place: usize,
+    ) -> Result<(Event, PlainStep), Fault> {
         let Some(pair) = self.pairs.get(place) else {
             return Err(Fault::Failed);
         };
@@ -121,7 +126,13 @@ impl Pairs {
     }
 
     /// Whether the last pair, which a step of that at an index led to, is of equal trees, as the step says.
-    fn agrees(&self, alloc: Global, place: usize, event: Event, told: &PlainStep) -> Result<bool, Fault> {
+    fn agrees(
+        &self,
+        alloc: Global,
+        place: usize,
+        event: Event,
+        told: &PlainStep,
+    ) -> Result<bool, Fault> {
         let (Some(before), Some(pair)) = (self.pairs.get(place), self.pairs.last()) else {
             return Err(Fault::Failed);
         };

@@ -130,7 +130,12 @@ fn renamed(kept: &[PlainNode], stay: u64) -> PlainTree {
     for name in 0..NAMES {
         if is_set(stay, name) {
             let one = node(kept, name);
-            put(&mut tree, rank(stay, name), rank(stay, one.parent), one.holds);
+            put(
+                &mut tree,
+                rank(stay, name),
+                rank(stay, one.parent),
+                one.holds,
+            );
         }
     }
     tree
