@@ -1,12 +1,14 @@
 //! Calls on a file whose reads and writes are interrupted and short, and on files that no memory is found to open.
 
+ghost use Rattle.std.specs.Prelude.{ℕ, List};
+
 use crate::no_memory::NoMemory;
 use crate::pattern::{NAME, count_pattern, pattern, write_pattern};
 use crate::unsteady::Unsteady;
-use aut_base::{Failed, OpenFail, Text};
+use aut_base::{Failed, Memory, OpenFail, Text};
 use aut_io::Inputs;
 use real_io::RealInputs;
-use row_files::{Answers, Fault, kind_and_rest, number};
+use row_files::{Answer, Answers, Fault, kind_and_rest, number};
 use std::alloc::Global;
 use std::fs;
 use std::fs::File;
@@ -20,63 +22,75 @@ pub(crate) struct Calls;
 
 impl Answers for Calls {
     fn answer(&self, rt: &HostRuntime, call: &str, text: &Text) -> Result<Text, Fault> {
-        let line = std::str::from_utf8(text.as_bytes())
-            .unwrap_or("")
-            .trim_end();
-        match call {
-            "file" => found(rt, line),
-            "write" => written(rt, line),
-            "read" => read(rt, line),
-            "open without memory" => opened_without_memory(rt.alloc(), line),
-            _ => Err(Fault::UnknownKind),
-        }
+        let line = std::str::from_utf8(text.as_bytes()).unwrap_or("");
+        let mut answer = Answer::new(rt.alloc());
+        add_answer(rt, &mut answer, call, line.trim_end())?;
+        Ok(answer.end()?)
+    }
+}
+
+fn add_answer(rt: &HostRuntime, answer: &mut Answer, call: &str, line: &str) -> Result<(), Fault> {
+    match call {
+        "file" => add_found(rt, answer, line),
+        "write" => add_written(rt, answer, line),
+        "read" => add_read(rt, answer, line),
+        "open without memory" => add_opened(rt.alloc(), answer, line),
+        _ => Err(Fault::UnknownKind),
     }
 }
 
 /// How many bytes of a file are those of the pattern, and whether others follow.
-fn found(rt: &HostRuntime, name: &str) -> Result<Text, Fault> {
-    let bytes = fs::read(rt, name)?;
-    let count = count_pattern(&bytes);
-    let mut answer = Text::from_bytes(rt.alloc(), digits(rt.alloc(), count)?.as_bytes())?;
-    answer.extend(b" bytes")?;
-    if bytes.len() != count as usize {
-        answer.extend(b", others")?;
-    }
-    Ok(answer)
+fn add_found(rt: &HostRuntime, answer: &mut Answer, name: &str) -> Result<(), Fault> {
+    add_bytes(answer, &fs::read(rt, name)?);
+    Ok(())
 }
 
-fn digits(alloc: Global, count: u32) -> Result<String, Fault> {
-    Ok(format!(in alloc; "{count}")?)
+fn add_bytes(answer: &mut Answer, bytes: &[u8]) {
+    let count = count_pattern(bytes);
+    add_size(answer, count);
+    if bytes.len() != count as usize {
+        answer.add(b", others");
+    }
+}
+
+fn add_size(answer: &mut Answer, count: u32) {
+    answer.add_number(u64::from(count));
+    answer.add(b" bytes");
 }
 
 /// From `SIGNALS GOOD`: what a file contains after it was written by unsteady calls, and whether a write failed.
-fn written(rt: &HostRuntime, line: &str) -> Result<Text, Fault> {
-    let (signals, good) = kind_and_rest(line);
-    let file = File::create(rt, UNSTEADY_NAME)?;
-    let file = Unsteady::new(file, number(signals)?, number(good)?);
+fn add_written(rt: &HostRuntime, answer: &mut Answer, line: &str) -> Result<(), Fault> {
+    let (signals, good) = signals_and_good(line)?;
+    let file = Unsteady::new(File::create(rt, UNSTEADY_NAME)?, signals, good);
     let has_failed = write_pattern(rt.alloc(), file).is_err();
-    let mut answer = found(rt, UNSTEADY_NAME)?;
+    add_found(rt, answer, UNSTEADY_NAME)?;
     fs::remove_file(rt, UNSTEADY_NAME)?;
     if has_failed {
-        answer.extend(b", failed")?;
+        answer.add(b", failed");
     }
-    Ok(answer)
+    Ok(())
+}
+
+fn signals_and_good(line: &str) -> Result<(u32, u32), Fault> {
+    let (signals, good) = kind_and_rest(line);
+    Ok((number(signals)?, number(good)?))
 }
 
 /// From `SIGNALS GOOD`: how many bytes of the file are read by unsteady calls, and what the two calls after them answer.
-fn read(rt: &HostRuntime, line: &str) -> Result<Text, Fault> {
-    let (signals, good) = kind_and_rest(line);
-    let file = File::open(rt, NAME)?;
-    let file = Unsteady::new(file, number(signals)?, number(good)?);
+fn add_read(rt: &HostRuntime, answer: &mut Answer, line: &str) -> Result<(), Fault> {
+    let (signals, good) = signals_and_good(line)?;
+    let file = Unsteady::new(File::open(rt, NAME)?, signals, good);
     let mut inputs = RealInputs::new(rt.alloc(), file, NoMemory::new())?;
-    if inputs.open(&Text::from_bytes(rt.alloc(), b"-")?).is_err() {
-        return Err(Fault::Failed);
-    }
-    taken(rt.alloc(), &mut inputs)
+    add_taken(rt.alloc(), answer, &mut inputs)
 }
 
-/// How many bytes are read, and what the two calls after them answer.
-fn taken<I: Inputs>(alloc: Global, inputs: &mut I) -> Result<Text, Fault> {
+/// How many bytes of standard input are read, and what the two calls after them answer.
+fn add_taken<I: Inputs>(alloc: Global, answer: &mut Answer, inputs: &mut I) -> Result<(), Fault>
+    requires { (name : List ℕ) → I.may_open name }
+{
+    if open(alloc, inputs, b"-")?.is_err() {
+        return Err(Fault::Failed);
+    }
     let mut count = 0u32;
     let mut last = inputs.next();
     for _ in 0..u32::MAX {
@@ -86,11 +100,22 @@ fn taken<I: Inputs>(alloc: Global, inputs: &mut I) -> Result<Text, Fault> {
         count = count.saturating_add(1);
         last = inputs.next();
     }
-    let mut answer = Text::from_bytes(alloc, digits(alloc, count)?.as_bytes())?;
-    answer.extend(b" bytes")?;
-    answer.extend(told(&last))?;
-    answer.extend(told(&inputs.next()))?;
-    Ok(answer)
+    add_size(answer, count);
+    answer.add(told(&last));
+    answer.add(told(&inputs.next()));
+    Ok(())
+}
+
+/// Opens a name.
+fn open<I: Inputs>(
+    alloc: Global,
+    inputs: &mut I,
+    name: &[u8],
+) -> Result<Result<(), OpenFail>, Memory>
+    requires { (name : List ℕ) → I.may_open name }
+{
+    let name = Text::from_bytes(alloc, name)?;
+    Ok(inputs.open(&name))
 }
 
 /// The answer of a call, in words.
@@ -103,14 +128,14 @@ fn told(answer: &Result<Option<u8>, Failed>) -> &'static [u8] {
 }
 
 /// The answer where no memory is found to open a file, and that of a read after it.
-fn opened_without_memory(alloc: Global, name: &str) -> Result<Text, Fault> {
+fn add_opened(alloc: Global, answer: &mut Answer, name: &str) -> Result<(), Fault> {
     let mut inputs = RealInputs::new(alloc, b"".as_slice(), NoMemory::new())?;
-    let opened: &[u8] = match inputs.open(&Text::from_bytes(alloc, name.as_bytes())?) {
+    let opened: &[u8] = match open(alloc, &mut inputs, name.as_bytes())? {
         Ok(()) => b"opened",
         Err(OpenFail::Failed) => b"failed",
         Err(OpenFail::Memory) => b"memory",
     };
-    let mut answer = Text::from_bytes(alloc, opened)?;
-    answer.extend(told(&inputs.next()))?;
-    Ok(answer)
+    answer.add(opened);
+    answer.add(told(&inputs.next()));
+    Ok(())
 }

@@ -13,7 +13,6 @@ mod unsteady;
 use calls::Calls;
 use openings::Openings;
 use pattern::{NAME, write_pattern};
-use real_io::{RealInputs, SystemFiles};
 use row_files::{Count, Fault, Stop, ask, run};
 use std::fs;
 use std::fs::File;
@@ -39,13 +38,12 @@ fn write_files(rt: &HostRuntime) -> Result<(), Fault> {
 
 /// Runs the rows of openings, one after the other over the same inputs.
 fn run_openings(rt: &HostRuntime, count: &mut Count) -> Result<(), Stop> {
-    let mut openings = Openings::new(rt.alloc(), inputs(rt)?);
+    let mut openings = first_openings(rt)?;
     run(rt, &["openings.rows"], &mut openings, count)
 }
 
-fn inputs(rt: &HostRuntime) -> Result<RealInputs<File, SystemFiles<&HostRuntime>>, Fault> {
-    let standard = File::open(rt, NAME)?;
-    Ok(RealInputs::new(rt.alloc(), standard, SystemFiles::new(rt))?)
+fn first_openings(rt: &HostRuntime) -> Result<Openings<'_>, Fault> {
+    Ok(Openings::new(rt, File::open(rt, NAME)?)?)
 }
 
 fn remove_files(rt: &HostRuntime) -> Result<(), Fault> {

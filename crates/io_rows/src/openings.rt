@@ -3,7 +3,7 @@
 ghost use Rattle.std.specs.Prelude.{ℕ, List};
 
 use crate::pattern::{SIZE, pattern};
-use aut_base::{OpenFail, Text};
+use aut_base::{Memory, OpenFail, Text};
 use aut_io::Inputs;
 use real_io::{RealInputs, SystemFiles};
 use row_files::{Fault, Row, add_escaped, kind_and_rest, number, range};
@@ -37,16 +37,13 @@ pub(crate) struct Openings<'a> {
 
 impl<'a> Openings<'a> {
     /// No row was read yet.
-    pub(crate) fn new(
-        alloc: Global,
-        inputs: RealInputs<File, SystemFiles<&'a HostRuntime>>,
-    ) -> Openings<'a> {
-        Openings {
-            inputs,
-            lines: String::new(alloc),
-            name: Text::new(alloc),
+    pub(crate) fn new(rt: &'a HostRuntime, standard: File) -> Result<Openings<'a>, Memory> {
+        Ok(Openings {
+            inputs: RealInputs::new(rt.alloc(), standard, SystemFiles::new(rt))?,
+            lines: String::new(rt.alloc()),
+            name: Text::new(rt.alloc()),
             is_met: false,
-        }
+        })
     }
 }
 

@@ -22,16 +22,18 @@ pub(crate) fn pattern(place: u32) -> u8 {
 
 /// Writes the bytes of the file piece by piece.
 pub(crate) fn write_pattern<W: Write + Drop>(alloc: Global, writer: W) -> Result<(), Fault> {
-    let mut sink = RealSink::new(writer);
-    let mut piece = Vec::new(alloc);
+    write_pieces(&mut RealSink::new(writer), &mut Vec::new(alloc))
+}
+
+fn write_pieces<S: Sink>(sink: &mut S, piece: &mut Vec<u8>) -> Result<(), Fault> {
     for place in 0..SIZE {
         piece.push(pattern(place))?;
         if place % PIECE == PIECE - 1 {
-            write(&mut sink, &piece)?;
+            write(sink, piece)?;
             piece.clear();
         }
     }
-    write(&mut sink, &piece)
+    write(sink, piece)
 }
 
 fn write<S: Sink>(sink: &mut S, piece: &[u8]) -> Result<(), Fault> {
