@@ -156,20 +156,31 @@ impl Walk {
         let (states, steps) = range(line)?;
         add_chain(&mut self.moves, states)?;
         self.begin(alloc, "0")?;
-        for _ in 0..steps {
-            if self.next(alloc)?.is_none() {
-                self.answer.add(b"too many");
-                return Ok(());
-            }
-        }
-        if goes_back {
-            self.moves.clear();
-            add(&mut self.moves, states.saturating_sub(1), 0, false)?;
-            self.take(alloc)?;
+        if !self.grow(alloc, steps)? {
+            self.answer.add(b"too many");
+        } else if goes_back {
+            self.go_back(alloc, states)?;
         } else {
             self.tell_nodes();
         }
         Ok(())
+    }
+
+    /// Takes so many steps, and answers whether none had too many nodes.
+    fn grow(&mut self, alloc: Global, steps: u32) -> Result<bool, Fault> {
+        for _ in 0..steps {
+            if self.next(alloc)?.is_none() {
+                return Ok(false);
+            }
+        }
+        Ok(true)
+    }
+
+    /// Takes a step from the last of so many states to the first.
+    fn go_back(&mut self, alloc: Global, states: u32) -> Result<bool, Fault> {
+        self.moves.clear();
+        add(&mut self.moves, states.saturating_sub(1), 0, false)?;
+        self.take(alloc)
     }
 
     /// From `SEED STEPS`: what is seen on a long walk.
