@@ -4,10 +4,19 @@ use aut_base::{Memory, Text};
 use std::alloc::{AllocError, Global};
 
 /// An answer that words are added to. Where memory is wanting for one, there is no answer at the end.
-#[derive(Drop)]
 pub struct Answer {
     text: Text,
     lacks_memory: bool,
+}
+
+// Written down, so that it is proved here alone.
+impl Drop for Answer {
+    fn drop(self) {
+        let Answer {
+            text: _,
+            lacks_memory: _,
+        } = self;
+    }
 }
 
 impl Answer {
@@ -22,6 +31,16 @@ impl Answer {
     /// Whether nothing was added.
     pub fn is_empty(&self) -> bool {
         self.text.is_empty()
+    }
+
+    /// Whether these are its words, and none lacked memory.
+    pub fn is(&self, words: &[u8]) -> bool {
+        !self.lacks_memory && self.text.is(words)
+    }
+
+    /// Tells that memory was wanting for something that the answer is about.
+    pub fn lack_memory(&mut self) {
+        self.lacks_memory = true;
     }
 
     /// Adds bytes.
@@ -93,9 +112,10 @@ impl Answer {
 
     /// The whole answer.
     pub fn end(self) -> Result<Text, Memory> {
-        if self.lacks_memory {
+        let Answer { text, lacks_memory } = self;
+        if lacks_memory {
             return Err(Memory);
         }
-        Ok(self.text)
+        Ok(text)
     }
 }

@@ -1,7 +1,7 @@
 //! Rows that make a call, given by its name, with a text, and compare its answer.
 
 use crate::row::{Row, run};
-use crate::{Count, Fault, Stop, add, add_escaped, kind_and_rest};
+use crate::{Answer, Count, Fault, Stop, add, add_escaped, kind_and_rest};
 use aut_base::Text;
 use std::alloc::Global;
 
@@ -22,7 +22,7 @@ pub fn ask<A: Answers + Drop>(
     let mut row = Asked {
         answers,
         call: String::new(rt.alloc()),
-        lines: String::new(rt.alloc()),
+        lines: Answer::new(rt.alloc()),
         text: Text::new(rt.alloc()),
         wanted: Text::new(rt.alloc()),
     };
@@ -35,7 +35,7 @@ struct Asked<A> {
     answers: A,
     call: String,
     /// The lines of the input as they are written.
-    lines: String,
+    lines: Answer,
     text: Text,
     wanted: Text,
 }
@@ -43,24 +43,12 @@ struct Asked<A> {
 impl<A: Answers> Row for Asked<A> {
     fn add(&mut self, rt: &HostRuntime, line: &str) -> Result<bool, Fault> {
         let (kind, rest) = kind_and_rest(line);
-        if kind == ">" {
-            self.wanted.extend(rest.as_bytes())?;
-            return Ok(true);
-        }
-        if kind == "?" {
-            self.set_call(rest)?;
-            return Ok(false);
-        }
-        if kind == ">\\" {
-            add_escaped(rt.alloc(), &mut self.wanted, rest, 0)?;
-            return Ok(false);
-        }
-        self.add_input(rt, line)?;
-        Ok(false)
+        self.add_kind(rt, line, kind, rest)?;
+        Ok(kind == ">")
     }
 
     fn is_whole(&self) -> Result<bool, Fault> {
-        if self.lines.as_str().is_empty() {
+        if self.lines.is_empty() {
             return Ok(false);
         }
         Err(Fault::Missing)
@@ -75,18 +63,39 @@ impl<A: Answers> Row for Asked<A> {
     }
 
     fn clear(&mut self, alloc: Global) {
-        self.lines = String::new(alloc);
+        self.lines = Answer::new(alloc);
         self.text = Text::new(alloc);
         self.wanted = Text::new(alloc);
     }
 }
 
 impl<A> Asked<A> {
+    /// Takes a line of this kind.
+    fn add_kind(
+        &mut self,
+        rt: &HostRuntime,
+        line: &str,
+        kind: &str,
+        rest: &str,
+    ) -> Result<(), Fault> {
+        match kind {
+            "?" => self.set_call(rest),
+            ">" => Ok(self.wanted.extend(rest.as_bytes())?),
+            ">\\" => add_escaped(rt.alloc(), &mut self.wanted, rest, 0),
+            _ => self.add_input(rt, line, kind, rest),
+        }
+    }
+
     /// Adds a line of the input.
-    fn add_input(&mut self, rt: &HostRuntime, line: &str) -> Result<(), Fault> {
-        self.lines.push_str(line)?;
-        self.lines.push('\n')?;
-        let (kind, rest) = kind_and_rest(line);
+    fn add_input(
+        &mut self,
+        rt: &HostRuntime,
+        line: &str,
+        kind: &str,
+        rest: &str,
+    ) -> Result<(), Fault> {
+        self.lines.add(line.as_bytes());
+        self.lines.add(b"\n");
         match kind.strip_prefix('<') {
             Some(form) => add(rt, &mut self.text, form, rest),
             None => Err(Fault::UnknownKind),
@@ -95,15 +104,25 @@ impl<A> Asked<A> {
 
     /// The row with this answer.
     fn message(&self, alloc: Global, answer: &[u8]) -> Result<String, Fault> {
-        let call = self.call.as_str();
-        let lines = self.lines.as_str();
-        let shown = std::str::from_utf8(answer).unwrap_or("(no text)");
-        Ok(format!(in alloc; "? {call}\n{lines}> {shown}")?)
+        let mut shown = Answer::new(alloc);
+        self.show(&mut shown, answer);
+        let shown = shown.end()?;
+        Ok(String::from_utf8_lossy(alloc, shown.as_bytes())?)
+    }
+
+    /// Adds the row with this answer.
+    fn show(&self, shown: &mut Answer, answer: &[u8]) {
+        shown.add(b"? ");
+        shown.add(self.call.as_bytes());
+        shown.add(b"\n");
+        shown.add_all(&self.lines);
+        shown.add(b"> ");
+        shown.add(answer);
     }
 
     /// Takes the name of the call, for this row and those after it.
     fn set_call(&mut self, name: &str) -> Result<(), Fault> {
-        if !self.lines.as_str().is_empty() {
+        if !self.lines.is_empty() {
             return Err(Fault::Misplaced);
         }
         self.call.clear();

@@ -7,76 +7,112 @@ use std::alloc::Global;
 /// Reads a condition.
 pub fn read_condition(alloc: Global, text: &str) -> Result<Formula, Fault> {
     let mut parts = Vec::new(alloc);
-    for word in text.split(',') {
-        let part = read_word(alloc, word, &mut parts)?;
-        parts.push(part)?;
-    }
-    let whole = last(&mut parts)?;
-    if !parts.is_empty() {
-        return Err(Fault::Missing);
-    }
-    Ok(whole)
+    add_words(alloc, &mut parts, text)?;
+    parts.pop().ok_or(Fault::Missing)
 }
 
-/// The condition of a word and the parts that it takes.
-fn read_word(alloc: Global, word: &str, parts: &mut Vec<Formula>) -> Result<Formula, Fault> {
+/// Reads the words, which leave one part.
+fn add_words(alloc: Global, parts: &mut Vec<Formula>, text: &str) -> Result<(), Fault> {
+    for word in text.split(',') {
+        add_word(alloc, parts, word)?;
+    }
+    if parts.len() == 1 {
+        return Ok(());
+    }
+    Err(Fault::Missing)
+}
+
+/// Adds the condition of a word, made of the parts that it takes.
+fn add_word(alloc: Global, parts: &mut Vec<Formula>, word: &str) -> Result<(), Fault> {
     match word {
-        "t" => Ok(Formula::True),
-        "f" => Ok(Formula::False),
-        "&" => Ok(Formula::And(last_two(alloc, parts)?)),
-        "|" => Ok(Formula::Or(last_two(alloc, parts)?)),
-        "&&" => Ok(Formula::And(last_three(alloc, parts)?)),
-        "||" => Ok(Formula::Or(last_three(alloc, parts)?)),
+        "&" => join(alloc, parts, 2, true),
+        "|" => join(alloc, parts, 2, false),
+        "&&" => join(alloc, parts, 3, true),
+        "||" => join(alloc, parts, 3, false),
         _ => match word.strip_prefix('&') {
-            Some(times) => Ok(repeated(alloc, number(times)?, &last(parts)?)?),
-            None => read_atom(word),
+            Some(times) => repeat(alloc, parts, number(times)?),
+            None => push(parts, read_leaf(word)?),
         },
     }
 }
 
-fn read_atom(word: &str) -> Result<Formula, Fault> {
+/// Adds a part.
+fn push(parts: &mut Vec<Formula>, part: Formula) -> Result<(), Fault> {
+    match parts.push(part) {
+        Ok(()) => Ok(()),
+        Err(_) => Err(Fault::Memory),
+    }
+}
+
+/// The condition of a word that takes no part.
+fn read_leaf(word: &str) -> Result<Formula, Fault> {
     let neg = word.contains('!');
-    let set = number(word.trim_start_matches(['I', 'F', '!'].as_slice()))?;
-    match word.bytes().next() {
-        Some(b'I') => Ok(Formula::Inf { set, neg }),
-        Some(b'F') => Ok(Formula::Fin { set, neg }),
+    let set = word.trim_start_matches(['I', 'F', '!'].as_slice());
+    match word.as_bytes().first() {
+        Some(b't') => Ok(Formula::True),
+        Some(b'f') => Ok(Formula::False),
+        Some(b'I') => Ok(Formula::Inf {
+            set: number(set)?,
+            neg,
+        }),
+        Some(b'F') => Ok(Formula::Fin {
+            set: number(set)?,
+            neg,
+        }),
         _ => Err(Fault::UnknownKind),
     }
 }
 
-fn last_two(alloc: Global, parts: &mut Vec<Formula>) -> Result<Formulas, Fault> {
-    let second = last(parts)?;
-    let first = last(parts)?;
-    Ok(Formulas::pair(alloc, first, second)?)
-}
-
-fn last_three(alloc: Global, parts: &mut Vec<Formula>) -> Result<Formulas, Fault> {
-    let third = last(parts)?;
-    let mut all = last_two(alloc, parts)?;
-    all.push(third)?;
-    Ok(all)
-}
-
-/// Takes the last part.
-fn last(parts: &mut Vec<Formula>) -> Result<Formula, Fault> {
-    match parts.pop() {
-        Some(part) => Ok(part),
-        None => Err(Fault::Missing),
+/// Joins so many of the last parts, at least two.
+fn join(alloc: Global, parts: &mut Vec<Formula>, count: usize, is_and: bool) -> Result<(), Fault> {
+    if parts.len() < count {
+        return Err(Fault::Missing);
     }
+    let joined = taken(alloc, parts, count)?;
+    push(
+        parts,
+        if is_and {
+            Formula::And(joined)
+        } else {
+            Formula::Or(joined)
+        },
+    )
 }
 
-/// The conjunction of so many copies of a part, at least two.
-fn repeated(alloc: Global, times: u32, part: &Formula) -> Result<Formula, Memory> {
-    let mut copies = twice(alloc, part)?;
-    for _ in 2..times {
-        copies.push(part.copy(alloc)?)?;
+/// Takes so many of the last parts, at least two.
+fn taken(alloc: Global, parts: &mut Vec<Formula>, count: usize) -> Result<Formulas, Memory> {
+    let first = parts.len().saturating_sub(count);
+    let mut taken = Formulas::pair(alloc, take(parts, first), take(parts, first))?;
+    for _ in 2..count {
+        taken.push(take(parts, first))?;
     }
-    Ok(Formula::And(copies))
+    Ok(taken)
 }
 
-fn twice(alloc: Global, part: &Formula) -> Result<Formulas, Memory> {
-    let first = part.copy(alloc)?;
-    Formulas::pair(alloc, first, part.copy(alloc)?)
+/// Takes the part at this place.
+fn take(parts: &mut Vec<Formula>, place: usize) -> Formula {
+    if place < parts.len() {
+        return parts.remove(place);
+    }
+    Formula::True
+}
+
+/// Joins so many copies of the last part, at least two.
+fn repeat(alloc: Global, parts: &mut Vec<Formula>, times: u32) -> Result<(), Fault> {
+    let times = times.max(2);
+    for _ in 1..times {
+        push_copy(alloc, parts)?;
+    }
+    join(alloc, parts, times as usize, true)
+}
+
+/// Adds a copy of the last part.
+fn push_copy(alloc: Global, parts: &mut Vec<Formula>) -> Result<(), Fault> {
+    let copy = match parts.last() {
+        Some(part) => part.copy(alloc)?,
+        None => return Err(Fault::Missing),
+    };
+    push(parts, copy)
 }
 
 /// Adds a condition to an answer.

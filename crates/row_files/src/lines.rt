@@ -5,7 +5,7 @@ use std::alloc::{AllocError, AllocFailed, Global};
 use std::io;
 
 /// Why rows can't be read or run.
-#[derive(Debug, Drop)]
+#[derive(Clone, Copy, Debug)]
 pub enum Fault {
     /// A file could not be read, or standard output not written.
     Io(io::Error),
@@ -31,7 +31,7 @@ pub enum Fault {
 }
 
 /// Where and why reading or running the rows ended before the last. Lines are counted from 1.
-#[derive(Debug, Drop)]
+#[derive(Clone, Copy, Debug)]
 pub struct Stop {
     pub file: &'static str,
     pub line: u32,
@@ -92,10 +92,16 @@ pub fn number(word: &str) -> Result<u32, Fault> {
 /// Numbers separated by spaces.
 pub fn numbers(alloc: Global, rest: &str) -> Result<Numbers, Fault> {
     let mut list = Numbers::new(alloc);
+    add_numbers(&mut list, rest)?;
+    Ok(list)
+}
+
+/// Adds numbers separated by spaces.
+fn add_numbers(list: &mut Numbers, rest: &str) -> Result<(), Fault> {
     for word in rest.split(' ') {
         list.push(number(word)?)?;
     }
-    Ok(list)
+    Ok(())
 }
 
 /// Two numbers separated by a space, the first not greater than the second.

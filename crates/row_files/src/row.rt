@@ -48,6 +48,7 @@ fn run_file<R: Row>(
     run_text(rt, text.as_str(), number, row, count)
 }
 
+/// Gives each line to the row. The end of the text ends a row as an empty line does.
 fn run_text<R: Row>(
     rt: &HostRuntime,
     text: &str,
@@ -59,10 +60,7 @@ fn run_text<R: Row>(
         *number = number.saturating_add(1);
         run_line(rt, line, row, count)?;
     }
-    if row.is_whole()? {
-        finish(rt, row, count)?;
-    }
-    Ok(())
+    run_line(rt, "", row, count)
 }
 
 /// Gives a line to the row, and runs it where that ends it.
@@ -73,7 +71,8 @@ fn run_line<R: Row>(
     count: &mut Count,
 ) -> Result<(), Fault> {
     if is_ended(rt, line, row)? {
-        finish(rt, row, count)?;
+        count.take(rt, row.different(rt)?)?;
+        row.clear(rt.alloc());
     }
     Ok(())
 }
@@ -87,12 +86,4 @@ fn is_ended<R: Row>(rt: &HostRuntime, line: &str, row: &mut R) -> Result<bool, F
         return Ok(false);
     }
     row.add(rt, line)
-}
-
-/// Runs a complete row.
-fn finish<R: Row>(rt: &HostRuntime, row: &mut R, count: &mut Count) -> Result<(), Fault> {
-    let different = row.different(rt)?;
-    count.take(rt, different)?;
-    row.clear(rt.alloc());
-    Ok(())
 }
