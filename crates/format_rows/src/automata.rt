@@ -166,15 +166,16 @@ pub(crate) fn show_raw(answer: &mut Answer, raw: &Raw) {
 
 /// Adds a fault.
 pub(crate) fn show_read_fault(answer: &mut Answer, fault: ReadFault) {
-    match fault {
-        ReadFault::Syntax(offset) => {
-            answer.add(b"syntax ");
-            answer.add_number(offset);
-        }
-        ReadFault::Truncated => answer.add(b"truncated"),
-        ReadFault::Depth => answer.add(b"depth"),
-        ReadFault::Bytes => answer.add(b"bytes"),
-        ReadFault::Read => answer.add(b"read"),
-        ReadFault::Memory => answer.add(b"memory"),
+    let word: &[u8] = match fault {
+        ReadFault::Syntax(_) => b"syntax ",
+        ReadFault::Truncated => b"truncated",
+        ReadFault::Depth => b"depth",
+        ReadFault::Bytes => b"bytes",
+        ReadFault::Read => b"read",
+        ReadFault::Memory => b"memory",
+    };
+    answer.add(word);
+    if let ReadFault::Syntax(offset) = fault {
+        answer.add_number(offset);
     }
 }

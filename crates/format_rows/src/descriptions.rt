@@ -5,14 +5,14 @@ use aut_base::{Description, Edge, Marks};
 use hoa_parser::Raw;
 use hoa_reader::{ElabFault, describe};
 use row_files::{Answer, show_condition};
-use std::alloc::{AllocError, Global};
+use std::alloc::Global;
 
-/// The first broken rule or passed limit.
-fn refusal(alloc: Global, fault: ElabFault) -> Result<String, AllocError> {
+/// Adds the first broken rule or passed limit.
+fn show_refusal(alloc: Global, answer: &mut Answer, fault: ElabFault) {
     match fault {
-        ElabFault::Invalid(rule) => format!(in alloc; "invalid {rule:?}"),
-        ElabFault::Limit(limit) => format!(in alloc; "limit {limit:?}"),
-        ElabFault::Memory => String::from_str(alloc, "memory"),
+        ElabFault::Invalid(rule) => answer.add_words(format!(in alloc; "invalid {rule:?}")),
+        ElabFault::Limit(limit) => answer.add_words(format!(in alloc; "limit {limit:?}")),
+        ElabFault::Memory => answer.add(b"memory"),
     }
 }
 
@@ -66,6 +66,6 @@ fn show_valid(answer: &mut Answer, described: &Description, is_full: bool) {
 pub(crate) fn show_described(alloc: Global, answer: &mut Answer, raw: &Raw, is_full: bool) {
     match describe(alloc, raw) {
         Ok(described) => show_valid(answer, &described, is_full),
-        Err(fault) => answer.add_words(refusal(alloc, fault)),
+        Err(fault) => show_refusal(alloc, answer, fault),
     }
 }

@@ -3,12 +3,14 @@
 #![tactic(auto)]
 
 mod automata;
+mod call;
 mod descriptions;
 mod lassos;
 mod patterns;
-mod ran;
 mod reading;
 mod row;
+mod runs;
+mod script;
 mod sources;
 mod tokens;
 mod word_calls;

@@ -3,65 +3,29 @@
 ghost use Rattle.std.specs.Prelude.{◌≡◌, false};
 
 use crate::automata::{show_raw, show_read_fault};
+use crate::call::Call;
 use crate::descriptions::show_described;
-use crate::ran::Ran;
+use crate::script::{Counts, Script};
 use crate::tokens::{show_fault, show_token};
-use aut_base::Memory;
 use aut_io::Inputs;
-use hoa_lexer::{LexFault, Lexer, Token};
+use hoa_lexer::Lexer;
 use hoa_parser::{Front, Raw, read_raw};
 use row_files::Answer;
 use std::alloc::Global;
 
-/// A call of the lexer or the reader.
-#[derive(Clone, Copy)]
-pub(crate) enum Call {
-    /// `Lexer::next`
-    Next,
-    /// `Lexer::next`, until no token is left
-    All,
-    /// `read_raw`
-    ReadRaw,
-    /// `describe`, without the automaton
-    Describe,
-    /// `describe`, with the automaton
-    Description,
-}
-
-impl Call {
-    /// The call of this name.
-    pub(crate) fn named(name: &str) -> Option<Call> {
-        match name {
-            "next" => Some(Call::Next),
-            "all" => Some(Call::All),
-            "read_raw" => Some(Call::ReadRaw),
-            "describe" => Some(Call::Describe),
-            "description" => Some(Call::Description),
-            _ => None,
-        }
-    }
-}
-
-/// Which call is made, how often at most, and after how many answers a new text begins.
-#[derive(Clone, Copy)]
-pub(crate) struct Script {
-    pub(crate) call: Call,
-    pub(crate) times: u32,
-    pub(crate) begin: Option<u32>,
-}
-
-/// The answers to the calls of a script.
-pub(crate) fn carry_out<I: Inputs + Drop>(
+/// Adds the answers of a script.
+pub(crate) fn read<I: Inputs>(
     alloc: Global,
+    answer: &mut Answer,
     script: Script,
-    mut lexer: Lexer,
-    mut inputs: I,
-) -> Result<Ran, Memory> {
-    let mut answer = Answer::new(alloc);
-    ask_all_times(alloc, &mut answer, script, &mut lexer, &mut inputs);
-    let taken = lexer.taken();
-    let left = bytes_left(&mut inputs);
-    Ran::new(answer, taken, left)
+    inputs: &mut I,
+) -> Counts {
+    let mut lexer = Lexer::new(u64::from(script.most));
+    ask_all_times(alloc, answer, script, &mut lexer, inputs);
+    Counts {
+        taken: lexer.taken(),
+        left: bytes_left(inputs),
+    }
 }
 
 /// Adds the answers of the calls of a script, and a line feed.
@@ -72,7 +36,7 @@ fn ask_all_times<I: Inputs>(
     lexer: &mut Lexer,
     inputs: &mut I,
 ) {
-    for time in 0..script.times {
+    for time in 0..script.most_times() {
         if lexer.is_spent() {
             break;
         }
@@ -92,8 +56,8 @@ fn ask_all_times<I: Inputs>(
 }
 
 /// How many bytes are left of the open text. They are read for it, again after reads that fail.
-fn bytes_left<I: Inputs>(inputs: &mut I) -> u32 {
-    let mut left = 0u32;
+fn bytes_left<I: Inputs>(inputs: &mut I) -> u64 {
+    let mut left = 0u64;
     for _ in 0..u32::MAX {
         match inputs.next() {
             Ok(Some(_)) => left = left.saturating_add(1),
@@ -115,15 +79,41 @@ fn ask<I: Inputs>(
     requires { lexer.old.spent ≡ false }
 {
     match call {
-        Call::Next => ask_next(alloc, answer, lexer, inputs),
-        Call::All => ask_all(alloc, answer, lexer, inputs),
-        Call::ReadRaw | Call::Describe | Call::Description => {
-            ask_automaton(alloc, answer, call, lexer, inputs)
+        Call::Next | Call::All => ask_next(alloc, answer, call, lexer, inputs),
+        _ => ask_automaton(alloc, answer, call, lexer, inputs),
+    }
+}
+
+/// Adds the next token, and answers whether there is one. Where all tokens are asked for, a fault stands alone.
+fn ask_next<I: Inputs>(
+    alloc: Global,
+    answer: &mut Answer,
+    call: Call,
+    lexer: &mut Lexer,
+    inputs: &mut I,
+) -> bool
+    requires { lexer.old.spent ≡ false }
+{
+    match lexer.next(alloc, inputs) {
+        Ok(Some(token)) => {
+            show_token(answer, &token, lexer.offset());
+            true
+        }
+        Ok(None) => {
+            answer.add(b"end");
+            false
+        }
+        Err(fault) => {
+            if let Call::All = call {
+                *answer = Answer::new(alloc);
+            }
+            show_fault(answer, fault);
+            false
         }
     }
 }
 
-/// Adds the next automaton, or what is said of it.
+/// Adds the next automaton, or what is said of it, and answers whether more may follow.
 fn ask_automaton<I: Inputs>(
     alloc: Global,
     answer: &mut Answer,
@@ -134,27 +124,20 @@ fn ask_automaton<I: Inputs>(
     requires { lexer.old.spent ≡ false }
 {
     match read_raw(alloc, lexer, inputs) {
-        Ok(front) => add_front(alloc, answer, call, &front),
-        Err(fault) => {
-            show_read_fault(answer, fault);
-            false
-        }
-    }
-}
-
-/// Adds what stands next, and answers whether more may follow.
-fn add_front(alloc: Global, answer: &mut Answer, call: Call, front: &Front) -> bool {
-    match front {
-        Front::Whole(raw) => {
-            add_raw(alloc, answer, call, raw);
+        Ok(Front::Whole(raw)) => {
+            add_raw(alloc, answer, call, &raw);
             true
         }
-        Front::Aborted => {
+        Ok(Front::Aborted) => {
             answer.add(b"aborted");
             true
         }
-        Front::Blank => {
+        Ok(Front::Blank) => {
             answer.add(b"none");
+            false
+        }
+        Err(fault) => {
+            show_read_fault(answer, fault);
             false
         }
     }
@@ -167,83 +150,4 @@ fn add_raw(alloc: Global, answer: &mut Answer, call: Call, raw: &Raw) {
         Call::Description => show_described(alloc, answer, raw, true),
         _ => show_raw(answer, raw),
     }
-}
-
-/// Adds the next token, and answers whether there is one.
-fn ask_next<I: Inputs>(
-    alloc: Global,
-    answer: &mut Answer,
-    lexer: &mut Lexer,
-    inputs: &mut I,
-) -> bool
-    requires { lexer.old.spent ≡ false }
-{
-    match take_token(alloc, answer, lexer, inputs) {
-        Ok(is_there) => is_there,
-        Err(fault) => {
-            show_fault(answer, fault);
-            false
-        }
-    }
-}
-
-/// Adds the next token, and answers whether there is one, or the fault.
-fn take_token<I: Inputs>(
-    alloc: Global,
-    answer: &mut Answer,
-    lexer: &mut Lexer,
-    inputs: &mut I,
-) -> Result<bool, LexFault>
-    requires { lexer.old.spent ≡ false }
-{
-    let token = lexer.next(alloc, inputs)?;
-    Ok(add_token(answer, &token, lexer.offset()))
-}
-
-/// Adds a token, or that there is none, and answers whether there is one.
-fn add_token(answer: &mut Answer, token: &Option<Token>, offset: u64) -> bool {
-    match token {
-        Some(token) => {
-            show_token(answer, token, offset);
-            true
-        }
-        None => {
-            answer.add(b"end");
-            false
-        }
-    }
-}
-
-/// Adds all tokens, or only the fault that ends them.
-fn ask_all<I: Inputs>(
-    alloc: Global,
-    answer: &mut Answer,
-    lexer: &mut Lexer,
-    inputs: &mut I,
-) -> bool {
-    let mut tokens = Answer::new(alloc);
-    match add_tokens(alloc, &mut tokens, lexer, inputs) {
-        Ok(()) => answer.add_all(&tokens),
-        Err(fault) => show_fault(answer, fault),
-    }
-    false
-}
-
-/// Adds all tokens, up to the fault that is answered.
-fn add_tokens<I: Inputs>(
-    alloc: Global,
-    answer: &mut Answer,
-    lexer: &mut Lexer,
-    inputs: &mut I,
-) -> Result<(), LexFault> {
-    for _ in 0..u32::MAX {
-        if lexer.is_spent() {
-            break;
-        }
-        if !take_token(alloc, answer, lexer, inputs)? {
-            break;
-        }
-        answer.add(b" ");
-    }
-    Ok(())
 }

@@ -1,43 +1,52 @@
 //! Sources of one text: one that gives byte after byte, and one whose text comes in two pieces, each of them as bytes at hand.
 
-ghost use Rattle.std.specs.Prelude.{◌≡◌, IfOk, length};
+ghost use Rattle.std.specs.Prelude.{◌≡◌, [], ◌∷◌, IfOk};
 
-use aut_base::{Memory, Names, Numbers, Text, Words};
+use crate::reading::read;
+use crate::script::{Counts, Script};
+use aut_base::{Memory, Names, Seq, Text};
 use aut_io::{Inputs, MemInputs};
 use real_io::{Opener, RealInputs};
+use row_files::Answer;
 use std::alloc::Global;
 use std::io::{self, Chain, ErrorKind, Read};
 
-/// A source of one text, opened, which fails at the listed calls. Call 0 opens it, and call k reads its k-th byte.
-pub(crate) fn opened(alloc: Global, text: &[u8], failing: Numbers) -> Result<MemInputs, Memory> {
-    let name = Text::from_bytes(alloc, b"-")?;
-    let mut inputs = in_memory(alloc, text, failing)?;
-    let _ = inputs.open(&name);
-    Ok(inputs)
+/// Adds the answers of a script where the text comes byte after byte.
+pub(crate) fn read_bytes(
+    alloc: Global,
+    answer: &mut Answer,
+    script: Script,
+    text: &[u8],
+) -> Counts {
+    match in_memory(alloc, text, script.failing.unwrap_or(u32::MAX)) {
+        Ok(mut inputs) => {
+            let _ = inputs.open(&Text::new(alloc));
+            read(alloc, answer, script, &mut inputs)
+        }
+        Err(_) => without_memory(answer),
+    }
 }
 
-/// The same, not opened yet.
-fn in_memory(alloc: Global, text: &[u8], failing: Numbers) -> Result<MemInputs, Memory> {
-    let texts = one_text(alloc, text)?;
-    Ok(MemInputs::new(one_name(alloc)?, texts, failing))
+/// Tells that memory was wanting for a source.
+fn without_memory(answer: &mut Answer) -> Counts {
+    answer.lack_memory();
+    Counts::none()
 }
 
-/// The name of standard input alone.
-fn one_name(alloc: Global) -> Result<Names, Memory>
-    ensures { IfOk result (λ names. length names ≡ 1) }
+/// A source of one text, whose name is empty. It fails at this call: call 0 opens it, and call k reads its k-th byte.
+fn in_memory(alloc: Global, text: &[u8], failing: u32) -> Result<MemInputs, Memory> {
+    let names = Names::from_texts(one(alloc, Text::new(alloc))?);
+    let texts = one(alloc, Text::from_bytes(alloc, text)?)?;
+    Ok(MemInputs::new(names, texts, one(alloc, failing)?))
+}
+
+/// A list of this item alone.
+fn one<T: Drop>(alloc: Global, item: T) -> Result<Seq<T>, Memory>
+    ensures { IfOk result (λ list. list ≡ item ∷ []) }
 {
-    let mut names = Names::new(alloc);
-    names.push(Text::from_bytes(alloc, b"-")?)?;
-    Ok(names)
-}
-
-/// A list of this text alone.
-fn one_text(alloc: Global, text: &[u8]) -> Result<Words, Memory>
-    ensures { IfOk result (λ texts. length texts ≡ 1) }
-{
-    let mut texts = Words::new(alloc);
-    texts.push(Text::from_bytes(alloc, text)?)?;
-    Ok(texts)
+    let mut list = Seq::new(alloc);
+    list.push(item)?;
+    Ok(list)
 }
 
 /// Opens nothing: the text is standard input.
@@ -59,24 +68,39 @@ impl Opener for NoFiles {
     }
 }
 
-/// A source of one text, opened, that comes in two pieces, cut at this byte. All bytes of a piece are at hand at once.
-pub(crate) fn cut(
+/// A source whose text comes in two pieces.
+type Pieces<'a> = RealInputs<Chain<&'a [u8], &'a [u8]>, NoFiles>;
+
+/// Adds the answers of a script where the text comes in these two pieces. All bytes of a piece are at hand at once.
+pub(crate) fn read_pieces(
     alloc: Global,
-    text: &[u8],
-    place: usize,
-) -> Result<RealInputs<Chain<&[u8], &[u8]>, NoFiles>, Memory> {
-    let name = Text::from_bytes(alloc, b"-")?;
-    let mut inputs = in_pieces(alloc, text, place)?;
-    let _ = inputs.open(&name);
-    Ok(inputs)
+    answer: &mut Answer,
+    script: Script,
+    pieces: (&[u8], &[u8]),
+) -> Counts {
+    match in_pieces(alloc, pieces.0, pieces.1) {
+        Ok(mut inputs) => read_standard(alloc, answer, script, &mut inputs),
+        Err(_) => without_memory(answer),
+    }
 }
 
-/// The same, not opened yet.
-fn in_pieces(
-    alloc: Global,
-    text: &[u8],
-    place: usize,
-) -> Result<RealInputs<Chain<&[u8], &[u8]>, NoFiles>, Memory> {
-    let (front, back) = text.split_at(text.len().min(place));
+/// A source of these two pieces, not opened yet.
+fn in_pieces<'a>(alloc: Global, front: &'a [u8], back: &'a [u8]) -> Result<Pieces<'a>, Memory> {
     RealInputs::new(alloc, front.chain(back), NoFiles { calls: 0 })
+}
+
+/// Adds the answers of a script, where the text is standard input.
+fn read_standard(
+    alloc: Global,
+    answer: &mut Answer,
+    script: Script,
+    inputs: &mut Pieces<'_>,
+) -> Counts {
+    match Text::from_bytes(alloc, b"-") {
+        Ok(name) => {
+            let _ = inputs.open(&name);
+            read(alloc, answer, script, inputs)
+        }
+        Err(_) => without_memory(answer),
+    }
 }

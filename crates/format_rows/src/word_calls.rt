@@ -1,157 +1,125 @@
-//! The calls on words, each in a function of its own.
+//! The calls on words, and their answers in words.
 
-use crate::lassos::{Named, long_word, named_word, simple_word};
+use crate::call::Call;
+use crate::lassos::{Parts, add_simple};
 use crate::patterns::{show_automaton, show_pattern, show_simple};
-use aut_base::{Lasso, Memory, Text};
+use aut_base::{Lasso, Names, Text};
 use aut_core::NameFault;
-use row_files::{Answer, Fault, number};
+use row_files::Answer;
 use std::alloc::Global;
+use std::str::from_utf8;
 use word_syntax::{
     Pattern, WordFault, is_over, pattern_automaton, print_word, read_name, read_word, reduce,
 };
 
-/// A call on words.
-#[derive(Clone, Copy)]
-pub(crate) enum Call {
-    /// `read_word`
-    ReadWord,
-    /// `read_name`
-    ReadName,
-    /// `pattern_automaton` of what is read
-    PatternAutomaton,
-    /// `reduce`
-    Reduce,
-    /// `reduce` of a cycle of so many letters, `a` and `b` in turns
-    ReduceLong,
-    /// `print_word`
-    PrintWord,
-    /// `read_word` of what is printed
-    ReadBack,
-}
-
-impl Call {
-    /// The call of this name.
-    pub(crate) fn named(name: &str) -> Option<Call> {
-        match name {
-            "read_word" => Some(Call::ReadWord),
-            "read_name" => Some(Call::ReadName),
-            "pattern_automaton" => Some(Call::PatternAutomaton),
-            "reduce" => Some(Call::Reduce),
-            "reduce_long" => Some(Call::ReduceLong),
-            "print_word" => Some(Call::PrintWord),
-            "read_back" => Some(Call::ReadBack),
-            _ => None,
-        }
-    }
-}
-
-/// The answer of a call on a text, in words, and a line feed.
-pub(crate) fn carry_out(alloc: Global, call: Call, text: &Text) -> Result<Text, Fault> {
-    let mut answer = Answer::new(alloc);
-    add_answer(alloc, &mut answer, call, text)?;
-    answer.add(b"\n");
-    Ok(answer.end()?)
-}
-
-fn add_answer(alloc: Global, answer: &mut Answer, call: Call, text: &Text) -> Result<(), Fault> {
+/// Adds the answer of a call on a text, and a line feed.
+pub(crate) fn answer_on_words(alloc: Global, answer: &mut Answer, call: Call, text: &Text) {
     match call {
-        Call::ReadWord => Ok(add_word(alloc, answer, text)?),
-        Call::ReadName => Ok(add_name(alloc, answer, text)?),
-        Call::PatternAutomaton => add_automaton(alloc, answer, text),
-        Call::Reduce => add_reduced(alloc, answer, text),
-        Call::ReduceLong => add_reduced_long(alloc, answer, text),
-        Call::PrintWord => add_printed(alloc, answer, text),
-        Call::ReadBack => add_read_back(alloc, answer, text),
+        Call::ReadWord | Call::PatternAutomaton => add_read(alloc, answer, call, text),
+        Call::ReadName => add_name(alloc, answer, text),
+        Call::Reduce => add_reduced(alloc, answer, text.as_bytes()),
+        Call::PrintWord | Call::ReadBack => add_on_word(alloc, answer, call, text.as_bytes()),
+        _ => answer.add(b"no call"),
     }
+    answer.add(b"\n");
 }
 
-fn add_word(alloc: Global, answer: &mut Answer, text: &Text) -> Result<(), Memory> {
-    match word_of(alloc, text) {
-        Ok(pattern) => show_pattern(answer, &pattern),
+/// Adds what is read of a text, or where it goes wrong.
+fn add_read(alloc: Global, answer: &mut Answer, call: Call, text: &Text) {
+    match read_word(alloc, text) {
+        Ok(pattern) => add_pattern(alloc, answer, call, &pattern),
         Err(WordFault::BadWord(offset)) => {
             answer.add(b"bad ");
             answer.add_number(offset);
         }
-        Err(WordFault::Memory) => return Err(Memory),
+        Err(WordFault::Memory) => answer.lack_memory(),
     }
-    Ok(())
 }
 
-fn word_of(alloc: Global, text: &Text) -> Result<Pattern, WordFault> {
-    read_word(alloc, text)
+/// Adds a pattern, or its automaton.
+fn add_pattern(alloc: Global, answer: &mut Answer, call: Call, pattern: &Pattern) {
+    match call {
+        Call::PatternAutomaton => add_automaton(alloc, answer, pattern),
+        _ => show_pattern(answer, pattern),
+    }
 }
 
-fn add_name(alloc: Global, answer: &mut Answer, text: &Text) -> Result<(), Memory> {
-    match read_name(alloc, text)? {
-        Some((name, size)) => {
+fn add_automaton(alloc: Global, answer: &mut Answer, pattern: &Pattern) {
+    match pattern_automaton(alloc, pattern) {
+        Ok(automaton) => show_automaton(answer, &automaton),
+        Err(NameFault::Names) => answer.add(b"names"),
+        Err(NameFault::Memory) => answer.lack_memory(),
+    }
+}
+
+fn add_name(alloc: Global, answer: &mut Answer, text: &Text) {
+    match read_name(alloc, text) {
+        Ok(Some((name, size))) => {
             answer.add_number(size as u64);
             answer.add(b" ");
             answer.add(name.as_bytes());
         }
-        None => answer.add(b"none"),
-    }
-    Ok(())
-}
-
-fn add_automaton(alloc: Global, answer: &mut Answer, text: &Text) -> Result<(), Fault> {
-    match word_of(alloc, text) {
-        Ok(pattern) => Ok(add_automaton_of(alloc, answer, &pattern)?),
-        Err(_) => Err(Fault::Missing),
+        Ok(None) => answer.add(b"none"),
+        Err(_) => answer.lack_memory(),
     }
 }
 
-fn add_automaton_of(alloc: Global, answer: &mut Answer, pattern: &Pattern) -> Result<(), Memory> {
-    match pattern_automaton(alloc, pattern) {
-        Ok(automaton) => show_automaton(answer, &automaton),
-        Err(NameFault::Names) => answer.add(b"names"),
-        Err(NameFault::Memory) => return Err(Memory),
+/// Adds the reduced word of a text such as `ab|c`.
+fn add_reduced(alloc: Global, answer: &mut Answer, text: &[u8]) {
+    let mut written = Answer::new(alloc);
+    add_simple(&mut written, text);
+    match written.end() {
+        Ok(written) => add_on_word(alloc, answer, Call::Reduce, written.as_bytes()),
+        Err(_) => answer.lack_memory(),
     }
-    Ok(())
 }
 
-fn add_reduced(alloc: Global, answer: &mut Answer, text: &Text) -> Result<(), Fault> {
-    let word = simple_word(alloc, text.as_bytes())?;
-    Ok(show_reduced(alloc, answer, &word)?)
-}
-
-fn add_reduced_long(alloc: Global, answer: &mut Answer, text: &Text) -> Result<(), Fault> {
-    let word = long_word(alloc, count(text)?)?;
-    Ok(show_reduced(alloc, answer, &word)?)
-}
-
-fn show_reduced(alloc: Global, answer: &mut Answer, word: &Lasso) -> Result<(), Memory> {
-    show_simple(answer, &reduced(alloc, word)?);
-    Ok(())
-}
-
-fn reduced(alloc: Global, word: &Lasso) -> Result<Lasso, Memory> {
-    reduce(alloc, word)
-}
-
-/// The number that a text spells.
-fn count(text: &Text) -> Result<u32, Fault> {
-    number(std::str::from_utf8(text.as_bytes()).unwrap_or(""))
-}
-
-fn add_printed(alloc: Global, answer: &mut Answer, text: &Text) -> Result<(), Fault> {
-    answer.add(printed(alloc, text)?.as_bytes());
-    Ok(())
-}
-
-fn add_read_back(alloc: Global, answer: &mut Answer, text: &Text) -> Result<(), Fault> {
-    let printed = printed(alloc, text)?;
-    Ok(add_word(alloc, answer, &printed)?)
-}
-
-/// The word that a text writes, as `print_word` prints it.
-fn printed(alloc: Global, text: &Text) -> Result<Text, Fault> {
-    let named = named_word(alloc, text.as_bytes())?;
-    print(alloc, &named)
-}
-
-fn print(alloc: Global, named: &Named) -> Result<Text, Fault> {
-    if !is_over(&named.word, &named.names) {
-        return Err(Fault::Missing);
+/// Adds the answer of a call on the word that a text writes.
+fn add_on_word(alloc: Global, answer: &mut Answer, call: Call, text: &[u8]) {
+    let mut parts = Parts::new(alloc);
+    match parts.read(alloc, from_utf8(text).unwrap_or("")) {
+        Ok(()) => add_of_parts(alloc, answer, call, parts),
+        Err(_) => answer.lack_memory(),
     }
-    Ok(print_word(alloc, &named.word, &named.names)?)
+}
+
+/// Adds the answer of a call on the word of these parts.
+fn add_of_parts(alloc: Global, answer: &mut Answer, call: Call, parts: Parts) {
+    let Parts { names, stem, cycle } = parts;
+    if cycle.is_empty() {
+        answer.add(b"no cycle");
+        return;
+    }
+    let word = Lasso { stem, cycle };
+    match call {
+        Call::Reduce => show_reduced(alloc, answer, &word),
+        _ => add_printed(alloc, answer, call, &word, &names),
+    }
+}
+
+fn show_reduced(alloc: Global, answer: &mut Answer, word: &Lasso) {
+    match reduce(alloc, word) {
+        Ok(reduced) => show_simple(answer, &reduced),
+        Err(_) => answer.lack_memory(),
+    }
+}
+
+/// Adds the word as it is printed, or as what is printed is read.
+fn add_printed(alloc: Global, answer: &mut Answer, call: Call, word: &Lasso, names: &Names) {
+    if !is_over(word, names) {
+        answer.add(b"other names");
+        return;
+    }
+    match print_word(alloc, word, names) {
+        Ok(text) => add_text(alloc, answer, call, &text),
+        Err(_) => answer.lack_memory(),
+    }
+}
+
+/// Adds a text that was printed, or what is read of it.
+fn add_text(alloc: Global, answer: &mut Answer, call: Call, text: &Text) {
+    match call {
+        Call::PrintWord => answer.add(text.as_bytes()),
+        _ => add_read(alloc, answer, call, text),
+    }
 }

@@ -28,9 +28,9 @@ impl Answer {
         }
     }
 
-    /// Whether nothing was added.
+    /// Whether nothing was added, or tried.
     pub fn is_empty(&self) -> bool {
-        self.text.is_empty()
+        self.text.is_empty() && !self.lacks_memory
     }
 
     /// Whether these are its words, and none lacked memory.
@@ -117,5 +117,11 @@ impl Answer {
             return Err(Memory);
         }
         Ok(text)
+    }
+
+    /// The whole answer as a string; bytes that are no UTF-8 are replaced.
+    pub fn into_string(self, alloc: Global) -> Result<String, Memory> {
+        let text = self.end()?;
+        Ok(String::from_utf8_lossy(alloc, text.as_bytes())?)
     }
 }

@@ -56,10 +56,7 @@ impl<A: Answers> Row for Asked<A> {
 
     fn different(&self, rt: &HostRuntime) -> Result<Option<String>, Fault> {
         let answer = self.answers.answer(rt, self.call.as_str(), &self.text)?;
-        if answer.as_bytes() == self.wanted.as_bytes() {
-            return Ok(None);
-        }
-        Ok(Some(self.message(rt.alloc(), answer.as_bytes())?))
+        self.message(rt.alloc(), answer.as_bytes())
     }
 
     fn clear(&mut self, alloc: Global) {
@@ -102,12 +99,14 @@ impl<A> Asked<A> {
         }
     }
 
-    /// The row with this answer.
-    fn message(&self, alloc: Global, answer: &[u8]) -> Result<String, Fault> {
+    /// The row with this answer, where another is expected.
+    fn message(&self, alloc: Global, answer: &[u8]) -> Result<Option<String>, Fault> {
+        if self.wanted.is(answer) {
+            return Ok(None);
+        }
         let mut shown = Answer::new(alloc);
         self.show(&mut shown, answer);
-        let shown = shown.end()?;
-        Ok(String::from_utf8_lossy(alloc, shown.as_bytes())?)
+        Ok(Some(shown.into_string(alloc)?))
     }
 
     /// Adds the row with this answer.

@@ -25,13 +25,15 @@ fn add_words(alloc: Global, parts: &mut Vec<Formula>, text: &str) -> Result<(), 
 /// Adds the condition of a word, made of the parts that it takes.
 fn add_word(alloc: Global, parts: &mut Vec<Formula>, word: &str) -> Result<(), Fault> {
     match word {
+        "t" => push(parts, Formula::True),
+        "f" => push(parts, Formula::False),
         "&" => join(alloc, parts, 2, true),
         "|" => join(alloc, parts, 2, false),
         "&&" => join(alloc, parts, 3, true),
         "||" => join(alloc, parts, 3, false),
         _ => match word.strip_prefix('&') {
             Some(times) => repeat(alloc, parts, number(times)?),
-            None => push(parts, read_leaf(word)?),
+            None => push(parts, read_atom(word)?),
         },
     }
 }
@@ -44,21 +46,13 @@ fn push(parts: &mut Vec<Formula>, part: Formula) -> Result<(), Fault> {
     }
 }
 
-/// The condition of a word that takes no part.
-fn read_leaf(word: &str) -> Result<Formula, Fault> {
+/// The condition of a word such as `I!0`.
+fn read_atom(word: &str) -> Result<Formula, Fault> {
     let neg = word.contains('!');
-    let set = word.trim_start_matches(['I', 'F', '!'].as_slice());
+    let set = number(word.trim_start_matches(['I', 'F', '!'].as_slice()))?;
     match word.as_bytes().first() {
-        Some(b't') => Ok(Formula::True),
-        Some(b'f') => Ok(Formula::False),
-        Some(b'I') => Ok(Formula::Inf {
-            set: number(set)?,
-            neg,
-        }),
-        Some(b'F') => Ok(Formula::Fin {
-            set: number(set)?,
-            neg,
-        }),
+        Some(b'I') => Ok(Formula::Inf { set, neg }),
+        Some(b'F') => Ok(Formula::Fin { set, neg }),
         _ => Err(Fault::UnknownKind),
     }
 }

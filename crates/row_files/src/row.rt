@@ -44,8 +44,10 @@ fn run_file<R: Row>(
     row: &mut R,
     count: &mut Count,
 ) -> Result<(), Fault> {
-    let text = fs::read_to_string(rt, file)?;
-    run_text(rt, text.as_str(), number, row, count)
+    match fs::read_to_string(rt, file) {
+        Ok(text) => run_text(rt, text.as_str(), number, row, count),
+        Err(error) => Err(Fault::Io(error)),
+    }
 }
 
 /// Gives each line to the row. The end of the text ends a row as an empty line does.

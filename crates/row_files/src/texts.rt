@@ -24,8 +24,10 @@ fn add_line(text: &mut Text, line: &str) -> Result<(), Memory> {
 
 /// Adds the bytes of a file.
 fn add_file(rt: &HostRuntime, text: &mut Text, path: &str) -> Result<(), Fault> {
-    let bytes = fs::read(rt, path)?;
-    Ok(text.extend(&bytes)?)
+    match fs::read(rt, path) {
+        Ok(bytes) => Ok(text.extend(&bytes)?),
+        Err(error) => Err(Fault::Io(error)),
+    }
 }
 
 /// Adds a piece with escapes this many times: the number is before the piece.
