@@ -4,7 +4,6 @@ use crate::made::{Double, Made, Single, hidden, make, make_of_two};
 use crate::shapes::ring;
 use ap_project::Hide;
 use aut_base::{Memory, Text};
-use aut_core::Automaton;
 use aut_ops::{ReachedSize, reached_size};
 use row_automata::{pair, read, shown};
 use row_files::{Answers, Fault, kind_and_rest, number};
@@ -17,36 +16,33 @@ pub(crate) struct Constructions;
 impl Answers for Constructions {
     fn answer(&self, rt: &HostRuntime, call: &str, text: &Text) -> Result<Text, Fault> {
         let alloc = rt.alloc();
-        let (first, second) = two_lines(text);
         if let Some(call) = single_call(call) {
-            return single_answer(alloc, call, first);
+            return single_answer(alloc, call, line(text, 0));
         }
         if let Some(call) = double_call(call) {
-            return double_answer(alloc, call, first, second);
+            return double_answer(alloc, call, line(text, 0), line(text, 1));
         }
-        other_answer(alloc, call, first)
+        other_answer(alloc, call, line(text, 0))
     }
 }
 
-/// The first two lines of a row's input; empty where there are fewer.
-pub(crate) fn two_lines(text: &Text) -> (&str, &str) {
+/// The line of this index of a row's input; empty where there are fewer.
+pub(crate) fn line(text: &Text, place: usize) -> &str {
     let lines = std::str::from_utf8(text.as_bytes()).unwrap_or("");
-    let (first, others) = lines.split_once('\n').unwrap_or((lines, ""));
-    let (second, _) = others.split_once('\n').unwrap_or((others, ""));
-    (first, second)
+    lines.split('\n').nth(place).unwrap_or("")
 }
 
 /// What the construction makes of the automaton of a line.
 fn single_answer(alloc: Global, call: Single, line: &str) -> Result<Text, Fault> {
     let a = read(alloc, line)?;
-    answer_to(alloc, &make(alloc, call, &a)?)
+    Ok(answer_to(alloc, make(alloc, call, &a))?)
 }
 
 /// What the construction makes of the automata of two lines.
 fn double_answer(alloc: Global, call: Double, first: &str, second: &str) -> Result<Text, Fault> {
     let a = read(alloc, first)?;
     let b = read(alloc, second)?;
-    answer_to(alloc, &make_of_two(alloc, call, &a, &b)?)
+    Ok(answer_to(alloc, make_of_two(alloc, call, &a, &b))?)
 }
 
 fn single_call(name: &str) -> Option<Single> {
@@ -103,55 +99,42 @@ fn size(alloc: Global, call: &str, rest: &str, line: &str) -> Result<Text, Fault
 /// The automaton of a line with a name hidden.
 fn hiding_answer(alloc: Global, name: &str, how: Hide, line: &str) -> Result<Text, Fault> {
     let a = read(alloc, line)?;
-    let name = Text::from_bytes(alloc, name.as_bytes())?;
-    Ok(shown_hidden(alloc, &a, &name, how)?)
-}
-
-fn shown_hidden(alloc: Global, a: &Automaton, name: &Text, how: Hide) -> Result<Text, Memory> {
-    shown(alloc, &hidden(alloc, a, name, how)?)
+    Ok(shown(alloc, &hidden(alloc, &a, name.as_bytes(), how)?)?)
 }
 
 /// The size of the Büchi form of a ring of so many states.
 fn size_of_ring(alloc: Global, states: &str) -> Result<Text, Fault> {
     let a = ring(alloc, number(states)?, 1, true, "I0,I1,&")?;
-    size_answer(alloc, &make(alloc, Single::Buchi, &a)?)
+    Ok(size_answer(alloc, make(alloc, Single::Buchi, &a))?)
 }
 
 /// The size of what a construction makes of the automaton of a line.
 fn size_of(alloc: Global, name: &str, line: &str) -> Result<Text, Fault> {
-    match single_call(name) {
-        Some(call) => size_of_made(alloc, call, line),
-        None => Err(Fault::UnknownKind),
-    }
-}
-
-fn size_of_made(alloc: Global, call: Single, line: &str) -> Result<Text, Fault> {
+    let Some(call) = single_call(name) else {
+        return Err(Fault::UnknownKind);
+    };
     let a = read(alloc, line)?;
-    size_answer(alloc, &make(alloc, call, &a)?)
+    Ok(size_answer(alloc, make(alloc, call, &a))?)
 }
 
-fn answer_to(alloc: Global, made: &Made) -> Result<Text, Fault> {
+fn answer_to(alloc: Global, made: Made) -> Result<Text, Memory> {
     match made {
-        Made::Automaton(a) => Ok(shown(alloc, a)?),
-        Made::Refused(why) => Ok(Text::from_bytes(alloc, why.as_bytes())?),
+        Ok(a) => shown(alloc, &a),
+        Err(why) => Text::from_bytes(alloc, why.as_bytes()),
     }
 }
 
 /// The numbers of states and sets, without the automaton.
-fn size_answer(alloc: Global, made: &Made) -> Result<Text, Fault> {
+fn size_answer(alloc: Global, made: Made) -> Result<Text, Memory> {
     match made {
-        Made::Automaton(a) => Ok(pair(alloc, u64::from(a.states()), u64::from(a.sets()))?),
-        Made::Refused(why) => Ok(Text::from_bytes(alloc, why.as_bytes())?),
+        Ok(a) => pair(alloc, u64::from(a.states()), u64::from(a.sets())),
+        Err(why) => Text::from_bytes(alloc, why.as_bytes()),
     }
 }
 
+/// How many states are reached, and how many edges leave them.
 fn reached_answer(alloc: Global, line: &str) -> Result<Text, Fault> {
     let a = read(alloc, line)?;
-    Ok(reached(alloc, &a)?)
-}
-
-/// How many states are reached, and how many edges leave them.
-fn reached(alloc: Global, a: &Automaton) -> Result<Text, Memory> {
-    let ReachedSize { states, edges } = reached_size(alloc, a)?;
-    pair(alloc, u64::from(states), edges as u64)
+    let ReachedSize { states, edges } = reached_size(alloc, &a)?;
+    Ok(pair(alloc, u64::from(states), edges as u64)?)
 }

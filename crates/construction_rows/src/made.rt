@@ -13,7 +13,6 @@ use degeneralise::{BuchiFault, to_buchi};
 use fin_removal::{copies, remove_fin};
 use monitor_form::{MonFault, monitor};
 use parity_det::{CompFault, complement, parity};
-use row_files::Fault;
 use std::alloc::Global;
 
 /// The greatest numbers of states and sets of the automata that are completed.
@@ -23,11 +22,7 @@ const MOST: u32 = 1000;
 const MOST_STATES: u32 = 4_190_211;
 
 /// The automaton that is made, or the word for why none is.
-#[derive(Drop)]
-pub(crate) enum Made {
-    Automaton(Automaton),
-    Refused(&'static str),
-}
+pub(crate) type Made = Result<Automaton, &'static str>;
 
 /// The constructions on one automaton.
 #[derive(Clone, Copy)]
@@ -51,28 +46,23 @@ pub(crate) enum Double {
     ProductOr,
 }
 
-pub(crate) fn make(alloc: Global, call: Single, a: &Automaton) -> Result<Made, Fault> {
+pub(crate) fn make(alloc: Global, call: Single, a: &Automaton) -> Made {
     match call {
         Single::Complete => completed(alloc, a),
-        Single::Trim => trimmed(alloc, a),
+        Single::Trim => in_memory(trim(alloc, a)),
         Single::Prune => pruned(alloc, a),
         Single::Copies => copied(alloc, a),
         Single::WithoutFin => without_fin(alloc, a),
         Single::Buchi => buchi(alloc, a),
         Single::Monitor => monitored(alloc, a),
-        Single::Parity => parity_of(alloc, a),
+        Single::Parity => determinised(parity(alloc, a)),
         Single::Complement => complemented(alloc, a),
     }
 }
 
-pub(crate) fn make_of_two(
-    alloc: Global,
-    call: Double,
-    a: &Automaton,
-    b: &Automaton,
-) -> Result<Made, Fault> {
+pub(crate) fn make_of_two(alloc: Global, call: Double, a: &Automaton, b: &Automaton) -> Made {
     if !are_small(a, b) {
-        return Ok(Made::Refused("large"));
+        return Err("large");
     }
     match call {
         Double::Sum => summed(alloc, a, b),
@@ -81,13 +71,21 @@ pub(crate) fn make_of_two(
     }
 }
 
+/// The automaton with a name hidden.
 pub(crate) fn hidden(
     alloc: Global,
     a: &Automaton,
-    name: &Text,
+    name: &[u8],
     how: Hide,
 ) -> Result<Automaton, Memory> {
-    remove_ap(alloc, a, name, how)
+    remove_ap(alloc, a, &Text::from_bytes(alloc, name)?, how)
+}
+
+fn in_memory(made: Result<Automaton, Memory>) -> Made {
+    match made {
+        Ok(made) => Ok(made),
+        Err(_) => Err("memory"),
+    }
 }
 
 /// Whether the numbers of states and sets are far below 2^32.
@@ -97,11 +95,11 @@ fn are_small(a: &Automaton, b: &Automaton) -> bool
     a.states() < MOST && a.sets() < MOST && b.states() < MOST && b.sets() < MOST
 }
 
-fn completed(alloc: Global, a: &Automaton) -> Result<Made, Fault> {
+fn completed(alloc: Global, a: &Automaton) -> Made {
     if !are_small(a, a) {
-        return Ok(Made::Refused("large"));
+        return Err("large");
     }
-    Ok(Made::Automaton(complete_small(alloc, a)?))
+    in_memory(complete_small(alloc, a))
 }
 
 fn complete_small(alloc: Global, a: &Automaton) -> Result<Automaton, Memory>
@@ -110,15 +108,11 @@ fn complete_small(alloc: Global, a: &Automaton) -> Result<Automaton, Memory>
     complete(alloc, a)
 }
 
-fn trimmed(alloc: Global, a: &Automaton) -> Result<Made, Fault> {
-    Ok(Made::Automaton(trim(alloc, a)?))
-}
-
-fn pruned(alloc: Global, a: &Automaton) -> Result<Made, Fault> {
+fn pruned(alloc: Global, a: &Automaton) -> Made {
     if !has_one_set(a) {
-        return Ok(Made::Refused("condition"));
+        return Err("condition");
     }
-    Ok(Made::Automaton(prune_one(alloc, a)?))
+    in_memory(prune_one(alloc, a))
 }
 
 fn prune_one(alloc: Global, a: &Automaton) -> Result<Automaton, Memory>
@@ -145,13 +139,13 @@ fn has_one_set(a: &Automaton) -> bool
     a.sets() == 1 && is_again(a.formula())
 }
 
-fn summed(alloc: Global, a: &Automaton, b: &Automaton) -> Result<Made, Fault>
+fn summed(alloc: Global, a: &Automaton, b: &Automaton) -> Made
     requires { AreSmall a.now b.now }
 {
     match sum(alloc, a, b) {
-        Ok(made) => Ok(Made::Automaton(made)),
-        Err(NameFault::Memory) => Err(Fault::Memory),
-        Err(NameFault::Names) => Ok(Made::Refused("names")),
+        Ok(made) => Ok(made),
+        Err(NameFault::Memory) => Err("memory"),
+        Err(NameFault::Names) => Err("names"),
     }
 }
 
@@ -167,69 +161,65 @@ fn either(alloc: Global, a: &Automaton, b: &Automaton) -> Result<Automaton, Pair
     product_or(alloc, a, b)
 }
 
-fn paired(made: Result<Automaton, PairFault>) -> Result<Made, Fault> {
+fn paired(made: Result<Automaton, PairFault>) -> Made {
     match made {
-        Ok(made) => Ok(Made::Automaton(made)),
-        Err(PairFault::Memory) => Err(Fault::Memory),
-        Err(PairFault::Names) => Ok(Made::Refused("names")),
-        Err(PairFault::Pairs) => Ok(Made::Refused("pairs")),
+        Ok(made) => Ok(made),
+        Err(PairFault::Memory) => Err("memory"),
+        Err(PairFault::Names) => Err("names"),
+        Err(PairFault::Pairs) => Err("pairs"),
     }
 }
 
-fn copied(alloc: Global, a: &Automaton) -> Result<Made, Fault> {
+fn copied(alloc: Global, a: &Automaton) -> Made {
     if a.states() > MOST_STATES {
-        return Ok(Made::Refused("large"));
+        return Err("large");
     }
     without_terms(copies(alloc, a))
 }
 
-fn without_fin(alloc: Global, a: &Automaton) -> Result<Made, Fault> {
+fn without_fin(alloc: Global, a: &Automaton) -> Made {
     if a.states() > MOST_STATES {
-        return Ok(Made::Refused("large"));
+        return Err("large");
     }
     without_terms(remove_fin(alloc, a))
 }
 
-fn without_terms(made: Result<Automaton, FormFault>) -> Result<Made, Fault> {
+fn without_terms(made: Result<Automaton, FormFault>) -> Made {
     match made {
-        Ok(made) => Ok(Made::Automaton(made)),
-        Err(FormFault::Terms) => Ok(Made::Refused("terms")),
-        Err(FormFault::Memory) => Err(Fault::Memory),
+        Ok(made) => Ok(made),
+        Err(FormFault::Terms) => Err("terms"),
+        Err(FormFault::Memory) => Err("memory"),
     }
 }
 
-fn buchi(alloc: Global, a: &Automaton) -> Result<Made, Fault> {
+fn buchi(alloc: Global, a: &Automaton) -> Made {
     match to_buchi(alloc, a) {
-        Ok(made) => Ok(Made::Automaton(made)),
-        Err(BuchiFault::Terms) => Ok(Made::Refused("terms")),
-        Err(BuchiFault::BuchiStates) => Ok(Made::Refused("states")),
-        Err(BuchiFault::Memory) => Err(Fault::Memory),
+        Ok(made) => Ok(made),
+        Err(BuchiFault::Terms) => Err("terms"),
+        Err(BuchiFault::BuchiStates) => Err("states"),
+        Err(BuchiFault::Memory) => Err("memory"),
     }
 }
 
-fn monitored(alloc: Global, a: &Automaton) -> Result<Made, Fault> {
+fn monitored(alloc: Global, a: &Automaton) -> Made {
     match monitor(alloc, a) {
-        Ok(made) => Ok(Made::Automaton(made)),
-        Err(MonFault::Memory) => Err(Fault::Memory),
-        Err(_) => Ok(Made::Refused("limit")),
+        Ok(made) => Ok(made),
+        Err(MonFault::Memory) => Err("memory"),
+        Err(_) => Err("limit"),
     }
 }
 
-fn parity_of(alloc: Global, a: &Automaton) -> Result<Made, Fault> {
-    determinised(parity(alloc, a))
-}
-
-fn complemented(alloc: Global, a: &Automaton) -> Result<Made, Fault> {
+fn complemented(alloc: Global, a: &Automaton) -> Made {
     if a.states() > MOST || a.sets() > MOST {
-        return Ok(Made::Refused("large"));
+        return Err("large");
     }
     determinised(complement(alloc, a))
 }
 
-fn determinised(made: Result<Automaton, CompFault>) -> Result<Made, Fault> {
+fn determinised(made: Result<Automaton, CompFault>) -> Made {
     match made {
-        Ok(made) => Ok(Made::Automaton(made)),
-        Err(CompFault::Memory) => Err(Fault::Memory),
-        Err(_) => Ok(Made::Refused("limit")),
+        Ok(made) => Ok(made),
+        Err(CompFault::Memory) => Err("memory"),
+        Err(_) => Err("limit"),
     }
 }

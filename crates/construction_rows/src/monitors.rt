@@ -4,7 +4,7 @@ use crate::compared::makes;
 use crate::made::Single;
 use aut_base::Memory;
 use aut_core::Automaton;
-use row_automata::{Choices, Paths, Word, Words, chosen, count_call};
+use row_automata::{Accepted, Choices, Letters, Paths, Words, chosen, count_call};
 use row_files::{Count, Fault};
 use std::alloc::Global;
 
@@ -13,60 +13,45 @@ const LETTERS: usize = 14;
 
 /// Automata of two states under every tenth condition.
 pub(crate) fn compared(rt: &HostRuntime, count: &mut Count) -> Result<(), Fault> {
-    let words = Words::new(rt.alloc(), 2, 2, 3)?;
-    let ends = Words::new(rt.alloc(), 2, 1, 4)?;
-    compare(rt, count, &words, &ends)
-}
-
-fn compare(rt: &HostRuntime, count: &mut Count, words: &Words, ends: &Words) -> Result<(), Fault> {
     let mut choices = Choices::chance();
     for number in 0..240u32 {
         let number = number.wrapping_mul(10);
         let a = chosen(rt.alloc(), &mut choices, b"a", 2, &[0, 0, 1, 1], number)?;
-        let is_right = is_right(rt.alloc(), &a, words, ends)?;
+        let is_right = is_right(rt.alloc(), &a)?;
         count_call(rt, count, is_right, "monitor", &[&a])?;
     }
     Ok(())
 }
 
 /// Whether the monitor accepts the right words.
-fn is_right(alloc: Global, a: &Automaton, words: &Words, ends: &Words) -> Result<bool, Fault> {
-    let wanted = wanted(alloc, a, words, ends)?;
-    makes(alloc, Single::Monitor, a, &wanted, words)
+fn is_right(alloc: Global, a: &Automaton) -> Result<bool, Memory> {
+    let words = Words::new(2, 2, 3);
+    let wanted = wanted(a, &words)?;
+    Ok(makes(alloc, Single::Monitor, a, &wanted, &words))
 }
 
-/// The words each of whose prefixes can be continued to a word that the automaton accepts.
-fn wanted(alloc: Global, a: &Automaton, words: &Words, ends: &Words) -> Result<Vec<bool>, Memory> {
-    let paths = Paths::new(alloc, a)?;
-    let alive = paths.alive(alloc, a.formula(), ends)?;
-    going_on(alloc, &paths, &alive, words)
-}
-
-/// The words each of whose prefixes leads to one of these states.
-fn going_on(
-    alloc: Global,
-    paths: &Paths,
-    alive: &[bool],
-    words: &Words,
-) -> Result<Vec<bool>, Memory> {
-    let mut wanted = Vec::new(alloc);
-    for word in words.each(alloc)?.iter() {
-        wanted.push(goes_on(alloc, paths, alive, word)?)?;
+/// The words each of whose prefixes can be continued to a word that the automaton accepts: it leads to a state from which some word
+/// is accepted.
+fn wanted(a: &Automaton, words: &Words) -> Result<Accepted, Memory> {
+    let paths = Paths::new(a)?;
+    let alive = paths.alive(a.formula(), &Words::new(2, 1, 4))?;
+    let mut wanted = Accepted::nothing();
+    for cycle in 0..words.cycles() {
+        for stem in 0..words.stems() {
+            let prefix = prefix(words.stem(stem), words.cycle(cycle))?;
+            if paths.go_on(alive, prefix) {
+                wanted.add(stem, cycle);
+            }
+        }
     }
     Ok(wanted)
 }
 
-/// Whether each prefix of the word leads to a state from which some word is accepted.
-fn goes_on(alloc: Global, paths: &Paths, alive: &[bool], word: &Word) -> Result<bool, Memory> {
-    let letters = prefix(alloc, word)?;
-    paths.goes_on(alloc, alive, &letters)
-}
-
-/// The longest prefix of the word that is tried.
-fn prefix(alloc: Global, word: &Word) -> Result<Vec<u32>, Memory> {
-    let mut letters = word.stem.to_vec(alloc)?;
-    for letter in word.cycle.iter().cycle().take(LETTERS) {
-        letters.push(*letter)?;
+/// The longest prefix of a word that is tried.
+fn prefix(stem: Letters, cycle: Letters) -> Result<Letters, Memory> {
+    let mut letters = stem;
+    for place in 0..LETTERS {
+        letters.push(cycle.at(place.checked_rem(cycle.len()).unwrap_or(0)))?;
     }
     Ok(letters)
 }

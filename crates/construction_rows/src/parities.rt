@@ -1,10 +1,10 @@
 //! Random automata, compared with their parity automata and the complements of these.
 
-use crate::compared::accept;
-use crate::made::{Made, Single, make};
+use crate::compared::is_just;
+use crate::made::{Single, make};
 use aut_base::Memory;
 use aut_core::Automaton;
-use row_automata::{Choices, Paths, Words, accepted, chosen, count_call};
+use row_automata::{Accepted, Choices, Paths, Words, accepted, chosen, count_call};
 use row_files::{Count, Fault};
 use std::alloc::Global;
 
@@ -24,10 +24,9 @@ fn compare_over(
     rows: u32,
 ) -> Result<(), Fault> {
     let letters = if names.len() > 1 { 4 } else { 2 };
-    let words = Words::new(rt.alloc(), letters, 2, 3)?;
     for number in 0..rows {
         let a = three_states(rt.alloc(), choices, names, number)?;
-        let is_right = is_right(rt.alloc(), &a, &words, letters)?;
+        let is_right = is_right(rt.alloc(), &a, letters)?;
         count_call(rt, count, is_right, "parity", &[&a])?;
     }
     Ok(())
@@ -53,12 +52,13 @@ fn three_states(
 }
 
 /// Whether the parity automaton accepts the words of an automaton, and its complement the others, each by a single run.
-fn is_right(alloc: Global, a: &Automaton, words: &Words, letters: u32) -> Result<bool, Fault> {
-    let own = accepted(alloc, a, words)?;
-    let others: Vec<bool> = own.iter().map(|is_in| !*is_in).collect(alloc)?;
+fn is_right(alloc: Global, a: &Automaton, letters: u32) -> Result<bool, Memory> {
+    let words = Words::new(letters, 2, 3);
+    let own = accepted(a, &words)?;
+    let others = own.others(&words);
     Ok(
-        makes_single(alloc, Single::Parity, a, &own, words, letters)?
-            && makes_single(alloc, Single::Complement, a, &others, words, letters)?,
+        makes_single(alloc, Single::Parity, a, &own, &words, letters)
+            && makes_single(alloc, Single::Complement, a, &others, &words, letters),
     )
 }
 
@@ -67,28 +67,20 @@ fn makes_single(
     alloc: Global,
     call: Single,
     a: &Automaton,
-    wanted: &[bool],
+    wanted: &Accepted,
     words: &Words,
     letters: u32,
-) -> Result<bool, Fault> {
-    let made = make(alloc, call, a)?;
-    Ok(accept_singly(alloc, &made, wanted, words, letters)?)
+) -> bool {
+    match make(alloc, call, a) {
+        Ok(made) => is_single(&made, letters) && is_just(&made, wanted, words),
+        Err(_) => false,
+    }
 }
 
-fn accept_singly(
-    alloc: Global,
-    made: &Made,
-    wanted: &[bool],
-    words: &Words,
-    letters: u32,
-) -> Result<bool, Memory> {
-    Ok(is_single(alloc, made, letters)? && accept(alloc, made, wanted, words)?)
-}
-
-/// Whether each word has exactly one run in the automaton that was made.
-fn is_single(alloc: Global, made: &Made, letters: u32) -> Result<bool, Memory> {
-    match made {
-        Made::Automaton(made) => Ok(Paths::new(alloc, made)?.are_single(letters)),
-        Made::Refused(_) => Ok(false),
+/// Whether each word has exactly one run.
+fn is_single(a: &Automaton, letters: u32) -> bool {
+    match Paths::new(a) {
+        Ok(paths) => paths.are_single(letters),
+        Err(_) => false,
     }
 }

@@ -1,8 +1,8 @@
 //! Large automata over `a`: rings, at the limit of pairs, and lines, in which a recursion over the states would go deep.
 
-use aut_base::{Edges, Memory};
+use aut_base::Memory;
 use aut_core::Automaton;
-use row_automata::{edge, standing};
+use row_automata::{Plain, standing};
 use row_files::Fault;
 use std::alloc::Global;
 
@@ -18,19 +18,29 @@ pub(crate) fn ring(
     is_marked: bool,
     condition: &str,
 ) -> Result<Automaton, Fault> {
-    let edges = ring_edges(alloc, states, is_marked)?;
-    standing(alloc, states, starts, edges, condition)
+    let mut edges = Vec::new(alloc);
+    add_ring(&mut edges, states, u32::from(is_marked))?;
+    standing(alloc, states, starts, &edges, condition)
 }
 
-/// The edges of a ring, where `a` holds. The last may be in set 0.
-fn ring_edges(alloc: Global, states: u32, is_marked: bool) -> Result<Edges, Memory> {
-    let mut edges = Edges::new(alloc);
-    for from in 0..states {
-        let is_last = from.saturating_add(1) >= states;
-        let to = if is_last { 0 } else { from.saturating_add(1) };
-        edges.push(edge(alloc, from, true, to, u32::from(is_last && is_marked))?)?;
+/// Adds the edges of a ring, where `a` holds. The last is in these sets.
+fn add_ring(edges: &mut Vec<Plain>, states: u32, sets: u32) -> Result<(), Memory> {
+    for from in 1..states {
+        edges.push(edge(from - 1, true, from, 0))?;
     }
-    Ok(edges)
+    edges.push(edge(states.saturating_sub(1), true, 0, sets))?;
+    Ok(())
+}
+
+/// An edge where `a` holds, or where it doesn't, in the sets whose bits are set.
+fn edge(from: u32, holds: bool, to: u32, sets: u32) -> Plain {
+    let letters = if holds { 2 } else { 1 };
+    Plain {
+        from,
+        letters,
+        to,
+        sets,
+    }
 }
 
 /// A line of states under `Inf(0) & Fin(1)`, with an edge from each to the next where `a` holds. Where `a` doesn't hold,
@@ -39,31 +49,25 @@ fn ring_edges(alloc: Global, states: u32, is_marked: bool) -> Result<Edges, Memo
 /// - `ring`: the last leads back to the first, in set 0;
 /// - `loops`: each has a loop, the last in set 0 and the others in both sets.
 pub(crate) fn line(alloc: Global, shape: &str) -> Result<Automaton, Fault> {
-    let edges = line_edges(alloc, shape)?;
-    standing(alloc, STATES, 1, edges, "I0,F1,&")
-}
-
-fn line_edges(alloc: Global, shape: &str) -> Result<Edges, Fault> {
     let (to, sets) = last_edge(shape)?;
-    let mut edges = forward_edges(alloc, shape == "loops")?;
-    edges.push(edge(alloc, STATES - 1, false, to, sets)?)?;
-    Ok(edges)
+    let mut edges = Vec::new(alloc);
+    add_line(
+        &mut edges,
+        shape == "loops",
+        edge(STATES - 1, false, to, sets),
+    )?;
+    standing(alloc, STATES, 1, &edges, "I0,F1,&")
 }
 
-/// The edges from each state to the next, each after a loop where these are wanted.
-fn forward_edges(alloc: Global, has_loops: bool) -> Result<Edges, Memory> {
-    let mut edges = Edges::new(alloc);
-    for state in 0..STATES - 1 {
-        add_edges(alloc, &mut edges, state, has_loops)?;
+/// Adds the edges from each state to the next, each after a loop where these are wanted, and the last edge.
+fn add_line(edges: &mut Vec<Plain>, has_loops: bool, last: Plain) -> Result<(), Memory> {
+    for state in 1..STATES {
+        if has_loops {
+            edges.push(edge(state - 1, false, state - 1, 3))?;
+        }
+        edges.push(edge(state - 1, true, state, 0))?;
     }
-    Ok(edges)
-}
-
-fn add_edges(alloc: Global, edges: &mut Edges, state: u32, has_loop: bool) -> Result<(), Memory> {
-    if has_loop {
-        edges.push(edge(alloc, state, false, state, 3)?)?;
-    }
-    edges.push(edge(alloc, state, true, state.saturating_add(1), 0)?)?;
+    edges.push(last)?;
     Ok(())
 }
 

@@ -1,36 +1,36 @@
 //! Automata made of their parts.
 
 use aut_base::{
-    Description, Edge, Edges, Formula, Label, MOST_NAMES, Marks, Memory, Names, Numbers, Text,
+    Description, Edge, Edges, Formula, Label, Labels, MOST_NAMES, Marks, Memory, Names, Numbers,
+    Text,
 };
 use aut_core::Automaton;
 use row_files::{Fault, read_condition};
 use std::alloc::Global;
 
-/// The automaton of these parts over names of one byte each. Fails where they aren't well formed.
-pub(crate) fn automaton(
-    alloc: Global,
-    names: &[u8],
-    states: u32,
-    starts: Numbers,
-    edges: Edges,
-    sets: u32,
-    formula: Formula,
-) -> Result<Automaton, Fault> {
-    let names = named(alloc, names)?;
-    let d = Description {
-        names,
-        starts,
+/// An edge over one name or two. The letters that it reads and the sets that it is in are bits.
+#[derive(Clone, Copy)]
+pub struct Plain {
+    pub from: u32,
+    pub letters: u32,
+    pub to: u32,
+    pub sets: u32,
+}
+
+/// A description without names, starts and edges.
+pub(crate) fn bare(alloc: Global, states: u32, sets: u32, formula: Formula) -> Description {
+    Description {
+        names: Names::new(alloc),
+        starts: Numbers::new(alloc),
         states,
-        edges,
+        edges: Edges::new(alloc),
         sets,
         formula,
-    };
-    described(alloc, &d)
+    }
 }
 
 /// The automaton of a description. Fails where that isn't well formed.
-fn described(alloc: Global, d: &Description) -> Result<Automaton, Fault> {
+pub(crate) fn described(alloc: Global, d: &Description) -> Result<Automaton, Fault> {
     if !d.is_well_formed() || d.names.len() > MOST_NAMES as usize {
         return Err(Fault::Failed);
     }
@@ -43,64 +43,99 @@ pub fn standing(
     alloc: Global,
     states: u32,
     firsts: u32,
-    edges: Edges,
+    edges: &[Plain],
     condition: &str,
 ) -> Result<Automaton, Fault> {
-    let starts = first_states(alloc, firsts)?;
-    let formula = read_condition(alloc, condition)?;
-    automaton(alloc, b"a", states, starts, edges, 2, formula)
+    let mut d = bare(alloc, states, 2, read_condition(alloc, condition)?);
+    add_parts(alloc, &mut d, firsts, edges)?;
+    described(alloc, &d)
 }
 
-fn first_states(alloc: Global, count: u32) -> Result<Numbers, Memory> {
-    let mut starts = Numbers::new(alloc);
-    for start in 0..count {
-        starts.push(start)?;
+fn add_parts(
+    alloc: Global,
+    d: &mut Description,
+    firsts: u32,
+    edges: &[Plain],
+) -> Result<(), Memory> {
+    add_names(alloc, &mut d.names, b"a")?;
+    for start in 0..firsts {
+        d.starts.push(start)?;
     }
-    Ok(starts)
-}
-
-/// An edge where `a` holds, or where it doesn't, in the sets whose bits are set.
-pub fn edge(alloc: Global, from: u32, holds: bool, to: u32, sets: u32) -> Result<Edge, Memory> {
-    let marks = marks(alloc, sets)?;
-    Ok(Edge {
-        from,
-        label: literal(alloc, holds)?,
-        to,
-        marks,
-    })
-}
-
-/// The label that is true where `a` holds, or where it doesn't.
-fn literal(alloc: Global, holds: bool) -> Result<Label, Memory> {
-    if holds {
-        return Ok(Label::Prop(0));
+    for edge in edges {
+        add_edge(alloc, &mut d.edges, 1, *edge)?;
     }
-    Ok(Label::Not(Box::new(alloc, Label::Prop(0))?))
+    Ok(())
 }
 
 /// Names of one byte each.
 pub fn named(alloc: Global, bytes: &[u8]) -> Result<Names, Memory> {
     let mut names = Names::new(alloc);
+    add_names(alloc, &mut names, bytes)?;
+    Ok(names)
+}
+
+/// Adds names of one byte each.
+pub(crate) fn add_names(alloc: Global, names: &mut Names, bytes: &[u8]) -> Result<(), Memory> {
     for byte in bytes {
         let name = Text::from_bytes(alloc, &[*byte])?;
         if !names.has(&name) {
             names.push(name)?;
         }
     }
-    Ok(names)
+    Ok(())
 }
 
-/// The marks of a bit mask: the sets below 31 whose bits are set.
-pub fn marks(alloc: Global, bits: u32) -> Result<Marks, Memory> {
-    let mut marks = Marks::new(alloc);
-    let mut rest = bits;
-    'sets: for set in 0..31 {
-        let is_in = rest % 2 == 1;
-        rest /= 2;
-        if !is_in {
-            continue;
+/// Adds an edge over so many names, one or two.
+pub(crate) fn add_edge(
+    alloc: Global,
+    edges: &mut Edges,
+    names: usize,
+    edge: Plain,
+) -> Result<(), Memory> {
+    let marks = marks(alloc, edge.sets)?;
+    edges.push(Edge {
+        from: edge.from,
+        label: label(alloc, names, edge.letters)?,
+        to: edge.to,
+        marks,
+    })
+}
+
+/// The label that is true at the letters whose bits are set.
+fn label(alloc: Global, names: usize, letters: u32) -> Result<Label, Memory> {
+    let mut cubes = Labels::pair(alloc, Label::False, Label::False);
+    for letter in 0..4u32 {
+        if letters >> letter & 1 == 1 {
+            cubes.push(cube(alloc, names, letter)?)?;
         }
-        marks.push(set)?;
+    }
+    Ok(Label::Or(Box::new(alloc, cubes)?))
+}
+
+/// The label that is true at one letter: the first name holds where its number is odd, the second where it is 2 or 3.
+fn cube(alloc: Global, names: usize, letter: u32) -> Result<Label, Memory> {
+    let first = literal(0, letter % 2 == 1);
+    if names < 2 {
+        return Ok(first);
+    }
+    let parts = Labels::pair(alloc, first, literal(1, letter >= 2));
+    Ok(Label::And(Box::new(alloc, parts)?))
+}
+
+fn literal(prop: u32, holds: bool) -> Label {
+    if holds {
+        return Label::Prop(prop);
+    }
+    Label::Negated(prop)
+}
+
+/// The marks of a bit mask: the sets whose bits are set.
+pub(crate) fn marks(alloc: Global, bits: u32) -> Result<Marks, Memory> {
+    let mut marks = Marks::new(alloc);
+    for set in 0..32u32 {
+        if bits >> set & 1 == 1 && marks.are_below(set) {
+            marks.push(set)?;
+        }
     }
     Ok(marks)
 }

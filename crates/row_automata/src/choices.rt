@@ -2,9 +2,9 @@
 
 ghost use Rattle.std.specs.Prelude.{◌<◌};
 
-use crate::build::{automaton, marks};
+use crate::build::{Plain, add_edge, add_names, bare, described};
 use crate::conditions::{CONDITIONS, condition};
-use aut_base::{Edge, Edges, Label, Labels, Memory, Numbers};
+use aut_base::{Description, Memory};
 use aut_core::Automaton;
 use row_files::{Fault, Sequence};
 use std::alloc::Global;
@@ -48,61 +48,36 @@ pub fn chosen(
     from: &[u32],
     number: u32,
 ) -> Result<Automaton, Fault> {
-    let (starts, edges) = starts_and_edges(alloc, choices, names.len(), states, from)?;
-    let formula = condition(alloc, number % CONDITIONS)?;
-    automaton(alloc, names, states, starts, edges, 2, formula)
+    let mut d = bare(alloc, states, 2, condition(alloc, number % CONDITIONS)?);
+    choose(alloc, &mut d, choices, names, from)?;
+    described(alloc, &d)
 }
 
-fn starts_and_edges(
+/// Adds the names, and chosen starts and edges.
+fn choose(
     alloc: Global,
+    d: &mut Description,
     choices: &mut Choices,
-    names: usize,
-    states: u32,
+    names: &[u8],
     from: &[u32],
-) -> Result<(Numbers, Edges), Fault> {
-    if states == 0 {
-        return Err(Fault::Missing);
-    }
-    let starts = starts(alloc, choices, states)?;
-    Ok((starts, edges(alloc, choices, names, states, from)?))
-}
-
-fn starts(alloc: Global, choices: &mut Choices, states: u32) -> Result<Numbers, Memory> {
-    let mut starts = Numbers::new(alloc);
-    starts.push(0)?;
+) -> Result<(), Memory> {
+    let states = d.states.max(1);
+    add_names(alloc, &mut d.names, names)?;
+    d.starts.push(0)?;
     for state in 1..states {
         if choices.next(4) == 0 {
-            starts.push(state)?;
+            d.starts.push(state)?;
         }
     }
-    Ok(starts)
-}
-
-/// One chosen edge from each of these states.
-fn edges(
-    alloc: Global,
-    choices: &mut Choices,
-    names: usize,
-    states: u32,
-    from: &[u32],
-) -> Result<Edges, Memory>
-    requires { 0 < states }
-{
-    let mut edges = Edges::new(alloc);
     for state in from {
-        edges.push(edge(alloc, choices, names, states, *state)?)?;
+        let edge = edge(choices, names.len(), states, *state);
+        add_edge(alloc, &mut d.edges, names.len(), edge)?;
     }
-    Ok(edges)
+    Ok(())
 }
 
 /// An edge with a chosen set of letters, target and marks.
-fn edge(
-    alloc: Global,
-    choices: &mut Choices,
-    names: usize,
-    states: u32,
-    from: u32,
-) -> Result<Edge, Memory>
+fn edge(choices: &mut Choices, names: usize, states: u32, from: u32) -> Plain
     requires { 0 < states }
 {
     let letters = if names > 1 {
@@ -110,42 +85,10 @@ fn edge(
     } else {
         choices.next(4)
     };
-    Ok(Edge {
+    Plain {
         from,
-        label: label(alloc, names, letters)?,
+        letters,
         to: choices.next(states),
-        marks: marks(alloc, choices.next(4))?,
-    })
-}
-
-/// The label that is true at the letters whose bits are set.
-fn label(alloc: Global, names: usize, letters: u32) -> Result<Label, Memory> {
-    let mut label = Label::False;
-    let mut rest = letters;
-    for letter in 0..4 {
-        if rest % 2 == 1 {
-            let cube = cube(alloc, names, letter)?;
-            label = Label::Or(Box::new(alloc, Labels::pair(alloc, label, cube))?);
-        }
-        rest /= 2;
+        sets: choices.next(4),
     }
-    Ok(label)
-}
-
-/// The label that is true at one letter: the first name holds where its number is odd, the second where it is 2 or 3.
-fn cube(alloc: Global, names: usize, letter: u32) -> Result<Label, Memory> {
-    let first = literal(alloc, 0, letter % 2 == 1)?;
-    if names < 2 {
-        return Ok(first);
-    }
-    let second = literal(alloc, 1, letter >= 2)?;
-    let parts = Labels::pair(alloc, first, second);
-    Ok(Label::And(Box::new(alloc, parts)?))
-}
-
-fn literal(alloc: Global, prop: u32, holds: bool) -> Result<Label, Memory> {
-    if holds {
-        return Ok(Label::Prop(prop));
-    }
-    Ok(Label::Not(Box::new(alloc, Label::Prop(prop))?))
 }

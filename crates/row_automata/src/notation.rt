@@ -1,24 +1,30 @@
 //! The notation of automata in rows.
 
-use crate::build::{automaton, marks};
-use aut_base::{Edge, Edges, Label, Labels, Marks, Memory, Numbers};
+use crate::build::{add_names, bare, described, marks};
+use aut_base::{Description, Edge, Edges, Label, Labels, Memory, Numbers};
 use aut_core::Automaton;
 use row_files::{Fault, kind_and_rest, number, read_condition};
 use std::alloc::Global;
 
 /// The automaton of a line: `STATES/STARTS/NAMES/SETS/CONDITION EDGE EDGE ..`. Each start is a digit, each name a byte.
 pub fn read(alloc: Global, line: &str) -> Result<Automaton, Fault> {
-    let (head, written) = kind_and_rest(line);
+    let (head, edges) = kind_and_rest(line);
     let (states, sets) = (number(part(head, 0))?, number(part(head, 3))?);
-    let names = part(head, 2).as_bytes();
-    let (starts, edges) = starts_and_edges(alloc, part(head, 1), written)?;
-    let formula = read_condition(alloc, part(head, 4))?;
-    automaton(alloc, names, states, starts, edges, sets, formula)
+    let mut d = bare(alloc, states, sets, read_condition(alloc, part(head, 4))?);
+    add_parts(alloc, &mut d, head, edges)?;
+    described(alloc, &d)
 }
 
-fn starts_and_edges(alloc: Global, starts: &str, written: &str) -> Result<(Numbers, Edges), Fault> {
-    let starts = digits(alloc, starts)?;
-    Ok((starts, edges(alloc, written)?))
+/// Adds the names, starts and edges.
+fn add_parts(alloc: Global, d: &mut Description, head: &str, edges: &str) -> Result<(), Memory> {
+    add_names(alloc, &mut d.names, part(head, 2).as_bytes())?;
+    add_starts(&mut d.starts, part(head, 1))?;
+    for word in edges.split(' ') {
+        if !word.is_empty() {
+            add_edge(alloc, &mut d.edges, word)?;
+        }
+    }
+    Ok(())
 }
 
 /// The part of this index between slashes, or the empty text where there are fewer.
@@ -26,105 +32,76 @@ fn part(head: &str, place: usize) -> &str {
     head.split('/').nth(place).unwrap_or("")
 }
 
-fn digits(alloc: Global, written: &str) -> Result<Numbers, Memory> {
-    let mut numbers = Numbers::new(alloc);
-    for byte in written.bytes() {
-        numbers.push(u32::from(byte.saturating_sub(b'0')))?;
+fn add_starts(starts: &mut Numbers, written: &str) -> Result<(), Memory> {
+    for byte in written.as_bytes() {
+        starts.push(u32::from(byte.saturating_sub(b'0')))?;
     }
-    Ok(numbers)
+    Ok(())
 }
 
-fn edges(alloc: Global, written: &str) -> Result<Edges, Fault> {
-    let mut edges = Edges::new(alloc);
-    for word in written.split(' ') {
-        if !word.is_empty() {
-            edges.push(edge(alloc, word)?)?;
-        }
-    }
-    Ok(edges)
-}
-
-/// An edge: `FROM[LABEL]TO`, and a `+SET` for each set.
-fn edge(alloc: Global, word: &str) -> Result<Edge, Fault> {
-    let (from, rest) = halves(word, '[')?;
-    let (written, end) = halves(rest, ']')?;
+/// Adds an edge: `FROM[LABEL]TO`, and a `+SET` for each set.
+fn add_edge(alloc: Global, edges: &mut Edges, word: &str) -> Result<(), Memory> {
+    let (from, rest) = word.split_once('[').unwrap_or((word, ""));
+    let (written, end) = rest.split_once(']').unwrap_or((rest, ""));
     let (to, sets) = end.split_once('+').unwrap_or((end, ""));
-    let (from, to) = (number(from)?, number(to)?);
-    let marks = marks_of(alloc, sets)?;
-    Ok(Edge {
-        from,
+    let marks = marks(alloc, bits_of(sets))?;
+    edges.push(Edge {
+        from: known(from),
         label: label(alloc, written)?,
-        to,
+        to: known(to),
         marks,
     })
 }
 
-fn halves(word: &str, sign: char) -> Result<(&str, &str), Fault> {
-    match word.split_once(sign) {
-        Some(parts) => Ok(parts),
-        None => Err(Fault::Missing),
-    }
+/// A number, or where none is written the greatest one: no state and no name has it, and the automaton isn't well formed.
+fn known(written: &str) -> u32 {
+    number(written).unwrap_or(u32::MAX)
 }
 
-/// Numbers of sets separated by `+`, or none.
-fn marks_of(alloc: Global, sets: &str) -> Result<Marks, Fault> {
-    if sets.is_empty() {
-        return Ok(Marks::new(alloc));
-    }
-    Ok(marks(alloc, bits_of(sets)?)?)
-}
-
-/// The bits of numbers of sets separated by `+`.
-fn bits_of(sets: &str) -> Result<u32, Fault> {
+/// The bits of numbers of sets separated by `+`, or none. Where no number is written, it is that of set 31, which isn't there either.
+fn bits_of(sets: &str) -> u32 {
     let mut bits = 0;
-    for set in sets.split('+') {
-        bits |= 1u32 << number(set)?.min(31);
+    if sets.is_empty() {
+        return bits;
     }
-    Ok(bits)
+    for set in sets.split('+') {
+        bits |= 1u32 << known(set).min(31);
+    }
+    bits
 }
 
 /// A label: cubes separated by `|`.
-fn label(alloc: Global, written: &str) -> Result<Label, Fault> {
-    let (first, others) = written.split_once('|').unwrap_or((written, ""));
-    let mut label = cube(alloc, first)?;
-    if !others.is_empty() {
-        for other in others.split('|') {
-            let other = cube(alloc, other)?;
-            label = Label::Or(two(alloc, label, other)?);
-        }
+fn label(alloc: Global, written: &str) -> Result<Label, Memory> {
+    let mut cubes = Labels::pair(alloc, Label::False, Label::False);
+    for cube in written.split('|') {
+        add_cube(alloc, &mut cubes, cube)?;
     }
-    Ok(label)
+    Ok(Label::Or(Box::new(alloc, cubes)?))
 }
 
-/// A cube: literals separated by `&`.
-fn cube(alloc: Global, written: &str) -> Result<Label, Fault> {
-    let (first, others) = written.split_once('&').unwrap_or((written, ""));
-    let mut cube = literal(alloc, first)?;
-    if !others.is_empty() {
-        for other in others.split('&') {
-            let other = literal(alloc, other)?;
-            cube = Label::And(two(alloc, cube, other)?);
-        }
+/// Adds literals separated by `&`.
+fn add_cube(alloc: Global, cubes: &mut Labels, written: &str) -> Result<(), Memory> {
+    let mut literals = Labels::pair(alloc, Label::True, Label::True);
+    for word in written.split('&') {
+        literals.push(literal(alloc, word)?)?;
     }
-    Ok(cube)
+    cubes.push(Label::And(Box::new(alloc, literals)?))
 }
 
-fn two(alloc: Global, first: Label, second: Label) -> Result<Box<Labels>, Memory> {
-    Ok(Box::new(alloc, Labels::pair(alloc, first, second))?)
+/// A literal, or its negation after another `!`.
+fn literal(alloc: Global, written: &str) -> Result<Label, Memory> {
+    match written.strip_prefix('!') {
+        Some(rest) => Ok(Label::Not(Box::new(alloc, atom(rest))?)),
+        None => Ok(atom(written)),
+    }
 }
 
-/// A literal: `t`, `f` or the number of a name, after any number of `!`.
-fn literal(alloc: Global, written: &str) -> Result<Label, Fault> {
-    let atom = written.trim_start_matches('!');
-    let mut literal = match atom {
-        "t" => Label::True,
-        "f" => Label::False,
-        _ => Label::Prop(number(atom)?),
-    };
-    for byte in written.bytes() {
-        if byte == b'!' {
-            literal = Label::Not(Box::new(alloc, literal)?);
-        }
+/// `t`, `f`, or the number of a name, which may be after a `!`.
+fn atom(written: &str) -> Label {
+    match (written, written.strip_prefix('!')) {
+        ("t", _) => Label::True,
+        ("f", _) => Label::False,
+        (_, Some(name)) => Label::Negated(known(name)),
+        _ => Label::Prop(known(written)),
     }
-    Ok(literal)
 }

@@ -1,253 +1,214 @@
 //! Acceptance of lasso words, decided by a search of the paths that read the cycle with the marks that they collect.
 
-mod flags;
 mod search;
 mod steps;
 
-use crate::words::Words;
+use crate::outcomes::Accepted;
+use crate::words::{Letters, Words};
 use aut_base::{Formula, Memory};
 use aut_core::Automaton;
-use flags::{is_set, meet, set, spread};
-use search::Search;
-use std::alloc::Global;
-use steps::{Step, steps};
+use search::{Nodes, Search};
+use steps::{MOST_STATES, MOST_STEPS, Step, starts, steps};
 
-/// For each word of a list, whether the automaton accepts it.
-pub fn accepted(alloc: Global, a: &Automaton, words: &Words) -> Result<Vec<bool>, Memory> {
-    Paths::new(alloc, a)?.accepted(alloc, a.formula(), words)
+/// Which words of a list the automaton accepts. Refused where it is too large.
+pub fn accepted(a: &Automaton, words: &Words) -> Result<Accepted, Memory> {
+    Paths::new(a)?.accepted(a.formula(), words)
 }
 
-/// An automaton over some of the names `a` and `b`, prepared for the search. It has at most 31 sets.
-#[derive(Drop)]
+/// An automaton over some of the names `a` and `b`, prepared for the search. Sets of states are bits.
+#[derive(Clone, Copy)]
 pub struct Paths {
-    starts: Vec<bool>,
-    /// The edges of each state.
-    steps: Vec<Vec<Step>>,
+    states: usize,
+    starts: u64,
+    /// The edges that read some letter, and behind them some that read none.
+    steps: [Step; MOST_STEPS],
 }
 
 impl Paths {
-    pub fn new(alloc: Global, a: &Automaton) -> Result<Paths, Memory> {
-        let steps = steps(alloc, a)?;
+    /// Refused where there are too many states, sets or edges.
+    pub fn new(a: &Automaton) -> Result<Paths, Memory> {
         Ok(Paths {
-            starts: starts(alloc, a)?,
-            steps,
+            states: a.states() as usize,
+            starts: starts(a)?,
+            steps: steps(a)?,
         })
     }
 
     /// Whether there is exactly one start, and for each state and each of the first `letters` letters exactly one edge.
     pub fn are_single(&self, letters: u32) -> bool {
-        let starts = self.starts.iter().filter(|is_start| **is_start).count();
-        starts == 1
-            && (0..letters).all(|letter| {
-                self.steps.iter().all(|own| own
-                    .iter()
-                    .filter(|step| step.letters >> letter.min(31) & 1 == 1)
-                    .count()
-                    == 1)
-            })
+        for state in 0..self.states {
+            for letter in 0..letters {
+                if self.ways(state, 1u32 << letter.min(31)) != 1 {
+                    return false;
+                }
+            }
+        }
+        self.starts.count_ones() == 1
     }
 
-    /// For each cycle and each stem, whether the word is accepted.
-    pub fn accepted(
-        &self,
-        alloc: Global,
-        formula: &Formula,
-        words: &Words,
-    ) -> Result<Vec<bool>, Memory> {
-        let ends = self.after_each(alloc, &words.stems)?;
-        let mut accepted = Vec::new(alloc);
-        for cycle in words.cycles.iter() {
-            let from = self.accepting(alloc, formula, cycle)?;
-            add_meetings(&mut accepted, &ends, &from)?;
+    /// The number of edges of a state that read a letter.
+    fn ways(&self, state: usize, letter: u32) -> u32 {
+        let mut ways = 0u32;
+        for step in self.steps.iter() {
+            if step.is_open(bit(state), letter) {
+                ways = ways.saturating_add(1);
+            }
+        }
+        ways
+    }
+
+    /// Which words are accepted.
+    pub fn accepted(&self, formula: &Formula, words: &Words) -> Result<Accepted, Memory> {
+        let mut accepted = Accepted::nothing();
+        let mut nodes = Nodes::new();
+        for number in 0..words.cycles() {
+            let from = self.accepting(formula, words.cycle(number), &mut nodes)?;
+            let Some(stems) = accepted.stems.get_mut(number as usize) else {
+                return Err(Memory);
+            };
+            *stems = self.stems_to(from, words);
         }
         Ok(accepted)
     }
 
-    /// For each stem, the states to which it leads from a start.
-    fn after_each(&self, alloc: Global, stems: &[Vec<u32>]) -> Result<Vec<Vec<bool>>, Memory> {
-        let mut ends = Vec::new(alloc);
-        for stem in stems {
-            ends.push(self.after_all(alloc, &self.starts, stem)?)?;
+    /// The stems that lead from a start to one of these states.
+    fn stems_to(&self, states: u64, words: &Words) -> u32 {
+        let mut stems = 0;
+        for number in 0..words.stems() {
+            if self.after_all(self.starts, words.stem(number)) & states != 0 {
+                stems |= 1u32 << number.min(31);
+            }
         }
-        Ok(ends)
+        stems
     }
 
     /// The states from which at least one of these words is accepted.
-    pub fn alive(
-        &self,
-        alloc: Global,
-        formula: &Formula,
-        words: &Words,
-    ) -> Result<Vec<bool>, Memory> {
-        let mut alive = vec![in alloc; false; self.steps.len()]?;
-        for cycle in words.cycles.iter() {
-            let from = self.accepting(alloc, formula, cycle)?;
-            self.add_all_leading(alloc, &mut alive, &from, &words.stems)?;
+    pub fn alive(&self, formula: &Formula, words: &Words) -> Result<u64, Memory> {
+        let mut alive = 0;
+        let mut nodes = Nodes::new();
+        for number in 0..words.cycles() {
+            let from = self.accepting(formula, words.cycle(number), &mut nodes)?;
+            alive |= self.leading(from, words);
         }
         Ok(alive)
+    }
+
+    /// The states from which a path that reads one of the stems leads to one of these.
+    fn leading(&self, ends: u64, words: &Words) -> u64 {
+        let mut leading = 0;
+        for state in 0..self.states {
+            for number in 0..words.stems() {
+                if self.after_all(bit(state), words.stem(number)) & ends != 0 {
+                    leading |= bit(state);
+                }
+            }
+        }
+        leading
     }
 
     /// The states from which the cycle repeated for ever is accepted: some rounds of it lead to a state from which a path that meets the
     /// condition leads back to that state after some rounds.
     fn accepting(
         &self,
-        alloc: Global,
         formula: &Formula,
-        cycle: &[u32],
-    ) -> Result<Vec<bool>, Memory> {
-        let rounds = self.rounds(alloc, cycle)?;
-        let closing = self.closing(alloc, formula, cycle, &rounds)?;
-        let mut accepting = Vec::new(alloc);
-        add_meetings(&mut accepting, &rounds, &closing)?;
+        cycle: Letters,
+        nodes: &mut Nodes,
+    ) -> Result<u64, Memory> {
+        let rounds = self.rounds(cycle);
+        let search = Search {
+            steps: &self.steps,
+            formula,
+            cycle,
+            rounds: &rounds,
+        };
+        let closing = search.closing(nodes)?;
+        let mut accepting = 0;
+        for (state, ends) in rounds.iter().enumerate() {
+            if *ends & closing != 0 {
+                accepting |= bit(state);
+            }
+        }
         Ok(accepting)
     }
 
-    /// The states from which a path that meets the condition leads back after some rounds.
-    fn closing(
-        &self,
-        alloc: Global,
-        formula: &Formula,
-        cycle: &[u32],
-        rounds: &[Vec<bool>],
-    ) -> Result<Vec<bool>, Memory> {
-        let mut closing = Vec::new(alloc);
-        for (home, ends) in rounds.iter().enumerate() {
-            let search = Search {
-                steps: &self.steps,
-                formula,
-                cycle,
-                rounds,
-                home,
-            };
-            closing.push(is_set(ends, home) && search.closes(alloc)?)?;
-        }
-        Ok(closing)
-    }
-
     /// For each state, the states to which one or more rounds of the cycle lead.
-    fn rounds(&self, alloc: Global, cycle: &[u32]) -> Result<Vec<Vec<bool>>, Memory> {
-        let ends = self.single_rounds(alloc, cycle)?;
-        let mut rounds = Vec::new(alloc);
-        for own in ends.iter() {
-            rounds.push(spread(alloc, own, &ends)?)?;
+    fn rounds(&self, cycle: Letters) -> [u64; MOST_STATES] {
+        let mut single = [0; MOST_STATES];
+        for (state, ends) in single.iter_mut().enumerate() {
+            if state < self.states {
+                *ends = self.after_all(bit(state), cycle);
+            }
         }
-        Ok(rounds)
-    }
-
-    /// For each state, the states to which one round of the cycle leads.
-    fn single_rounds(&self, alloc: Global, cycle: &[u32]) -> Result<Vec<Vec<bool>>, Memory> {
-        let mut ends = Vec::new(alloc);
-        for state in 0..self.steps.len() {
-            ends.push(self.after_state(alloc, state, cycle)?)?;
+        let mut rounds = single;
+        for ends in rounds.iter_mut() {
+            if *ends != 0 {
+                *ends = spread(*ends, &single);
+            }
         }
-        Ok(ends)
+        rounds
     }
 
     /// Whether after each prefix of the letters one of these states can be reached.
-    pub fn goes_on(&self, alloc: Global, states: &[bool], letters: &[u32]) -> Result<bool, Memory> {
-        let mut here = self.starts.clone()?;
-        for letter in letters {
-            if !meet(&here, states) {
-                return Ok(false);
+    pub fn go_on(&self, states: u64, letters: Letters) -> bool {
+        let mut here = self.starts;
+        for place in 0..letters.len() {
+            if here & states == 0 {
+                return false;
             }
-            here = self.after(alloc, &here, *letter)?;
+            here = self.after(here, letters.at(place));
         }
-        Ok(meet(&here, states))
+        here & states != 0
     }
 
-    /// Adds the states from which a path that reads one of the stems leads to one of the others.
-    fn add_all_leading(
-        &self,
-        alloc: Global,
-        flags: &mut Vec<bool>,
-        ends: &[bool],
-        stems: &[Vec<u32>],
-    ) -> Result<(), Memory> {
-        for stem in stems {
-            self.add_leading(alloc, flags, ends, stem)?;
+    /// The states to which paths lead from these that read the letters.
+    fn after_all(&self, begin: u64, letters: Letters) -> u64 {
+        let mut here = begin;
+        for place in 0..letters.len() {
+            here = self.after(here, letters.at(place));
         }
-        Ok(())
-    }
-
-    /// Adds the states from which a path that reads the letters leads to one of the others.
-    fn add_leading(
-        &self,
-        alloc: Global,
-        flags: &mut Vec<bool>,
-        ends: &[bool],
-        letters: &[u32],
-    ) -> Result<(), Memory> {
-        for state in 0..self.steps.len() {
-            if meet(&self.after_state(alloc, state, letters)?, ends) {
-                set(flags, state);
-            }
-        }
-        Ok(())
-    }
-
-    /// The states to which paths lead from this one that read the letters.
-    fn after_state(
-        &self,
-        alloc: Global,
-        state: usize,
-        letters: &[u32],
-    ) -> Result<Vec<bool>, Memory> {
-        let mut here = vec![in alloc; false; self.steps.len()]?;
-        set(&mut here, state);
-        self.after_all(alloc, &here, letters)
-    }
-
-    fn after_all(
-        &self,
-        alloc: Global,
-        begin: &[bool],
-        letters: &[u32],
-    ) -> Result<Vec<bool>, Memory> {
-        let mut here = begin.to_vec(alloc)?;
-        for letter in letters {
-            here = self.after(alloc, &here, *letter)?;
-        }
-        Ok(here)
+        here
     }
 
     /// The states to which edges lead from these at the letter.
-    fn after(&self, alloc: Global, here: &[bool], letter: u32) -> Result<Vec<bool>, Memory> {
-        let mut next = vec![in alloc; false; here.len()]?;
-        for (is_here, own) in here.iter().zip(self.steps.iter()) {
-            if *is_here {
-                add_targets(&mut next, own, letter);
+    fn after(&self, here: u64, letter: u32) -> u64 {
+        let mut next = 0;
+        for step in self.steps.iter() {
+            if step.is_last() {
+                break;
+            }
+            if step.is_open(here, letter) {
+                next |= bit(step.to);
             }
         }
-        Ok(next)
+        next
     }
 }
 
-/// The flags of the starts.
-fn starts(alloc: Global, a: &Automaton) -> Result<Vec<bool>, Memory> {
-    let mut starts = vec![in alloc; false; a.states() as usize]?;
-    for start in a.starts().as_slice() {
-        set(&mut starts, *start as usize);
-    }
-    Ok(starts)
+/// The set of this state alone.
+fn bit(state: usize) -> u64 {
+    1u64 << state.min(63) as u32
 }
 
-/// Adds for each of the lists whether it meets the flags.
-fn add_meetings(
-    meetings: &mut Vec<bool>,
-    lists: &[Vec<bool>],
-    flags: &[bool],
-) -> Result<(), Memory> {
-    for list in lists {
-        meetings.push(meet(list, flags))?;
+/// These states, and all that are reached from them by `ends`.
+fn spread(own: u64, ends: &[u64]) -> u64 {
+    let mut all = own;
+    for _ in 0..ends.len() {
+        let more = grown(all, ends);
+        if more == all {
+            break;
+        }
+        all = more;
     }
-    Ok(())
+    all
 }
 
-/// Adds the states to which these edges lead at the letter.
-fn add_targets(flags: &mut Vec<bool>, steps: &[Step], letter: u32) {
-    for step in steps {
-        if step.letters & letter != 0 {
-            set(flags, step.to as usize);
+/// These states, and those that are reached from them by one of `ends`.
+fn grown(states: u64, ends: &[u64]) -> u64 {
+    let mut all = states;
+    for (state, more) in ends.iter().enumerate() {
+        if states & bit(state) != 0 {
+            all |= *more;
         }
     }
+    all
 }

@@ -74,19 +74,28 @@ pub fn count_call(
     if is_right {
         return count.take(rt, None);
     }
-    let told = told(rt.alloc(), call, automata)?;
-    count.take(rt, Some(told))
+    count.take(rt, Some(told(rt.alloc(), call, automata)?))
 }
 
 fn told(alloc: Global, call: &str, automata: &[&Automaton]) -> Result<String, Fault> {
     let mut told = Answer::new(alloc);
+    add_call(alloc, &mut told, call, automata)?;
+    Ok(String::from_utf8_lossy(alloc, told.end()?.as_bytes())?)
+}
+
+fn add_call(
+    alloc: Global,
+    told: &mut Answer,
+    call: &str,
+    automata: &[&Automaton],
+) -> Result<(), Memory> {
     told.add(b"? ");
     told.add(call.as_bytes());
     for a in automata {
         told.add(b"\n< ");
-        add_automaton(alloc, &mut told, a)?;
+        add_automaton(alloc, told, a)?;
     }
-    Ok(String::from_utf8_lossy(alloc, told.end()?.as_bytes())?)
+    Ok(())
 }
 
 /// Two numbers with a space between them.

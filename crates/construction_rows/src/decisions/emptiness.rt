@@ -10,11 +10,10 @@ use std::alloc::Global;
 
 /// Random automata of two states with three edges; the condition changes from one to the next.
 pub(crate) fn compared(rt: &HostRuntime, count: &mut Count) -> Result<(), Fault> {
-    let words = Words::new(rt.alloc(), 2, 2, 4)?;
     let mut choices = Choices::chance();
     for number in 0..6000u32 {
         let a = three_edges(rt.alloc(), &mut choices, number)?;
-        let is_right = is_found(rt.alloc(), &a, &words)?;
+        let is_right = is_found(rt.alloc(), &a)?;
         count_call(rt, count, is_right, "accepted_word", &[&a])?;
     }
     Ok(())
@@ -35,7 +34,6 @@ pub(crate) fn three_edges(
 }
 
 /// Whether a word of the automaton is found, or no word of a list is accepted.
-fn is_found(alloc: Global, a: &Automaton, words: &Words) -> Result<bool, Memory> {
-    let found = word_of(alloc, a)?;
-    fits(alloc, &found, a, a, words)
+fn is_found(alloc: Global, a: &Automaton) -> Result<bool, Memory> {
+    fits(alloc, word_of(alloc, a)?, a, a, &Words::new(2, 2, 4))
 }

@@ -2,6 +2,7 @@
 
 use crate::decisions::ask_about::word_of_both;
 use crate::decisions::fits;
+use aut_base::Memory;
 use aut_core::Automaton;
 use row_automata::{Choices, Words, chosen, count_call};
 use row_files::{Count, Fault};
@@ -9,10 +10,9 @@ use std::alloc::Global;
 
 /// Random pairs of automata of three states, with two edges from each, over one or both of the names.
 pub(crate) fn compared(rt: &HostRuntime, count: &mut Count) -> Result<(), Fault> {
-    let words = Words::new(rt.alloc(), 4, 2, 3)?;
     let mut choices = Choices::chance();
     for number in 0..500u32 {
-        compare(rt, count, &mut choices, number, &words)?;
+        compare(rt, count, &mut choices, number)?;
     }
     Ok(())
 }
@@ -23,18 +23,22 @@ fn compare(
     count: &mut Count,
     choices: &mut Choices,
     number: u32,
-    words: &Words,
 ) -> Result<(), Fault> {
     let a = three_states(rt.alloc(), choices, number)?;
     let b = three_states(rt.alloc(), choices, number.wrapping_mul(3))?;
-    let is_right = is_found(rt.alloc(), &a, &b, words)?;
+    let is_right = is_found(rt.alloc(), &a, &b)?;
     count_call(rt, count, is_right, "word_of_both", &[&a, &b])
 }
 
 /// Whether a word of both is found, or no word of a list is accepted by both.
-fn is_found(alloc: Global, a: &Automaton, b: &Automaton, words: &Words) -> Result<bool, Fault> {
-    let found = word_of_both(alloc, a, b)?;
-    Ok(fits(alloc, &found, a, b, words)?)
+fn is_found(alloc: Global, a: &Automaton, b: &Automaton) -> Result<bool, Memory> {
+    fits(
+        alloc,
+        word_of_both(alloc, a, b)?,
+        a,
+        b,
+        &Words::new(4, 2, 3),
+    )
 }
 
 fn three_states(alloc: Global, choices: &mut Choices, number: u32) -> Result<Automaton, Fault> {

@@ -2,14 +2,16 @@
 
 use crate::decisions::ask_about::verdict;
 use crate::decisions::emptiness::three_edges;
-use aut_base::{Formula, Marks, Memory};
+use aut_base::Formula;
 use aut_core::{Automaton, Link};
-use row_automata::{Choices, count_call, marks};
+use row_automata::{Choices, count_call, meets};
 use row_files::{Count, Fault};
-use std::alloc::Global;
 
 /// The most edges of a run, its cycle counted once.
 const LENGTH: usize = 5;
+
+/// The number of lists of so many edges, or of fewer.
+const PATHS: usize = 1024;
 
 /// An edge, with a bit for each letter that it reads (where `a` fails and where it holds) and for each of its sets.
 #[derive(Clone, Copy)]
@@ -20,6 +22,9 @@ struct Way {
     sets: u32,
 }
 
+/// The three edges of an automaton, before none.
+type Ways = [Option<Way>; 4];
+
 /// A path, with no edge after its end.
 type Path = [Option<Way>; LENGTH];
 
@@ -28,54 +33,69 @@ pub(crate) fn compared(rt: &HostRuntime, count: &mut Count) -> Result<(), Fault>
     let mut choices = Choices::chance();
     for number in 0..300u32 {
         let a = three_edges(rt.alloc(), &mut choices, number.wrapping_mul(7))?;
-        compare(rt, count, &a)?;
+        let is_right = verdict(rt.alloc(), &a) == wanted(&a);
+        count_call(rt, count, is_right, "is_unambiguous", &[&a])?;
     }
     Ok(())
 }
 
-/// Whether the verdict is right.
-fn compare(rt: &HostRuntime, count: &mut Count, a: &Automaton) -> Result<(), Fault> {
-    let said = verdict(rt.alloc(), a)?;
-    let wanted = if has_two_runs(rt.alloc(), a)? {
-        "ambiguous"
-    } else {
-        "unambiguous"
-    };
-    count_call(rt, count, said == wanted, "is_unambiguous", &[a])
+/// The right verdict.
+fn wanted(a: &Automaton) -> &'static str {
+    if has_two_runs(a) {
+        return "ambiguous";
+    }
+    "unambiguous"
 }
 
 /// Whether two different accepting runs read one short word. Two runs over one word return to their states together after
 /// enough rounds, so paths of one length with cycles of one length suffice.
-fn has_two_runs(alloc: Global, a: &Automaton) -> Result<bool, Memory> {
-    let ways = ways(alloc, a)?;
-    let runs = runs(alloc, a, &ways)?;
-    have_alike(alloc, a.formula(), &runs)
+fn has_two_runs(a: &Automaton) -> bool {
+    let ways = ways(a);
+    let mut are_runs = [false; PATHS];
+    for number in 0..PATHS {
+        let run = path(&ways, number);
+        if is_run(a, &run) {
+            if has_alike(a.formula(), &ways, &are_runs, &run) {
+                return true;
+            }
+            are_runs[number] = true;
+        }
+    }
+    false
 }
 
-/// Whether two of the paths read one word and are accepted.
-fn have_alike(alloc: Global, formula: &Formula, runs: &[Path]) -> Result<bool, Memory> {
-    for (place, run) in runs.iter().enumerate() {
-        for other in runs.iter().take(place) {
-            if read_alike(run, other) && both_accept(alloc, formula, run, other)? {
-                return Ok(true);
+/// Whether one of the paths with these numbers reads the word of this one, and both are accepted.
+fn has_alike(formula: &Formula, ways: &Ways, are_runs: &[bool], run: &Path) -> bool {
+    for (number, is_run) in are_runs.iter().enumerate() {
+        if *is_run {
+            let other = path(ways, number);
+            if read_alike(run, &other) && both_accept(formula, run, &other) {
+                return true;
             }
         }
     }
-    Ok(false)
+    false
 }
 
-/// The edges that read some letter.
-fn ways(alloc: Global, a: &Automaton) -> Result<Vec<Way>, Memory> {
-    let mut ways = Vec::new(alloc);
-    for link in a.links() {
-        ways.push(Way {
-            from: link.from,
-            to: link.to,
-            letters: letters(a, link),
-            sets: u32::from(link.marks.has(0)) + 2 * u32::from(link.marks.has(1)),
-        })?;
+fn ways(a: &Automaton) -> Ways {
+    let mut ways = [None; 4];
+    let mut links = a.links().iter();
+    for way in ways.iter_mut() {
+        *way = match links.next() {
+            Some(link) => Some(read_link(a, link)),
+            None => None,
+        };
     }
-    Ok(ways)
+    ways
+}
+
+fn read_link(a: &Automaton, link: &Link) -> Way {
+    Way {
+        from: link.from,
+        to: link.to,
+        letters: letters(a, link),
+        sets: u32::from(link.marks.has(0)) + 2 * u32::from(link.marks.has(1)),
+    }
 }
 
 /// The letters that an edge reads, by the numbers of valuations of the only name.
@@ -88,25 +108,12 @@ fn letters(a: &Automaton, link: &Link) -> u32 {
     off | on << 1
 }
 
-/// All short paths from a start, by the digits of numbers: a digit is the index of an edge, and the number of edges ends the
-/// path.
-fn runs(alloc: Global, a: &Automaton, ways: &[Way]) -> Result<Vec<Path>, Memory> {
-    let mut runs = Vec::new(alloc);
-    for number in 0..1024u32 {
-        let path = path(ways, number);
-        if is_run(a, &path) {
-            runs.push(path)?;
-        }
-    }
-    Ok(runs)
-}
-
-/// The path of the digits of a number in base four.
-fn path(ways: &[Way], number: u32) -> Path {
+/// The path of the digits of a number in base four: a digit is the index of an edge, and 3 ends the path.
+fn path(ways: &Ways, number: usize) -> Path {
     let mut rest = number;
     let mut path = [None; LENGTH];
     for way in path.iter_mut() {
-        *way = ways.get((rest % 4) as usize).copied();
+        *way = ways[rest % 4];
         rest /= 4;
     }
     path
@@ -136,57 +143,42 @@ fn is_run(a: &Automaton, path: &Path) -> bool {
 
 /// Whether the paths have the same length and at each position some letter is read by both edges.
 fn read_alike(path: &Path, other: &Path) -> bool {
-    path.iter().zip(other.iter()).all(|(first, second)| match (first, second) {
-        (None, None) => true,
-        (Some(first), Some(second)) => first.letters & second.letters != 0,
-        _ => false,
-    })
+    for place in 0..LENGTH {
+        let is_alike = match (path[place], other[place]) {
+            (None, None) => true,
+            (Some(first), Some(second)) => first.letters & second.letters != 0,
+            _ => false,
+        };
+        if !is_alike {
+            return false;
+        }
+    }
+    true
 }
 
 /// Whether from some position on both are cycles that meet the condition.
-fn both_accept(
-    alloc: Global,
-    formula: &Formula,
-    path: &Path,
-    other: &Path,
-) -> Result<bool, Memory> {
+fn both_accept(formula: &Formula, path: &Path, other: &Path) -> bool {
     for place in 0..LENGTH {
-        if accepts_from(alloc, formula, path, place)?
-            && accepts_from(alloc, formula, other, place)?
-        {
-            return Ok(true);
+        if accepts_from(formula, path, place) && accepts_from(formula, other, place) {
+            return true;
         }
     }
-    Ok(false)
+    false
 }
 
-/// Whether the path is a cycle that meets the condition from this position on.
-fn accepts_from(
-    alloc: Global,
-    formula: &Formula,
-    path: &Path,
-    place: usize,
-) -> Result<bool, Memory> {
-    let cycle = marks_from(alloc, path, place)?;
-    Ok(returns(path, place) && !cycle.is_empty() && formula.met_by(&cycle))
-}
-
-/// Whether the path ends where its edge at this position begins.
-fn returns(path: &Path, place: usize) -> bool {
+/// Whether the path is a cycle that meets the condition from this position on: it ends where its edge there begins.
+fn accepts_from(formula: &Formula, path: &Path, place: usize) -> bool {
     let mut begin = None;
     let mut end = None;
-    for way in path.iter().skip(place).flatten() {
-        begin = begin.or(Some(way.from));
-        end = Some(way.to);
+    let mut some = 0;
+    let mut each = u32::MAX;
+    for number in place..LENGTH {
+        if let Some(way) = path[number] {
+            begin = begin.or(Some(way.from));
+            end = Some(way.to);
+            some |= way.sets;
+            each &= way.sets;
+        }
     }
-    begin == end
-}
-
-/// The sets of the edges from this position on.
-fn marks_from(alloc: Global, path: &Path, place: usize) -> Result<Vec<Marks>, Memory> {
-    let mut cycle = Vec::new(alloc);
-    for way in path.iter().skip(place).flatten() {
-        cycle.push(marks(alloc, way.sets)?)?;
-    }
-    Ok(cycle)
+    begin.is_some() && begin == end && meets(formula, some, each)
 }

@@ -1,18 +1,17 @@
 //! The search of a path that leads back to its first state.
 
-use crate::build::marks;
-use crate::paths::flags::is_set;
+use crate::conditions::meets;
+use crate::paths::bit;
 use crate::paths::steps::Step;
+use crate::words::Letters;
 use aut_base::{Formula, Memory};
-use std::alloc::Global;
-use std::collections::HashSet;
 
 /// A bound on the nodes of the search, more than small automata need.
-const MOST_NODES: usize = 1_000_000;
+const MOST_NODES: usize = 512;
 
 /// A node of the search: the state of a path, its position in the cycle, the union of its edges' marks so far, and their
 /// intersection.
-#[derive(Clone, Copy, PartialEq, Eq, Hash)]
+#[derive(Clone, Copy)]
 struct Node {
     state: usize,
     place: usize,
@@ -24,48 +23,104 @@ impl Node {
     fn after(self, step: &Step, length: usize) -> Node {
         let place = self.place.saturating_add(1);
         Node {
-            state: step.to as usize,
+            state: step.to,
             place: if place < length { place } else { 0 },
             some: self.some | step.sets,
             each: self.each & step.sets,
         }
     }
 
-    /// Whether a cycle with this union and intersection of marks meets the condition: it does exactly where a cycle of two edges with
-    /// these two as their marks does.
-    fn meets(self, alloc: Global, formula: &Formula) -> Result<bool, Memory> {
-        let edges = [marks(alloc, self.some)?, marks(alloc, self.each)?];
-        Ok(formula.met_by(&edges))
+    fn is(&self, other: &Node) -> bool {
+        self.state == other.state
+            && self.place == other.place
+            && self.some == other.some
+            && self.each == other.each
+    }
+}
+
+/// The nodes that were reached.
+#[derive(Clone, Copy)]
+pub(crate) struct Nodes {
+    list: [Node; MOST_NODES],
+    count: usize,
+}
+
+impl Nodes {
+    pub(crate) fn new() -> Nodes {
+        Nodes {
+            list: [begin(0); MOST_NODES],
+            count: 0,
+        }
+    }
+
+    /// Adds a node, unless it is there. Refused where there are too many.
+    fn add(&mut self, node: Node) -> Result<(), Memory> {
+        for (place, other) in self.list.iter().enumerate() {
+            if place >= self.count {
+                break;
+            }
+            if other.is(&node) {
+                return Ok(());
+            }
+        }
+        match self.list.get_mut(self.count) {
+            Some(place) => *place = node,
+            None => return Err(Memory),
+        }
+        self.count = self.count.saturating_add(1);
+        Ok(())
+    }
+
+    /// The node of this number, in the order in which they were reached.
+    fn get(&self, number: usize) -> Option<Node> {
+        if number < self.count {
+            return self.list.get(number).copied();
+        }
+        None
+    }
+}
+
+/// The node of the path that is still empty.
+fn begin(home: usize) -> Node {
+    Node {
+        state: home,
+        place: 0,
+        some: 0,
+        each: u32::MAX,
     }
 }
 
 /// What is searched: a path over these edges from a state back to it that reads the cycle one or more times and meets the condition.
 #[derive(Clone, Copy)]
 pub(crate) struct Search<'a> {
-    pub(crate) steps: &'a [Vec<Step>],
+    pub(crate) steps: &'a [Step],
     pub(crate) formula: &'a Formula,
-    pub(crate) cycle: &'a [u32],
+    pub(crate) cycle: Letters,
     /// For each state, the states to which one or more rounds of the cycle lead.
-    pub(crate) rounds: &'a [Vec<bool>],
-    pub(crate) home: usize,
+    pub(crate) rounds: &'a [u64],
 }
 
 impl<'a> Search<'a> {
+    /// The states for which there is such a path.
+    pub(crate) fn closing(&self, nodes: &mut Nodes) -> Result<u64, Memory> {
+        let mut closing = 0;
+        for (home, ends) in self.rounds.iter().enumerate() {
+            if *ends & bit(home) != 0 && self.closes(home, nodes)? {
+                closing |= bit(home);
+            }
+        }
+        Ok(closing)
+    }
+
     /// Whether there is such a path. After a round it goes on only from states from which some rounds lead back.
-    pub(crate) fn closes(&self, alloc: Global) -> Result<bool, Memory> {
-        let mut todo = Vec::new(alloc);
-        let mut seen = HashSet::new(alloc);
-        todo.push(Node {
-            state: self.home,
-            place: 0,
-            some: 0,
-            each: u32::MAX,
-        })?;
+    fn closes(&self, home: usize, nodes: &mut Nodes) -> Result<bool, Memory> {
+        nodes.count = 0;
+        nodes.add(begin(home))?;
         for done in 0..MOST_NODES {
-            let Some(node) = todo.get(done).copied() else {
+            let Some(node) = nodes.get(done) else {
                 return Ok(false);
             };
-            if self.follow(alloc, node, &mut todo, &mut seen)? {
+            if self.follow(home, node, nodes)? {
                 return Ok(true);
             }
         }
@@ -73,39 +128,35 @@ impl<'a> Search<'a> {
     }
 
     /// Follows the edges from a node, and answers whether one of them ends such a path. Else new nodes are added.
-    fn follow(
-        &self,
-        alloc: Global,
-        node: Node,
-        todo: &mut Vec<Node>,
-        seen: &mut HashSet<Node>,
-    ) -> Result<bool, Memory> {
-        let letter = self.cycle.get(node.place).copied().unwrap_or(0);
-        for step in self.steps.get(node.state).into_iter().flatten() {
-            if step.letters & letter == 0 {
+    fn follow(&self, home: usize, node: Node, nodes: &mut Nodes) -> Result<bool, Memory> {
+        let letter = self.cycle.at(node.place);
+        for step in self.steps {
+            if !step.is_open(bit(node.state), letter) {
                 continue;
             }
             let next = node.after(step, self.cycle.len());
-            if self.is_end(alloc, next)? {
+            if self.is_end(home, next) {
                 return Ok(true);
             }
-            if self.goes_on(next) && seen.insert(next)? {
-                todo.push(next)?;
+            if self.goes_on(home, next) {
+                nodes.add(next)?;
             }
         }
         Ok(false)
     }
 
-    fn is_end(&self, alloc: Global, node: Node) -> Result<bool, Memory> {
-        Ok(node.place == 0 && node.state == self.home && node.meets(alloc, self.formula)?)
+    /// Whether the path is back, and meets the condition: it does exactly where a cycle of two edges with its union and its
+    /// intersection as their marks does.
+    fn is_end(&self, home: usize, node: Node) -> bool {
+        node.place == 0 && node.state == home && meets(self.formula, node.some, node.each)
     }
 
-    fn goes_on(&self, node: Node) -> bool {
-        node.place > 0 || leads_to(self.rounds, node.state, self.home)
+    fn goes_on(&self, home: usize, node: Node) -> bool {
+        node.place > 0 || self.ends(node.state) & bit(home) != 0
     }
-}
 
-/// Whether one or more rounds lead from one state to another.
-fn leads_to(rounds: &[Vec<bool>], state: usize, other: usize) -> bool {
-    rounds.get(state).is_some_and(|ends| is_set(ends, other))
+    /// The states to which one or more rounds lead from this one.
+    fn ends(&self, state: usize) -> u64 {
+        self.rounds.get(state).copied().unwrap_or(0)
+    }
 }
