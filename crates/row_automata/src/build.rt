@@ -130,7 +130,7 @@ fn literal(prop: u32, holds: bool) -> Label {
 }
 
 /// The marks of a bit mask: the sets whose bits are set.
-pub(crate) fn marks(alloc: Global, bits: u32) -> Result<Marks, Memory> {
+pub fn marks(alloc: Global, bits: u32) -> Result<Marks, Memory> {
     let mut marks = Marks::new(alloc);
     for set in 0..32u32 {
         if bits >> set & 1 == 1 && marks.are_below(set) {

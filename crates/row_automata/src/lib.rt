@@ -12,7 +12,7 @@ mod product;
 mod show;
 mod words;
 
-pub use build::{Plain, named, standing};
+pub use build::{Plain, marks, named, standing};
 pub use choices::{Choices, chosen};
 pub use conditions::{ALL_CONDITIONS, CONDITIONS, condition, meets};
 pub use notation::read;
