@@ -8,6 +8,7 @@ mod row;
 mod runs;
 mod stated;
 mod sure;
+mod system;
 
 use row::CommandRow;
 use row_files::{Count, Stop, run};
@@ -43,5 +44,6 @@ fn main(rt: HostRuntime) -> Result<(), Stop> {
     let mut count = Count::new();
     run(&rt, &FILES, &mut CommandRow::new(rt.alloc()), &mut count)?;
     sure::count_all(&rt, &mut count)?;
+    system::count_all(&rt, &mut count)?;
     count.end(&rt)
 }

@@ -1,25 +1,25 @@
-//! Runs over the system that end with a status above 0: two whose status is printed, and last the one call that the `main` of `autfilt`
-//! is, over the arguments of the process.
-#![tactic(auto)]
+//! Runs over the system, with the standard input, output and error of this program.
 
 use aut_base::{Memory, Text, Words};
 use autfilt_run::autfilt;
 use real_io::{RealInputs, RealSink, SystemFiles};
+use row_files::{Count, Fault};
 use std::alloc::Global;
-use std::process::ExitCode;
 
-fn main(rt: HostRuntime) -> ExitCode {
-    tell(&rt, &["--is-empty", "--colour"]);
-    tell(&rt, &["--is-empty"]);
-    autfilt_run::run(rt)
-}
+/// The words of command lines that print nothing, and their statuses: words that are no plan, a filter that drops the only automaton of
+/// standard input, and a file that is not there.
+const ROWS: [(&[&str], u8); 3] = [
+    (&["--is-empty", "--colour"], 2),
+    (&["--is-empty"], 1),
+    (&["missing.hoa"], 2),
+];
 
-/// Prints the status of the command over the system, with these words.
-fn tell(rt: &HostRuntime, line: &[&str]) {
-    let _printed = match status(rt, line) {
-        Ok(status) => println!(rt; "{status}"),
-        Err(_want) => println!(rt; "out of memory"),
-    };
+/// Counts these runs, and those that end with another status.
+pub(crate) fn count_all(rt: &HostRuntime, count: &mut Count) -> Result<(), Fault> {
+    for (line, wanted) in ROWS.iter() {
+        count.add(status(rt, line)? != *wanted);
+    }
+    Ok(())
 }
 
 fn status(rt: &HostRuntime, line: &[&str]) -> Result<u8, Memory> {
