@@ -1,14 +1,16 @@
-//! Runs the command on each row of the files of rows, and prints the runs whose outcome is another than the stated one.
+//! Runs the command on each row of the files of rows, and reads plans. Prints the rows whose outcome is another than the stated one.
 #![tactic(auto)]
 
 mod failing;
 mod named;
+mod plans;
 mod ran;
 mod row;
 mod runs;
 mod stated;
 mod sure;
 mod system;
+mod words;
 
 use row::CommandRow;
 use row_files::{Count, Stop, run};
@@ -43,6 +45,7 @@ const FILES: [&str; 23] = [
 fn main(rt: HostRuntime) -> Result<(), Stop> {
     let mut count = Count::new();
     run(&rt, &FILES, &mut CommandRow::new(rt.alloc()), &mut count)?;
+    plans::count_all(&rt, &mut count)?;
     sure::count_all(&rt, &mut count)?;
     system::count_all(&rt, &mut count)?;
     count.end(&rt)

@@ -5,9 +5,10 @@ use crate::named::NamedTexts;
 use crate::ran::{Ran, add_ran, bytes_left, status};
 use crate::runs::{Each, Runs};
 use crate::stated::Stated;
+use crate::words::add_words;
 use aut_base::{Text, Words};
 use aut_io::{MemInputs, MemSink};
-use row_files::{Answer, Fault, Row, add, add_escaped, kind_and_rest, number};
+use row_files::{Answer, Fault, Row, add, kind_and_rest, number};
 use std::alloc::Global;
 
 /// The input of a run and the stated outcome, as far as the row's lines were read.
@@ -74,10 +75,7 @@ impl CommandRow {
         }
         let (status, words) = kind_and_rest(rest);
         self.stated.status = Some(wanted(status)?);
-        if !words.is_empty() {
-            add_words(alloc, &mut self.words, words)?;
-        }
-        Ok(())
+        add_words(alloc, &mut self.words, words)
     }
 
     /// Adds the runs whose outcome is another than the stated one. Where a note is stated and the row doesn't say which writes of
@@ -193,21 +191,6 @@ fn message(alloc: Global, shown: Answer) -> Result<Option<String>, Fault> {
         return Ok(None);
     }
     Ok(Some(String::from_utf8_lossy(alloc, text.as_bytes())?))
-}
-
-/// Adds words that are separated by spaces.
-fn add_words(alloc: Global, words: &mut Words, line: &str) -> Result<(), Fault> {
-    for word in line.split(' ') {
-        words.push(unescaped(alloc, word)?)?;
-    }
-    Ok(())
-}
-
-/// A word, with its escapes replaced.
-fn unescaped(alloc: Global, word: &str) -> Result<Text, Fault> {
-    let mut text = Text::new(alloc);
-    add_escaped(alloc, &mut text, word, 0)?;
-    Ok(text)
 }
 
 /// An exit status.

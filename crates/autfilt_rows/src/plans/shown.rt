@@ -1,6 +1,6 @@
 //! A plan as text: each field that differs from the plan of no words.
 
-use crate::values::{
+use crate::plans::values::{
     begin, show_count, show_file, show_hidden, show_output, show_pattern, show_range, show_text,
 };
 use filter_plan::{Form, Plan};

@@ -1,14 +1,31 @@
-//! The call of a row.
+//! Rows of plans: the words of a command line, and what is read of them.
 
-use crate::shown::show_plan;
+mod shown;
+mod values;
+
+use crate::words::add_words;
 use aut_base::{Memory, Text, Words};
 use filter_plan::{UsageFault, read_plan};
-use row_files::{Answer, Answers, Fault, add_escaped};
+use row_files::{Answer, Answers, Count, Fault, Stop, ask};
+use shown::show_plan;
 use std::alloc::Global;
+
+/// The files of rows, in the folder where the program runs.
+const FILES: [&str; 4] = [
+    "plans/options.rows",
+    "plans/values.rows",
+    "plans/spellings.rows",
+    "plans/together.rows",
+];
+
+/// Counts these rows, and those with another outcome.
+pub(crate) fn count_all(rt: &HostRuntime, count: &mut Count) -> Result<(), Stop> {
+    ask(rt, &FILES, Plans, count)
+}
 
 /// Answers with the plan of the words in the first line, without the beginning that the second line states.
 #[derive(Clone, Copy)]
-pub(crate) struct Plans;
+struct Plans;
 
 impl Answers for Plans {
     fn answer(&self, rt: &HostRuntime, call: &str, text: &Text) -> Result<Text, Fault> {
@@ -21,21 +38,6 @@ impl Answers for Plans {
         add_words(rt.alloc(), &mut words, line)?;
         Ok(answer(rt.alloc(), &words, front)?)
     }
-}
-
-/// Adds the words of a line.
-fn add_words(alloc: Global, words: &mut Words, line: &str) -> Result<(), Fault> {
-    for word in line.split_whitespace() {
-        words.push(word_of(alloc, word)?)?;
-    }
-    Ok(())
-}
-
-/// A word, with its escapes replaced.
-fn word_of(alloc: Global, word: &str) -> Result<Text, Fault> {
-    let mut text = Text::new(alloc);
-    add_escaped(alloc, &mut text, word, 0)?;
-    Ok(text)
 }
 
 /// What follows this beginning of the outcome.
