@@ -2,6 +2,7 @@ pub mod Acceptance
 pub mod Automaton
 pub mod Bytes
 pub mod CanonicalLabel
+pub mod Chains
 pub mod Examples
 pub mod FewNumbers
 pub mod Formula
@@ -11,6 +12,7 @@ pub mod LabelExamples
 pub mod LabelLaws
 pub mod LabelText
 pub mod Limits
+pub mod Lists
 pub mod Marks
 pub mod Runs
 pub mod Strings
