@@ -5,6 +5,7 @@ pub mod AfterStates
 pub mod ClearPhrases
 pub mod Depths
 pub mod GrammarExamples
+pub mod HavePhrases
 pub mod HeaderNames
 pub mod ItemsWritten
 pub mod JoinedParts
@@ -13,6 +14,7 @@ pub mod NoAbort
 pub mod OneRaw
 pub mod OtherTokens
 pub mod PartsWritten
+pub mod PhrasesSpell
 pub mod PlainConditions
 pub mod PlainDepths
 pub mod PlainLabels

@@ -3,6 +3,7 @@ pub mod Grammar
 pub mod GrammarExamples
 pub mod GrammarLaws
 pub mod Naming
+pub mod Phrases
 pub mod Raw
 pub mod Reads
 pub mod Standing

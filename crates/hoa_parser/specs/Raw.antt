@@ -60,6 +60,12 @@ raw_all [] = True
 raw_all (t ∷ []) = t
 raw_all (t ∷ u ∷ us) = And t u (raw_trees us)
 
+-- the disjunction of a list
+abbrev pub raw_any : List RawTree → RawTree
+raw_any [] = False
+raw_any (t ∷ []) = t
+raw_any (t ∷ u ∷ us) = Or t u (raw_trees us)
+
 -- the parts of a conjunction or disjunction
 pub record RawParts : Type 0 where
   pub first : RawTree

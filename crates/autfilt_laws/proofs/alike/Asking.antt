@@ -17,11 +17,11 @@ use Rattle.hoa_parser.proofs.grammar.OneRaw.{whole_goes_no_further}
 use Rattle.hoa_parser.proofs.standing.Halts.{shown}
 use Rattle.hoa_parser.proofs.standing.Hopeless.{next_leaves, next_off}
 use Rattle.hoa_parser.proofs.standing.Readings.{lexes_more, lexes_shorter}
-use Rattle.hoa_parser.specs.Grammar.{AutomatonPhrase, IsViable, SpellsAutomaton, automaton_tokens, item_tokens, state_tokens}
+use Rattle.hoa_parser.specs.Grammar.{IsViable, SpellsAutomaton}
 use Rattle.hoa_parser.specs.Raw.{Written}
 use Rattle.hoa_parser.specs.Reads.{AsksOn, EndsDeep}
 use Rattle.hoa_parser.specs.Standing.{IsAborted, IsBegun, SpellsNothing, most_depth}
-use Rattle.std.specs.Prelude.{codes, flat_map}
+use Rattle.std.specs.Prelude.{codes}
 
 -- ---- lists
 
@@ -58,12 +58,11 @@ next_strictly input start t i rest n =
     omega (arith, some, simp length-append at (ap length n.split), simp length-append at (ap length n.front.split))
 
 -- the last token of an automaton is complete with its own last byte
-last_is_end : (p : AutomatonPhrase) (done : List Token) (t : Token) → done ++ t ∷ [] ≡ automaton_tokens p → t ≡ token.End
-last_is_end p done t e =
-    let inner = flat_map item_tokens p.items in
-    let states = flat_map state_tokens p.states in
-    last_same done (token.HeaderName (codes "HOA") ∷ token.Identifier p.version ∷ (inner ++ token.Body ∷ states)) t token.End
-    (e ∙ ap (λ (ts : List Token). token.HeaderName (codes "HOA") ∷ token.Identifier p.version ∷ ts) (sym (append_assoc inner (token.Body ∷ states) (token.End ∷ []))))
+last_is_end : (ts : List Token) (w : Written) (s : SpellsAutomaton most_depth ts w) (done : List Token) (t : Token) → ts ≡ done ++ t ∷ [] → t ≡ token.End
+last_is_end ts w s done t e =
+    last_same done (token.HeaderName (codes "HOA") ∷ token.Identifier w.version ∷ (s.item_tokens ++ token.Body ∷ s.state_tokens)) t token.End
+    (sym e ∙ s.spelled
+    ∙ ap (λ (us : List Token). token.HeaderName (codes "HOA") ∷ token.Identifier w.version ∷ us) (sym (append_assoc s.item_tokens (token.Body ∷ s.state_tokens) (token.End ∷ []))))
 
 -- ---- two readings of one text
 
@@ -126,7 +125,7 @@ beyond_whole tokens whole (u ∷ us) w viable unfinished spelled e =
 pub none_asks_behind : NoneAsksBehind
 none_asks_behind start text w rest new whole asks short =
     none_asks start text new rest whole.placed asks (record {
-      closing = λ done t is size. ap closes_itself (last_is_end whole.spells.phrase done t (sym is ∙ whole.spells.spelled));
+      closing = λ done t is size. ap closes_itself (last_is_end (shown whole.placed) w whole.spells done t is);
       beyond = λ us. beyond_whole asks.tokens (shown whole.placed) us w asks.begun.viable asks.begun.unfinished whole.spells;
     }) whole.lexes short
 

@@ -13,7 +13,8 @@ use Rattle.hoa_parser.proofs.grammar.Stops.{first_token, later_tokens}
 use Rattle.hoa_parser.proofs.standing.Hopeless.{Leaves, asked_last}
 use Rattle.hoa_parser.proofs.standing.OpenEnds.{open_end_asks}
 use Rattle.hoa_parser.proofs.standing.Settled.{bad_is_hopeless}
-use Rattle.hoa_parser.specs.Grammar.{AutomatonPhrase, IsViable, automaton_meaning, automaton_tokens}
+use Rattle.hoa_parser.specs.Grammar.{IsViable, none}
+use Rattle.hoa_parser.specs.Raw.{Written}
 use Rattle.hoa_parser.specs.Reads.{IsHopeless}
 use Rattle.hoa_parser.specs.Standing.{IsBad, IsBegun, IsDead, SpellsNothing, most_depth}
 
@@ -28,14 +29,14 @@ at_front word rest token start spells ends = record {
   front = record { word = word; split = refl; spells = spells; ends = ends };
 }
 
-abbrev empty : AutomatonPhrase
+abbrev empty : Written
 empty = record { version = codes "v1"; items = []; states = [] }
 
 viable_nothing : IsViable most_depth []
 viable_nothing = record {
-  more = automaton_tokens empty;
-  whole = automaton_meaning empty;
-  spelled = record { phrase = empty; within = (tt, tt); spelled = refl; means = refl };
+  more = HeaderName (codes "HOA") ∷ Identifier (codes "v1") ∷ Body ∷ End ∷ [];
+  whole = empty;
+  spelled = record { item_tokens = []; state_tokens = []; items = none; states = none; spelled = refl };
 }
 
 nothing_spelled : SpellsNothing []
@@ -107,8 +108,8 @@ what_is_left = record {
       used_is = refl;
       viable = record {
         more = Identifier (codes "v1") ∷ Body ∷ End ∷ [];
-        whole = automaton_meaning empty;
-        spelled = record { phrase = empty; within = (tt, tt); spelled = refl; means = refl };
+        whole = empty;
+        spelled = record { item_tokens = []; state_tokens = []; items = none; states = none; spelled = refl };
       };
       unfinished = opened_unfinished;
     };

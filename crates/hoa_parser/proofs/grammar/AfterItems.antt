@@ -8,10 +8,11 @@ use Rattle.hoa_lexer.specs.declared.token.Token.TheVariants as token
 use Rattle.hoa_parser.specs.inner.Expecting.{Part, Number, MoreNumbers, Quoted, MaybeQuoted, Strings, Word, Words, AliasName, AccValues, Values}
 use Rattle.hoa_parser.specs.inner.Expecting.{Factors, Products, Atoms, Conjunctions, Items, Takes, Passes, parts_after, header_move, move, open_at, conj_parts, expected_label}
 use Rattle.hoa_parser.specs.inner.Expecting.{condition_parts}
-use Rattle.hoa_parser.specs.Grammar.{AccValue, acc_number, acc_word, acc_value_token, Value, number_value, text_value, word_value, value_token, Conj}
-use Rattle.hoa_parser.specs.Grammar.{and_number, conj_tokens, condition_tokens, label_tokens, optional_text, ItemPhrase, states_item, start_item}
-use Rattle.hoa_parser.specs.Grammar.{names_item, alias_item, acceptance_item, acc_name_item, tool_item, name_item, properties_item, other_item}
-use Rattle.hoa_parser.specs.Grammar.{item_tokens, ItemWithin}
+use Rattle.hoa_parser.specs.Phrases.{AccValue, acc_number, acc_word, acc_value_token, Value, number_value, text_value, word_value, value_token, Conj}
+use Rattle.hoa_parser.specs.Grammar.{and_number, optional_text}
+use Rattle.hoa_parser.specs.Phrases.{conj_tokens, condition_tokens, label_tokens, ItemPhrase, states_item, start_item}
+use Rattle.hoa_parser.specs.Phrases.{names_item, alias_item, acceptance_item, acc_name_item, tool_item, name_item, properties_item, other_item}
+use Rattle.hoa_parser.specs.Phrases.{item_tokens, ItemWithin}
 use Rattle.hoa_parser.proofs.grammar.AfterLabels.{Leaves, taken, left, regrouped, label_follows, condition_follows}
 
 -- lists of values

@@ -8,11 +8,12 @@ use Rattle.hoa_lexer.specs.declared.token.Token.TheVariants as token
 use Rattle.hoa_parser.specs.inner.Expecting.{Part, Factor, Factors, Products, Atom, Atoms, Conjunctions, OpeningParen, MaybeBang, Number}
 use Rattle.hoa_parser.specs.inner.Expecting.{ClosingParen, TokenUse, Takes, Passes, parts_after, after_some, parts_behind, moved, move, open_at, expected_label}
 use Rattle.hoa_parser.specs.inner.Expecting.{condition_parts, set_parts}
-use Rattle.hoa_parser.specs.Grammar.{Label, Lands, Lnots, Lnot, label, no_land, or_land, no_lnot, and_lnot, true_label, false_label, proposition}
-use Rattle.hoa_parser.specs.Grammar.{alias, negated, group, label_tokens, lands_tokens, lnots_tokens, lnot_tokens, LabelWithin, LandsWithin}
-use Rattle.hoa_parser.specs.Grammar.{LnotsWithin, LnotWithin, Condition, Fands, Fatoms, Fatom, condition, no_fand, or_fand, no_fatom, and_fatom}
-use Rattle.hoa_parser.specs.Grammar.{true_condition, false_condition, infinitely, finitely, condition_group, condition_tokens, fands_tokens}
-use Rattle.hoa_parser.specs.Grammar.{fatoms_tokens, fatom_tokens, ConditionWithin, FandsWithin, FatomsWithin, FatomWithin, set_tokens}
+use Rattle.hoa_parser.specs.Phrases.{Label, Lands, Lnots, Lnot, label, no_land, or_land, no_lnot, and_lnot, true_label, false_label, proposition}
+use Rattle.hoa_parser.specs.Phrases.{alias, negated, group, label_tokens, lands_tokens, lnots_tokens, lnot_tokens, LabelWithin, LandsWithin}
+use Rattle.hoa_parser.specs.Phrases.{LnotsWithin, LnotWithin, Condition, Fands, Fatoms, Fatom, condition, no_fand, or_fand, no_fatom, and_fatom}
+use Rattle.hoa_parser.specs.Phrases.{true_condition, false_condition, infinitely, finitely, condition_group, condition_tokens, fands_tokens}
+use Rattle.hoa_parser.specs.Grammar.{set_tokens}
+use Rattle.hoa_parser.specs.Phrases.{fatoms_tokens, fatom_tokens, ConditionWithin, FandsWithin, FatomsWithin, FatomWithin}
 
 -- the tokens go on behind what the part stands for
 abbrev pub Leaves : Part → List Token → Type 0

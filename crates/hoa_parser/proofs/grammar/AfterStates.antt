@@ -7,10 +7,12 @@ use Rattle.hoa_lexer.specs.declared.token.Token.{Token}
 use Rattle.hoa_lexer.specs.declared.token.Token.TheVariants as token
 use Rattle.hoa_parser.specs.inner.Expecting.{Part, Whole, Number, MoreNumbers, MaybeQuoted, Word, ClosingBracket, Items, States, MaybeLabel}
 use Rattle.hoa_parser.specs.inner.Expecting.{MaybeMarks, Marks, Edges, parts_after, conj_parts, expected_label}
-use Rattle.hoa_parser.specs.Grammar.{Label, label_tokens, conj_tokens, and_number, optional_label, OptionalWithin, optional_text, optional_marks}
-use Rattle.hoa_parser.specs.Grammar.{item_tokens, EdgePhrase, edge_tokens, StatePhrase, StateWithin, state_tokens, body_tokens, AutomatonPhrase}
-use Rattle.hoa_parser.specs.Grammar.{AutomatonWithin, automaton_tokens, SpellsAutomaton}
+use Rattle.hoa_parser.specs.Grammar.{SpellsAutomaton, and_number, optional_text}
+use Rattle.hoa_parser.specs.Phrases.{Label, label_tokens, conj_tokens, optional_label, OptionalWithin, optional_marks}
+use Rattle.hoa_parser.specs.Phrases.{item_tokens, EdgePhrase, edge_tokens, StatePhrase, StateWithin, state_tokens, body_tokens, AutomatonPhrase}
+use Rattle.hoa_parser.specs.Phrases.{AutomatonWithin, automaton_tokens}
 use Rattle.hoa_parser.specs.Raw.{Written}
+use Rattle.hoa_parser.proofs.grammar.HavePhrases.{have_phrases}
 use Rattle.hoa_parser.proofs.grammar.AfterLabels.{Leaves, taken, left, regrouped, label_follows}
 use Rattle.hoa_parser.proofs.grammar.AfterItems.{conj_follows, text_follows, items_follow}
 
@@ -164,4 +166,6 @@ follows most p w =
     ∙ states_follow most p.states w.1
 
 pub spelled_follows : (most : ℕ) (ts : List Token) (w : Written) → SpellsAutomaton most ts w → parts_after most (Whole ∷ []) ts ≡ Some []
-spelled_follows most ts w s = ap (parts_after most (Whole ∷ [])) s.spelled ∙ follows most s.phrase s.within
+spelled_follows most ts w s =
+    let p = have_phrases most ts w s in
+    ap (parts_after most (Whole ∷ [])) p.spelled ∙ follows most p.phrase p.within

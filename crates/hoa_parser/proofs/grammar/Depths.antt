@@ -3,8 +3,12 @@ use Rattle.std.proofs.Common.{◌≡◌, ℕ, ◌≤◌, Bool, true, false, cond
 use Rattle.std.proofs.lemmas.Bool.{leb-true}
 use Rattle.hoa_lexer.specs.declared.token.Token.{Token}
 use Rattle.hoa_parser.specs.inner.Expecting.{Part, TokenUse, Takes, Passes, Refuses, parts_after, after_some, parts_behind, moved, move, open_at}
-use Rattle.hoa_parser.specs.Grammar.{AutomatonPhrase, AutomatonWithin, EdgePhrase, IsViable, ItemPhrase, ItemWithin, Label, OptionalWithin, StatePhrase, StateWithin}
-use Rattle.hoa_parser.specs.Grammar.ItemPhrase.{acceptance_item, alias_item}
+use Rattle.hoa_parser.specs.Grammar.{IsViable, SpellsAutomaton}
+use Rattle.hoa_parser.specs.Phrases.{AutomatonPhrase, AutomatonWithin, EdgePhrase, ItemPhrase, ItemWithin, Label, OptionalWithin, StatePhrase, StateWithin}
+use Rattle.hoa_parser.specs.Phrases.ItemPhrase.{acceptance_item, alias_item}
+use Rattle.hoa_parser.specs.Raw.{Written}
+use Rattle.hoa_parser.proofs.grammar.HavePhrases.{have_phrases}
+use Rattle.hoa_parser.proofs.grammar.PhrasesSpell.{phrases_spell}
 use Rattle.hoa_parser.proofs.grammar.PlainConditions.{condition_laxer}
 use Rattle.hoa_parser.proofs.grammar.PlainDepths.{label_laxer}
 use Rattle.hoa_parser.proofs.grammar.AfterLabels.{opened}
@@ -54,15 +58,16 @@ state_more m n s k w = (
   AllByRecursion-weaker (λ (e : EdgePhrase). OptionalWithin m e.label) (λ (e : EdgePhrase). OptionalWithin n e.label) s.edges (λ e h. optional_more m n e.label k h) w.1,
 )
 
-pub within_more : (m n : ℕ) (p : AutomatonPhrase) → m ≤ n → AutomatonWithin m p → AutomatonWithin n p
+within_more : (m n : ℕ) (p : AutomatonPhrase) → m ≤ n → AutomatonWithin m p → AutomatonWithin n p
 within_more m n p k w = (
   AllByRecursion-weaker (ItemWithin m) (ItemWithin n) p.items (λ i h. item_more m n i k h) w.0,
   AllByRecursion-weaker (StateWithin m) (StateWithin n) p.states (λ s h. state_more m n s k h) w.1,
 )
 
+pub spelled_more : (m n : ℕ) (ts : List Token) (w : Written) → m ≤ n → SpellsAutomaton m ts w → SpellsAutomaton n ts w
+spelled_more m n ts w k s =
+    let p = have_phrases m ts w s in
+    phrases_spell n ts w (record { phrase = p.phrase; within = within_more m n p.phrase k p.within; spelled = p.spelled; means = p.means })
+
 pub viable_more : (m n : ℕ) (ts : List Token) → m ≤ n → IsViable m ts → IsViable n ts
-viable_more m n ts k v = record {
-  more = v.more;
-  whole = v.whole;
-  spelled = record { phrase = v.spelled.phrase; within = within_more m n v.spelled.phrase k v.spelled.within; spelled = v.spelled.spelled; means = v.spelled.means };
-}
+viable_more m n ts k v = record { more = v.more; whole = v.whole; spelled = spelled_more m n (ts ++ v.more) v.whole k v.spelled }

@@ -2,26 +2,28 @@
 use Rattle.std.proofs.Common.{ℕ, true, false, [], ◌∷◌, Some, None, refl, ap, arith}
 use Rattle.std.specs.Prelude.{codes}
 use Rattle.hoa_lexer.specs.declared.token.Token.TheVariants.{HeaderName, Identifier, Int}
-use Rattle.hoa_parser.specs.Grammar.{AutomatonPhrase, AutomatonWithin, ItemPhrase, SpellsAutomaton, StatePhrase, automaton_meaning, automaton_tokens}
-use Rattle.hoa_parser.specs.Grammar.Condition.{condition}
-use Rattle.hoa_parser.specs.Grammar.Fands.{no_fand, or_fand}
-use Rattle.hoa_parser.specs.Grammar.Fatoms.{no_fatom, and_fatom}
-use Rattle.hoa_parser.specs.Grammar.Fatom.{false_condition, infinitely, finitely, condition_group}
-use Rattle.hoa_parser.specs.Grammar.ItemPhrase.{start_item, alias_item, acceptance_item, tool_item, other_item}
-use Rattle.hoa_parser.specs.Grammar.Label.{label}
-use Rattle.hoa_parser.specs.Grammar.Lands.{no_land, or_land}
-use Rattle.hoa_parser.specs.Grammar.Lnots.{no_lnot, and_lnot}
-use Rattle.hoa_parser.specs.Grammar.Lnot.{true_label, proposition, alias, negated, group}
-use Rattle.hoa_parser.specs.Grammar.Value.{number_value}
+use Rattle.hoa_parser.specs.Grammar.{SpellsAutomaton}
+use Rattle.hoa_parser.specs.Phrases.{AutomatonPhrase, AutomatonWithin, ItemPhrase, StatePhrase, automaton_meaning, automaton_tokens}
+use Rattle.hoa_parser.specs.Phrases.Condition.{condition}
+use Rattle.hoa_parser.specs.Phrases.Fands.{no_fand, or_fand}
+use Rattle.hoa_parser.specs.Phrases.Fatoms.{no_fatom, and_fatom}
+use Rattle.hoa_parser.specs.Phrases.Fatom.{false_condition, infinitely, finitely, condition_group}
+use Rattle.hoa_parser.specs.Phrases.ItemPhrase.{start_item, alias_item, acceptance_item, tool_item, other_item}
+use Rattle.hoa_parser.specs.Phrases.Label.{label}
+use Rattle.hoa_parser.specs.Phrases.Lands.{no_land, or_land}
+use Rattle.hoa_parser.specs.Phrases.Lnots.{no_lnot, and_lnot}
+use Rattle.hoa_parser.specs.Phrases.Lnot.{true_label, proposition, alias, negated, group}
+use Rattle.hoa_parser.specs.Phrases.Value.{number_value}
 use Rattle.hoa_parser.specs.GrammarExamples.{GrammarExamples, with_state, state_three}
 use Rattle.hoa_parser.specs.Raw.{Written}
 use Rattle.hoa_parser.specs.Standing.{IsDead}
 use Rattle.hoa_parser.proofs.grammar.NoAbort.{no_abort_inside}
 use Rattle.hoa_parser.proofs.grammar.OneRaw.{one_raw, whole_goes_no_further}
+use Rattle.hoa_parser.proofs.grammar.PhrasesSpell.{automaton_spelled}
 use Rattle.hoa_parser.proofs.grammar.Stops.{first_token}
 
 by_phrase : (m : ℕ) (a : AutomatonPhrase) → AutomatonWithin m a → SpellsAutomaton m (automaton_tokens a) (automaton_meaning a)
-by_phrase m a h = record { phrase = a; within = h; spelled = refl; means = refl }
+by_phrase = automaton_spelled
 
 abbrev one_item : ItemPhrase → AutomatonPhrase
 one_item p = record { version = codes "v1"; items = p ∷ []; states = [] }

@@ -6,10 +6,11 @@ use Rattle.hoa_lexer.specs.declared.token.Token.{Token}
 use Rattle.hoa_lexer.specs.declared.token.Token.TheVariants as token
 use Rattle.hoa_parser.specs.inner.Expecting as part
 use Rattle.hoa_parser.specs.inner.Expecting.{Takes, header_move, move}
-use Rattle.hoa_parser.specs.Grammar.{label, condition}
-use Rattle.hoa_parser.specs.Grammar.{header_of, ItemPhrase, states_item, start_item}
-use Rattle.hoa_parser.specs.Grammar.{names_item, alias_item, acceptance_item, acc_name_item, tool_item, name_item, properties_item, other_item}
-use Rattle.hoa_parser.specs.Grammar.{item_tokens, ItemWithin}
+use Rattle.hoa_parser.specs.Phrases.{label, condition}
+use Rattle.hoa_parser.specs.Grammar.{header_of}
+use Rattle.hoa_parser.specs.Phrases.{ItemPhrase, states_item, start_item}
+use Rattle.hoa_parser.specs.Phrases.{names_item, alias_item, acceptance_item, acc_name_item, tool_item, name_item, properties_item, other_item}
+use Rattle.hoa_parser.specs.Phrases.{item_tokens, ItemWithin}
 use Rattle.hoa_parser.specs.declared.header.Header.{Header}
 use Rattle.hoa_parser.specs.declared.header.Header.TheVariants as header
 use Rattle.hoa_parser.proofs.grammar.PartsWritten.{Fills, Derives, rest_tokens}

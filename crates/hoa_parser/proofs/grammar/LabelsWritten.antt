@@ -6,10 +6,11 @@ use Rattle.hoa_lexer.specs.declared.token.Token.{Token}
 use Rattle.hoa_lexer.specs.declared.token.Token.TheVariants as token
 use Rattle.hoa_parser.specs.inner.Expecting as part
 use Rattle.hoa_parser.specs.inner.Expecting.{Part, TokenUse, Takes, Passes, Refuses, open_at, expected_label, condition_parts, set_parts, label_word, condition_word}
-use Rattle.hoa_parser.specs.Grammar.{FandsWithin, FatomWithin, FatomsWithin, LandsWithin, LnotWithin, LnotsWithin, bang_tokens, fands_tokens, fatom_tokens, fatoms_tokens}
-use Rattle.hoa_parser.specs.Grammar.{lands_tokens, lnot_tokens, lnots_tokens, set_tokens}
-use Rattle.hoa_parser.specs.Grammar.Fatom.{false_condition, finitely, infinitely, true_condition}
-use Rattle.hoa_parser.specs.Grammar.Lnot.{false_label, true_label}
+use Rattle.hoa_parser.specs.Grammar.{bang_tokens, set_tokens}
+use Rattle.hoa_parser.specs.Phrases.{FandsWithin, FatomWithin, FatomsWithin, LandsWithin, LnotWithin, LnotsWithin, fands_tokens, fatom_tokens, fatoms_tokens}
+use Rattle.hoa_parser.specs.Phrases.{lands_tokens, lnot_tokens, lnots_tokens}
+use Rattle.hoa_parser.specs.Phrases.Fatom.{false_condition, finitely, infinitely, true_condition}
+use Rattle.hoa_parser.specs.Phrases.Lnot.{false_label, true_label}
 use Rattle.aut_base.specs.Text.{same_text}
 use Rattle.hoa_parser.proofs.grammar.PartsWritten.{Derives, Fills, IsPlain, IsWritten}
 use Rattle.hoa_parser.proofs.grammar.HeaderNames.{same}

@@ -4,9 +4,10 @@ use Rattle.std.specs.Prelude.{codes}
 use Rattle.std.proofs.lemmas.List.{append_assoc, append-nil}
 use Rattle.hoa_lexer.specs.declared.token.Token.{Token}
 use Rattle.hoa_lexer.specs.declared.token.Token.TheVariants.{HeaderName, Identifier, Body, End}
-use Rattle.hoa_parser.specs.Grammar.{AutomatonPhrase, automaton_meaning, automaton_tokens, body_tokens, item_meaning, item_tokens, state_meaning, state_tokens}
+use Rattle.hoa_parser.specs.Phrases.{AutomatonPhrase, automaton_meaning, automaton_tokens, body_tokens, item_meaning, item_tokens, state_meaning, state_tokens}
 use Rattle.hoa_parser.specs.GrammarLaws.{OneRaw, WholeGoesNoFurther}
 use Rattle.hoa_parser.proofs.grammar.ClearPhrases.{IsClear, either, flat_clear}
+use Rattle.hoa_parser.proofs.grammar.HavePhrases.{have_phrases}
 use Rattle.hoa_parser.proofs.grammar.SameItems.{is_header, is_inner, item_begins, same_item}
 use Rattle.hoa_parser.proofs.grammar.SameStates.{is_in_state, same_state}
 use Rattle.hoa_parser.proofs.grammar.Stops.{IsSame, first_token, later_tokens}
@@ -39,7 +40,9 @@ same_automaton a b c d e =
     record { value = cc; rest = later_tokens End End c d states.rest }
 
 pub one_raw : OneRaw
-one_raw m n ts v w p q =
+one_raw m n ts v w s t =
+    let p = have_phrases m ts v s in
+    let q = have_phrases n ts w t in
     let same = same_automaton p.phrase q.phrase [] [] (append-nil (automaton_tokens p.phrase) ∙ sym p.spelled ∙ q.spelled ∙ sym (append-nil (automaton_tokens q.phrase))) in
     p.means ∙ same.value ∙ sym q.means
 
@@ -48,8 +51,9 @@ nothing_more [] others e = refl
 nothing_more (t ∷ ts) others e = cc
 
 pub whole_goes_no_further : WholeGoesNoFurther
-whole_goes_no_further m n ts more w p v =
-    let q = v.spelled in
+whole_goes_no_further m n ts more w s v =
+    let p = have_phrases m ts w s in
+    let q = have_phrases n ((ts ++ more) ++ v.more) v.whole v.spelled in
     let same = same_automaton p.phrase q.phrase (more ++ v.more) []
     (ap (λ z. z ++ (more ++ v.more)) (sym p.spelled) ∙ sym (append_assoc ts more v.more) ∙ q.spelled ∙ sym (append-nil (automaton_tokens q.phrase))) in
     nothing_more more v.more same.rest

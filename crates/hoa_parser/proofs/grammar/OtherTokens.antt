@@ -4,7 +4,8 @@ use Rattle.hoa_lexer.specs.declared.token.Token.{Token}
 use Rattle.hoa_lexer.specs.declared.token.Token.TheVariants as token
 use Rattle.hoa_parser.specs.inner.Expecting as part
 use Rattle.hoa_parser.specs.inner.Expecting.{Part, move}
-use Rattle.hoa_parser.specs.inner.RuleReads.{is_value, values_part}
+use Rattle.hoa_parser.specs.Grammar.{is_value}
+use Rattle.hoa_parser.specs.inner.RuleReads.{values_part}
 
 -- The token is none that the part begins with. Of a whole automaton, a factor and an atom this tells nothing.
 abbrev pub IsOther : Part → Token → Type 0

@@ -6,12 +6,13 @@ use Rattle.hoa_lexer.specs.declared.token.Token.{Token}
 use Rattle.hoa_lexer.specs.declared.token.Token.TheVariants as token
 use Rattle.hoa_parser.specs.inner.Expecting as part
 use Rattle.hoa_parser.specs.inner.Expecting.{Part}
-use Rattle.hoa_parser.specs.Grammar.{Label, Lands, Lnots, Lnot, no_land, no_lnot, true_label, lands_tokens, lnots_tokens, lnot_tokens, LandsWithin}
-use Rattle.hoa_parser.specs.Grammar.{LnotsWithin, LnotWithin, Fands, Fatoms, Fatom, no_fand, no_fatom, true_condition, fands_tokens, fatoms_tokens}
-use Rattle.hoa_parser.specs.Grammar.{fatom_tokens, FandsWithin, FatomsWithin, FatomWithin, bang_tokens, and_number, AccValue, acc_value_token, Value}
-use Rattle.hoa_parser.specs.Grammar.{value_token, ItemPhrase, item_tokens, ItemWithin, optional_text, optional_label, OptionalWithin, optional_marks}
-use Rattle.hoa_parser.specs.Grammar.{EdgePhrase, edge_tokens, StatePhrase, StateWithin, body_tokens, AutomatonPhrase, AutomatonWithin}
-use Rattle.hoa_parser.specs.Grammar.{automaton_tokens}
+use Rattle.hoa_parser.specs.Phrases.{Label, Lands, Lnots, Lnot, no_land, no_lnot, true_label, lands_tokens, lnots_tokens, lnot_tokens, LandsWithin}
+use Rattle.hoa_parser.specs.Phrases.{LnotsWithin, LnotWithin, Fands, Fatoms, Fatom, no_fand, no_fatom, true_condition, fands_tokens, fatoms_tokens}
+use Rattle.hoa_parser.specs.Grammar.{and_number, bang_tokens, optional_text}
+use Rattle.hoa_parser.specs.Phrases.{fatom_tokens, FandsWithin, FatomsWithin, FatomWithin, AccValue, acc_value_token, Value}
+use Rattle.hoa_parser.specs.Phrases.{value_token, ItemPhrase, item_tokens, ItemWithin, optional_label, OptionalWithin, optional_marks}
+use Rattle.hoa_parser.specs.Phrases.{EdgePhrase, edge_tokens, StatePhrase, StateWithin, body_tokens, AutomatonPhrase, AutomatonWithin}
+use Rattle.hoa_parser.specs.Phrases.{automaton_tokens}
 
 -- The phrases of X that keep P are written by their tokens.
 pub record IsWritten (X : Type 0) (P : X → Type 0) (tokens : X → List Token) (u : List Token) : Type 0 where

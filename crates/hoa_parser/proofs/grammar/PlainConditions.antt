@@ -6,13 +6,13 @@ use Rattle.std.proofs.lemmas.List.{append-nil}
 use Rattle.hoa_lexer.specs.declared.token.Token.TheVariants.{Amp}
 use Rattle.aut_base.specs.Formula as formula
 use Rattle.aut_base.specs.Formula.{FormulaTree, FormulaTrees, trees}
-use Rattle.hoa_parser.specs.Grammar.{Condition, ConditionWithin, Fands, FandsWithin, Fatom, FatomWithin, Fatoms, FatomsWithin, formula_conjunction}
-use Rattle.hoa_parser.specs.Grammar.{condition_meaning, condition_tokens, fands_meaning, fands_tokens, fatom_meaning, fatom_tokens, fatoms_meaning}
-use Rattle.hoa_parser.specs.Grammar.{fatoms_tokens}
-use Rattle.hoa_parser.specs.Grammar.Condition.{condition}
-use Rattle.hoa_parser.specs.Grammar.Fands.{no_fand, or_fand}
-use Rattle.hoa_parser.specs.Grammar.Fatoms.{no_fatom, and_fatom}
-use Rattle.hoa_parser.specs.Grammar.Fatom.{true_condition, false_condition, infinitely, finitely, condition_group}
+use Rattle.hoa_parser.specs.Phrases.{Condition, ConditionWithin, Fands, FandsWithin, Fatom, FatomWithin, Fatoms, FatomsWithin, formula_conjunction}
+use Rattle.hoa_parser.specs.Phrases.{condition_meaning, condition_tokens, fands_meaning, fands_tokens, fatom_meaning, fatom_tokens, fatoms_meaning}
+use Rattle.hoa_parser.specs.Phrases.{fatoms_tokens}
+use Rattle.hoa_parser.specs.Phrases.Condition.{condition}
+use Rattle.hoa_parser.specs.Phrases.Fands.{no_fand, or_fand}
+use Rattle.hoa_parser.specs.Phrases.Fatoms.{no_fatom, and_fatom}
+use Rattle.hoa_parser.specs.Phrases.Fatom.{true_condition, false_condition, infinitely, finitely, condition_group}
 use Rattle.hoa_parser.proofs.grammar.JoinedParts.{ap₃}
 use Rattle.hoa_parser.specs.WrittenDown.{written_formula, written_atoms, written_conjunctions}
 use Rattle.hoa_parser.specs.WrittenDown.Cursor.{Alone, InOr, InAnd}

@@ -1,10 +1,10 @@
 -- A label that is written down opens no more than any other label that means the same.
 use Rattle.std.proofs.Common.{ℕ, suc, ◌≤◌, arith}
-use Rattle.hoa_parser.specs.Grammar.{Label, LabelWithin, Lands, LandsWithin, Lnot, LnotWithin, Lnots, LnotsWithin, raw_conjunction, label_meaning, lands_meaning, lnot_meaning, lnots_meaning}
-use Rattle.hoa_parser.specs.Grammar.Label.{label}
-use Rattle.hoa_parser.specs.Grammar.Lands.{no_land, or_land}
-use Rattle.hoa_parser.specs.Grammar.Lnots.{no_lnot, and_lnot}
-use Rattle.hoa_parser.specs.Grammar.Lnot.{negated, group}
+use Rattle.hoa_parser.specs.Phrases.{Label, LabelWithin, Lands, LandsWithin, Lnot, LnotWithin, Lnots, LnotsWithin, raw_conjunction, label_meaning, lands_meaning, lnot_meaning, lnots_meaning}
+use Rattle.hoa_parser.specs.Phrases.Label.{label}
+use Rattle.hoa_parser.specs.Phrases.Lands.{no_land, or_land}
+use Rattle.hoa_parser.specs.Phrases.Lnots.{no_lnot, and_lnot}
+use Rattle.hoa_parser.specs.Phrases.Lnot.{negated, group}
 use Rattle.hoa_parser.specs.Raw as raw
 use Rattle.hoa_parser.specs.Raw.{RawTree, RawTrees, raw_trees}
 use Rattle.hoa_parser.proofs.grammar.PlainLabels.{plain_lnot, plain_first, plain_others, plain_lnots, plain_lands, plain_label}

@@ -4,11 +4,11 @@ use Rattle.std.proofs.Math.Path.{ap₂}
 use Rattle.std.proofs.lemmas.List.{append_assoc, append-nil}
 use Rattle.hoa_lexer.specs.declared.token.Token.{Token}
 use Rattle.hoa_lexer.specs.declared.token.Token.TheVariants.{Bang, Amp, Bar, LeftParen, RightParen}
-use Rattle.hoa_parser.specs.Grammar.{Label, Lands, Lnot, Lnots, raw_conjunction, label_meaning, label_tokens, lands_meaning, lands_tokens, lnot_meaning, lnot_tokens, lnots_meaning, lnots_tokens}
-use Rattle.hoa_parser.specs.Grammar.Label.{label}
-use Rattle.hoa_parser.specs.Grammar.Lands.{no_land, or_land}
-use Rattle.hoa_parser.specs.Grammar.Lnots.{no_lnot, and_lnot}
-use Rattle.hoa_parser.specs.Grammar.Lnot.{true_label, false_label, proposition, alias, negated, group}
+use Rattle.hoa_parser.specs.Phrases.{Label, Lands, Lnot, Lnots, raw_conjunction, label_meaning, label_tokens, lands_meaning, lands_tokens, lnot_meaning, lnot_tokens, lnots_meaning, lnots_tokens}
+use Rattle.hoa_parser.specs.Phrases.Label.{label}
+use Rattle.hoa_parser.specs.Phrases.Lands.{no_land, or_land}
+use Rattle.hoa_parser.specs.Phrases.Lnots.{no_lnot, and_lnot}
+use Rattle.hoa_parser.specs.Phrases.Lnot.{true_label, false_label, proposition, alias, negated, group}
 use Rattle.hoa_parser.specs.Raw as raw
 use Rattle.hoa_parser.specs.Raw.{RawTree, RawTrees, raw_trees}
 use Rattle.hoa_parser.proofs.grammar.JoinedParts.{ap₃}

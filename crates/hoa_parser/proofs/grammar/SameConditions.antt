@@ -7,12 +7,13 @@ use Rattle.hoa_lexer.specs.declared.token.Token.{Token}
 use Rattle.hoa_lexer.specs.declared.token.Token.TheVariants.{Amp, Bar, LeftParen, RightParen}
 use Rattle.aut_base.proofs.lists.Lists.{append_three}
 use Rattle.aut_base.specs.Formula as formula
-use Rattle.hoa_parser.specs.Grammar.{Condition, Fands, Fatoms, Fatom, formula_conjunction, formula_disjunction, set_tokens, condition_tokens, fands_tokens, fatoms_tokens}
-use Rattle.hoa_parser.specs.Grammar.{fatom_tokens, condition_meaning, fands_meaning, fatoms_meaning, fatom_meaning}
-use Rattle.hoa_parser.specs.Grammar.Condition.{condition}
-use Rattle.hoa_parser.specs.Grammar.Fands.{no_fand, or_fand}
-use Rattle.hoa_parser.specs.Grammar.Fatoms.{no_fatom, and_fatom}
-use Rattle.hoa_parser.specs.Grammar.Fatom.{true_condition, false_condition, infinitely, finitely, condition_group}
+use Rattle.hoa_parser.specs.Grammar.{set_tokens}
+use Rattle.hoa_parser.specs.Phrases.{Condition, Fands, Fatoms, Fatom, formula_conjunction, formula_disjunction, condition_tokens, fands_tokens, fatoms_tokens}
+use Rattle.hoa_parser.specs.Phrases.{fatom_tokens, condition_meaning, fands_meaning, fatoms_meaning, fatom_meaning}
+use Rattle.hoa_parser.specs.Phrases.Condition.{condition}
+use Rattle.hoa_parser.specs.Phrases.Fands.{no_fand, or_fand}
+use Rattle.hoa_parser.specs.Phrases.Fatoms.{no_fatom, and_fatom}
+use Rattle.hoa_parser.specs.Phrases.Fatom.{true_condition, false_condition, infinitely, finitely, condition_group}
 use Rattle.hoa_parser.proofs.grammar.JoinedParts.{ap₃}
 use Rattle.hoa_parser.proofs.grammar.Stops.{Stops, IsSame, is_amp, is_join, join_no_amp, stops_not, later_tokens, words_apart}
 

@@ -5,11 +5,12 @@ use Rattle.std.proofs.lemmas.List.{map-id}
 use Rattle.hoa_lexer.specs.declared.token.Token.{Token}
 use Rattle.hoa_lexer.specs.declared.token.Token.TheVariants.{HeaderName, Identifier, Str, Int, Alias, Amp, Body}
 use Rattle.hoa_parser.specs.Raw as raw
-use Rattle.hoa_parser.specs.Grammar.{AccValue, Conj, ItemPhrase, Value, acc_value_token, and_number, condition_tokens, conj_meaning, conj_tokens}
-use Rattle.hoa_parser.specs.Grammar.{header_of, item_meaning, item_tokens, label_tokens, optional_text, value_token}
-use Rattle.hoa_parser.specs.Grammar.AccValue.{acc_number, acc_word}
-use Rattle.hoa_parser.specs.Grammar.ItemPhrase.{states_item, start_item, names_item, alias_item, acceptance_item, acc_name_item, tool_item, name_item, properties_item, other_item}
-use Rattle.hoa_parser.specs.Grammar.Value.{number_value, text_value, word_value}
+use Rattle.hoa_parser.specs.Grammar.{and_number, header_of, optional_text}
+use Rattle.hoa_parser.specs.Phrases.{AccValue, Conj, ItemPhrase, Value, acc_value_token, condition_tokens, conj_meaning, conj_tokens}
+use Rattle.hoa_parser.specs.Phrases.{item_meaning, item_tokens, label_tokens, value_token}
+use Rattle.hoa_parser.specs.Phrases.AccValue.{acc_number, acc_word}
+use Rattle.hoa_parser.specs.Phrases.ItemPhrase.{states_item, start_item, names_item, alias_item, acceptance_item, acc_name_item, tool_item, name_item, properties_item, other_item}
+use Rattle.hoa_parser.specs.Phrases.Value.{number_value, text_value, word_value}
 use Rattle.hoa_parser.specs.declared.header.Header.{Header}
 use Rattle.hoa_parser.specs.declared.header.Header.TheVariants as header
 use Rattle.hoa_parser.proofs.grammar.ClearPhrases.{Begins, IsClear, map_clear}

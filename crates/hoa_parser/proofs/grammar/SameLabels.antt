@@ -6,12 +6,12 @@ use Rattle.std.proofs.lemmas.List.{append_assoc}
 use Rattle.hoa_lexer.specs.declared.token.Token.{Token}
 use Rattle.hoa_lexer.specs.declared.token.Token.TheVariants.{Bang, Amp, Bar, LeftParen, RightParen}
 use Rattle.hoa_parser.specs.Raw as raw
-use Rattle.hoa_parser.specs.Grammar.{Label, Lands, Lnots, Lnot, raw_conjunction, disjunction, label_tokens, lands_tokens, lnots_tokens, lnot_tokens}
-use Rattle.hoa_parser.specs.Grammar.{label_meaning, lands_meaning, lnots_meaning, lnot_meaning}
-use Rattle.hoa_parser.specs.Grammar.Label.{label}
-use Rattle.hoa_parser.specs.Grammar.Lands.{no_land, or_land}
-use Rattle.hoa_parser.specs.Grammar.Lnots.{no_lnot, and_lnot}
-use Rattle.hoa_parser.specs.Grammar.Lnot.{true_label, false_label, proposition, alias, negated, group}
+use Rattle.hoa_parser.specs.Phrases.{Label, Lands, Lnots, Lnot, raw_conjunction, disjunction, label_tokens, lands_tokens, lnots_tokens, lnot_tokens}
+use Rattle.hoa_parser.specs.Phrases.{label_meaning, lands_meaning, lnots_meaning, lnot_meaning}
+use Rattle.hoa_parser.specs.Phrases.Label.{label}
+use Rattle.hoa_parser.specs.Phrases.Lands.{no_land, or_land}
+use Rattle.hoa_parser.specs.Phrases.Lnots.{no_lnot, and_lnot}
+use Rattle.hoa_parser.specs.Phrases.Lnot.{true_label, false_label, proposition, alias, negated, group}
 use Rattle.hoa_parser.proofs.grammar.JoinedParts.{ap₃}
 use Rattle.hoa_parser.proofs.grammar.Stops.{Stops, IsSame, is_amp, is_join, join_no_amp, stops_not, later_tokens, words_apart}
 use Rattle.aut_base.proofs.lists.Lists.{append_three}

@@ -5,8 +5,9 @@ use Rattle.std.specs.Option.{option_map}
 use Rattle.std.proofs.lemmas.List.{append_assoc, map-id}
 use Rattle.hoa_lexer.specs.declared.token.Token.{Token}
 use Rattle.hoa_lexer.specs.declared.token.Token.TheVariants.{HeaderName, Int, Amp, LeftBrace, RightBrace, LeftBracket, RightBracket, End}
-use Rattle.hoa_parser.specs.Grammar.{EdgePhrase, Label, StatePhrase, conj_tokens, edge_meaning, edge_tokens, label_meaning, label_tokens}
-use Rattle.hoa_parser.specs.Grammar.{marks_meaning, optional_label, optional_marks, optional_text, state_meaning, state_tokens}
+use Rattle.hoa_parser.specs.Phrases.{EdgePhrase, Label, StatePhrase, conj_tokens, edge_meaning, edge_tokens, label_meaning, label_tokens}
+use Rattle.hoa_parser.specs.Grammar.{optional_text}
+use Rattle.hoa_parser.specs.Phrases.{marks_meaning, optional_label, optional_marks, state_meaning, state_tokens}
 use Rattle.hoa_parser.proofs.grammar.ClearPhrases.{Begins, IsClear, either, flat_clear, flat_stops, map_clear, stops_less}
 use Rattle.hoa_parser.proofs.grammar.SameItems.{is_text, same_conj, same_text_end}
 use Rattle.hoa_parser.proofs.grammar.SameLabels.{same_label}

@@ -7,8 +7,9 @@ use Rattle.hoa_lexer.specs.declared.token.Token.{Token}
 use Rattle.hoa_lexer.specs.declared.token.Token.TheVariants as token
 use Rattle.hoa_parser.specs.inner.Expecting as part
 use Rattle.hoa_parser.specs.inner.Expecting.{Part, Takes, if_header, move}
-use Rattle.hoa_parser.specs.Grammar.{Label, label, label_tokens, and_number, optional_label, OptionalWithin, optional_text, optional_marks, header_of}
-use Rattle.hoa_parser.specs.Grammar.{EdgePhrase, edge_tokens, StatePhrase, state_tokens, body_tokens}
+use Rattle.hoa_parser.specs.Grammar.{and_number, optional_text, header_of}
+use Rattle.hoa_parser.specs.Phrases.{Label, label, label_tokens, optional_label, OptionalWithin, optional_marks}
+use Rattle.hoa_parser.specs.Phrases.{EdgePhrase, edge_tokens, StatePhrase, state_tokens, body_tokens}
 use Rattle.hoa_parser.specs.declared.header.Header.{Header}
 use Rattle.hoa_parser.specs.declared.header.Header.TheVariants as header
 use Rattle.hoa_parser.proofs.grammar.PartsWritten.{Derives, rest_tokens}

@@ -8,12 +8,13 @@ use Rattle.hoa_lexer.specs.declared.token.Token.{Token}
 use Rattle.hoa_lexer.specs.declared.token.Token.TheVariants as token
 use Rattle.hoa_parser.proofs.reading.FrontParts.{passed_then, spelled_more}
 use Rattle.hoa_parser.specs.inner.Expecting.{Part, Takes, move, open_at}
-use Rattle.hoa_parser.specs.Grammar.{acc_number, acc_word, and_number, number_value, text_value, word_value}
+use Rattle.hoa_parser.specs.Grammar.{and_number, is_value}
+use Rattle.hoa_parser.specs.Phrases.{acc_number, acc_word, number_value, text_value, word_value}
 use Rattle.hoa_parser.proofs.reading.Steps.{fails_after, reads_as, reads_then, takes, takes_last}
 use Rattle.hoa_parser.specs.inner.Parsing.{Advanced, Cursor, FailsAt, Passed, ReadsTo, State, Unadvanced, is_end}
 use Rattle.hoa_parser.specs.Standing.{most_depth}
 use Rattle.hoa_parser.specs.declared.fault.ReadFault.{ReadFault}
-use Rattle.hoa_parser.specs.inner.RuleReads.{AddsMarks, AddsNumbers, AreMarks, IsConj, IsIntToken, is_value, token_of, values_part}
+use Rattle.hoa_parser.specs.inner.RuleReads.{AddsMarks, AddsNumbers, AreMarks, IsConj, IsIntToken, token_of, values_part}
 
 -- a list of what is spelled so
 abbrev pub AreSpelled : {V : Type 0} → (V → Token) → Cursor → Cursor → Type 0

@@ -6,18 +6,20 @@ use Rattle.hoa_lexer.specs.declared.token.Token.{Token}
 use Rattle.hoa_lexer.specs.declared.token.Token.TheVariants as token
 use Rattle.hoa_parser.specs.inner.Expecting as part
 use Rattle.hoa_parser.specs.inner.Expecting.{Part, TokenUse, Takes, Passes, Refuses, parts_after, after_some, parts_behind, moved, move, open_at}
-use Rattle.hoa_parser.specs.Grammar.{IsViable, SpellsAutomaton, acc_value_token, automaton_meaning, value_token}
-use Rattle.hoa_parser.specs.Grammar.AccValue.{acc_number, acc_word}
-use Rattle.hoa_parser.specs.Grammar.Condition.{condition}
-use Rattle.hoa_parser.specs.Grammar.Fands.{no_fand, or_fand}
-use Rattle.hoa_parser.specs.Grammar.Fatom.{condition_group}
-use Rattle.hoa_parser.specs.Grammar.Fatoms.{and_fatom, no_fatom}
-use Rattle.hoa_parser.specs.Grammar.Label.{label}
-use Rattle.hoa_parser.specs.Grammar.Lands.{no_land, or_land}
-use Rattle.hoa_parser.specs.Grammar.Lnot.{alias, group, negated, proposition}
-use Rattle.hoa_parser.specs.Grammar.Lnots.{and_lnot, no_lnot}
-use Rattle.hoa_parser.specs.Grammar.Value.{number_value, text_value, word_value}
+use Rattle.hoa_parser.specs.Grammar.{IsViable, SpellsAutomaton}
+use Rattle.hoa_parser.specs.Phrases.{acc_value_token, automaton_meaning, value_token}
+use Rattle.hoa_parser.specs.Phrases.AccValue.{acc_number, acc_word}
+use Rattle.hoa_parser.specs.Phrases.Condition.{condition}
+use Rattle.hoa_parser.specs.Phrases.Fands.{no_fand, or_fand}
+use Rattle.hoa_parser.specs.Phrases.Fatom.{condition_group}
+use Rattle.hoa_parser.specs.Phrases.Fatoms.{and_fatom, no_fatom}
+use Rattle.hoa_parser.specs.Phrases.Label.{label}
+use Rattle.hoa_parser.specs.Phrases.Lands.{no_land, or_land}
+use Rattle.hoa_parser.specs.Phrases.Lnot.{alias, group, negated, proposition}
+use Rattle.hoa_parser.specs.Phrases.Lnots.{and_lnot, no_lnot}
+use Rattle.hoa_parser.specs.Phrases.Value.{number_value, text_value, word_value}
 use Rattle.hoa_parser.specs.Raw.{Written}
+use Rattle.hoa_parser.proofs.grammar.PhrasesSpell.{phrases_spell}
 use Rattle.hoa_parser.proofs.grammar.PartsWritten.{Derives, completable}
 use Rattle.hoa_parser.proofs.grammar.LabelsWritten.{Writes, condition_word_writes, has_condition, has_label, label_word_writes, single}
 use Rattle.hoa_parser.proofs.grammar.LabelsWritten.{written_alone, written_amp, written_bar, written_group, written_more}
@@ -149,11 +151,12 @@ viable most ts left e =
     record {
       more = rest.tokens;
       whole = automaton_meaning whole.phrase;
-      spelled = record { phrase = whole.phrase; within = whole.keeps; spelled = whole.spelled; means = refl };
+      spelled = phrases_spell most (ts ++ rest.tokens) (automaton_meaning whole.phrase) (record { phrase = whole.phrase; within = whole.keeps; spelled = whole.spelled; means = refl });
     }
 
 -- Where nothing is expected behind them, they spell one.
 pub whole_so : (most : ℕ) (ts : List Token) → parts_after most (part.Whole ∷ []) ts ≡ Some [] → (w : Written) × SpellsAutomaton most ts w
 whole_so most ts e =
     let whole = single most part.Whole (ts ++ []) (after_derives most ts (part.Whole ∷ []) [] [] e refl) in
-    (automaton_meaning whole.phrase, record { phrase = whole.phrase; within = whole.keeps; spelled = sym (append-nil ts) ∙ whole.spelled; means = refl })
+    let w = automaton_meaning whole.phrase in
+    (w, phrases_spell most ts w (record { phrase = whole.phrase; within = whole.keeps; spelled = sym (append-nil ts) ∙ whole.spelled; means = refl }))

@@ -4,10 +4,11 @@ use Rattle.std.specs.Prelude.{codes}
 use Rattle.std.specs.Option.{option_map}
 use Rattle.hoa_lexer.specs.declared.token.Token.{Token}
 use Rattle.hoa_lexer.specs.declared.token.Token.TheVariants.{HeaderName, Int, Alias, LeftBracket, RightBracket}
-use Rattle.hoa_parser.specs.Grammar.{AutomatonPhrase, AutomatonWithin, EdgePhrase, ItemPhrase, ItemWithin, Label, OptionalWithin, SpellsAutomaton, StatePhrase}
-use Rattle.hoa_parser.specs.Grammar.{StateWithin, automaton_meaning, automaton_tokens, condition_meaning, edge_meaning, edge_tokens, item_meaning}
-use Rattle.hoa_parser.specs.Grammar.{item_tokens, label_meaning, marks_meaning, optional_label, optional_marks, state_meaning, state_tokens}
-use Rattle.hoa_parser.specs.Grammar.ItemPhrase.{states_item, start_item, names_item, alias_item, acceptance_item, acc_name_item, tool_item, name_item, properties_item, other_item}
+use Rattle.hoa_parser.specs.Grammar.{SpellsAutomaton}
+use Rattle.hoa_parser.specs.Phrases.{AutomatonPhrase, AutomatonWithin, EdgePhrase, ItemPhrase, ItemWithin, Label, OptionalWithin, StatePhrase}
+use Rattle.hoa_parser.specs.Phrases.{StateWithin, automaton_meaning, automaton_tokens, condition_meaning, edge_meaning, edge_tokens, item_meaning}
+use Rattle.hoa_parser.specs.Phrases.{item_tokens, label_meaning, marks_meaning, optional_label, optional_marks, state_meaning, state_tokens}
+use Rattle.hoa_parser.specs.Phrases.ItemPhrase.{states_item, start_item, names_item, alias_item, acceptance_item, acc_name_item, tool_item, name_item, properties_item, other_item}
 use Rattle.hoa_parser.specs.GrammarLaws.{CanBeWrittenDown}
 use Rattle.hoa_parser.specs.Raw as raw
 use Rattle.hoa_parser.specs.Raw.{RawTree, Written}
@@ -16,6 +17,8 @@ use Rattle.hoa_parser.specs.StandingLaws.{WrittenDownIsRead}
 use Rattle.hoa_parser.specs.WrittenDown as down
 use Rattle.hoa_parser.specs.WrittenDown.{bracketed, marks_tokens, written_conj, written_tokens}
 use Rattle.hoa_lexer.proofs.spelling.Apart.{spelled_apart_is_read}
+use Rattle.hoa_parser.proofs.grammar.HavePhrases.{have_phrases}
+use Rattle.hoa_parser.proofs.grammar.PhrasesSpell.{phrases_spell}
 use Rattle.hoa_parser.proofs.grammar.PlainConditions.{plain_condition, condition_spells, condition_means, condition_within}
 use Rattle.hoa_parser.proofs.grammar.PlainDepths.{plain_within}
 use Rattle.hoa_parser.proofs.grammar.PlainLabels.{plain_label, label_spells, label_means}
@@ -163,12 +166,14 @@ automaton_within : (m : ℕ) (a : AutomatonPhrase) → AutomatonWithin m a → A
 automaton_within m a h = (AllByRecursion-map_within plain_item (ItemWithin m) (item_within m) a.items h.0, AllByRecursion-map_within plain_state (StateWithin m) (state_within m) a.states h.1)
 
 pub can_be_written_down : CanBeWrittenDown
-can_be_written_down m ts w s = record {
-  phrase = plain_automaton s.phrase;
-  within = automaton_within m s.phrase s.within;
-  spelled = ap written_tokens s.means ∙ sym (automaton_spells s.phrase);
-  means = s.means ∙ sym (automaton_means s.phrase);
-}
+can_be_written_down m ts w s =
+    let p = have_phrases m ts w s in
+    phrases_spell m (written_tokens w) w (record {
+      phrase = plain_automaton p.phrase;
+      within = automaton_within m p.phrase p.within;
+      spelled = ap written_tokens p.means ∙ sym (automaton_spells p.phrase);
+      means = p.means ∙ sym (automaton_means p.phrase);
+    })
 
 pub written_down_is_read : WrittenDownIsRead
 written_down_is_read ts w text s apart =

@@ -5,7 +5,7 @@ use Rattle.hoa_lexer.specs.inner.Steps.{PassesBlanks}
 use Rattle.hoa_lexer.specs.declared.token.Token.TheVariants as token
 use Rattle.hoa_lexer.proofs.next_token.Fronts.{skips_none}
 use Rattle.hoa_parser.specs.Ends.{WrittenEnds}
-use Rattle.hoa_parser.specs.Grammar.{label_tokens, optional_marks}
+use Rattle.hoa_parser.specs.Phrases.{label_tokens, optional_marks}
 use Rattle.hoa_parser.specs.Raw.{RawTree, WrittenEdge}
 use Rattle.hoa_parser.specs.declared.raw.RawLabel.{RawLabel}
 use Rattle.hoa_parser.specs.inner.AtHand.{AreMarks, AreMaybeMarks, IsLabel, IsIntText, IsPlain, IsPlainHead, IsSigned, Spelled}

@@ -2,8 +2,8 @@
 use Rattle.std.proofs.Common.{◌≡◌, ℕ, List, [], ◌∷◌, ◌++◌, map, Option, Some, None, refl, sym, subst, ◌∙◌, arith}
 use Rattle.hoa_lexer.specs.declared.token.Token.{Token}
 use Rattle.hoa_lexer.specs.declared.token.Token.TheVariants as token
-use Rattle.hoa_parser.specs.Grammar.{Label, Lands, Lnot, Lnots, LabelWithin, label, no_land, or_land, no_lnot, and_lnot, true_label, false_label, proposition, alias, negated, group}
-use Rattle.hoa_parser.specs.Grammar.{label_tokens, lands_tokens, lnots_tokens, lnot_tokens, optional_label, optional_marks}
+use Rattle.hoa_parser.specs.Phrases.{Label, Lands, Lnot, Lnots, LabelWithin, label, no_land, or_land, no_lnot, and_lnot, true_label, false_label, proposition, alias, negated, group}
+use Rattle.hoa_parser.specs.Phrases.{label_tokens, lands_tokens, lnots_tokens, lnot_tokens, optional_label, optional_marks}
 use Rattle.hoa_parser.specs.declared.parse.plain.Next.{Next}
 use Rattle.hoa_parser.specs.declared.parse.plain.Next.TheVariants as next
 use Rattle.hoa_parser.specs.inner.AtHand.{next_token}

@@ -11,7 +11,7 @@ use Rattle.hoa_lexer.proofs.spelling.Comments.{unheld}
 use Rattle.hoa_lexer.specs.declared.token.Token.{Token}
 use Rattle.hoa_lexer.specs.declared.token.Token.TheVariants as token
 use Rattle.hoa_lexer.proofs.spelling.FirstBytes.{mark_front}
-use Rattle.hoa_parser.specs.Grammar.{Label, Lands, Lnots, LabelWithin, LandsWithin, LnotsWithin, and_lnot, label, label_tokens, lands_tokens, lnot_tokens, lnots_tokens, no_land, no_lnot, or_land}
+use Rattle.hoa_parser.specs.Phrases.{Label, Lands, Lnots, LabelWithin, LandsWithin, LnotsWithin, and_lnot, label, label_tokens, lands_tokens, lnot_tokens, lnots_tokens, no_land, no_lnot, or_land}
 use Rattle.hoa_parser.specs.inner.Expecting.{ClosingBracket, Factor, Factors, MaybeLabel, Part, Products, parts_after, parts_behind, expected_label}
 use Rattle.hoa_parser.specs.inner.Parsing.{Cursor, PassesTokens, Passed, ReadsTo, cursor_of, reader_state}
 use Rattle.hoa_parser.specs.inner.RuleReads.{IsOpened}

@@ -9,8 +9,8 @@ use Rattle.hoa_lexer.specs.declared.token.Token.{Token}
 use Rattle.hoa_lexer.specs.declared.token.Token.TheVariants as token
 use Rattle.hoa_lexer.proofs.next_token.Fronts.{skips_none}
 use Rattle.hoa_lexer.proofs.spelling.FirstBytes.{mark_front}
-use Rattle.hoa_parser.specs.Grammar.{Label, Lands, Lnot, Lnots, LabelWithin, LandsWithin, LnotWithin, LnotsWithin, and_lnot, raw_conjunction, disjunction, false_label, group, label, label_tokens}
-use Rattle.hoa_parser.specs.Grammar.{lands_meaning, lands_tokens, lnot_meaning, lnot_tokens, lnots_meaning, lnots_tokens, negated, no_land, no_lnot, or_land, proposition, true_label}
+use Rattle.hoa_parser.specs.Phrases.{Label, Lands, Lnot, Lnots, LabelWithin, LandsWithin, LnotWithin, LnotsWithin, and_lnot, raw_conjunction, disjunction, false_label, group, label, label_tokens}
+use Rattle.hoa_parser.specs.Phrases.{lands_meaning, lands_tokens, lnot_meaning, lnot_tokens, lnots_meaning, lnots_tokens, negated, no_land, no_lnot, or_land, proposition, true_label}
 use Rattle.hoa_parser.specs.inner.RuleReads.{LandPhrase, LandWithin, land_meaning, land_tokens}
 use Rattle.hoa_parser.specs.Raw as raw
 use Rattle.hoa_parser.specs.Raw.{RawTree, all_literals, raw_all, raw_list, raw_tree}

@@ -13,7 +13,7 @@ use Rattle.hoa_lexer.specs.declared.token.Token.TheVariants as token
 use Rattle.hoa_lexer.proofs.next_token.Between.{between_both}
 use Rattle.hoa_lexer.proofs.spelling.Comments.{unheld}
 use Rattle.hoa_lexer.proofs.spelling.FirstBytes.{mark_front}
-use Rattle.hoa_parser.specs.Grammar.{label_tokens, optional_marks}
+use Rattle.hoa_parser.specs.Phrases.{label_tokens, optional_marks}
 use Rattle.hoa_parser.specs.declared.parse.body.StateHead.{StateHead}
 use Rattle.hoa_parser.specs.declared.parse.plain.Next.{Next}
 use Rattle.hoa_parser.specs.declared.parse.plain.Next.TheVariants as next

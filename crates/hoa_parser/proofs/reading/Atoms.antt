@@ -4,7 +4,7 @@ use Rattle.hoa_lexer.specs.declared.token.Token.{Token}
 use Rattle.hoa_lexer.specs.declared.token.Token.TheVariants as token
 use Rattle.hoa_parser.proofs.grammar.HeaderNames.{same}
 use Rattle.hoa_parser.specs.inner.Expecting.{Atom, Factor, Refuses, Takes, label_word, move, set_parts}
-use Rattle.hoa_parser.specs.Grammar.{Lnot, LnotWithin, alias, false_label, lnot_meaning, lnot_tokens, proposition, true_label}
+use Rattle.hoa_parser.specs.Phrases.{Lnot, LnotWithin, alias, false_label, lnot_meaning, lnot_tokens, proposition, true_label}
 use Rattle.hoa_parser.specs.inner.Parsing.{is_end}
 use Rattle.hoa_parser.specs.inner.RuleReads.{atom_of, plain_atom_of, sign_at}
 use Rattle.hoa_parser.specs.Raw as raw

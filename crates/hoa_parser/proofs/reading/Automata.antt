@@ -5,7 +5,7 @@ use Rattle.hoa_lexer.specs.declared.token.Token.{Token}
 use Rattle.hoa_lexer.specs.declared.token.Token.TheVariants as token
 use Rattle.hoa_parser.proofs.reading.FrontParts.{passed_then}
 use Rattle.hoa_parser.proofs.reading.Steps.{Read}
-use Rattle.hoa_parser.specs.Grammar.{item_tokens, state_tokens}
+use Rattle.hoa_parser.specs.Phrases.{item_tokens, state_tokens}
 use Rattle.hoa_parser.specs.inner.Parsing.{Cursor}
 use Rattle.hoa_parser.specs.inner.RuleReads.{AreItems, AreStatesWritten, IsAutomaton, IsIdentifierToken}
 use Rattle.hoa_parser.specs.Raw.{Written, WrittenItem, WrittenState}

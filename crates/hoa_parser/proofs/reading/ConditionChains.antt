@@ -5,8 +5,8 @@ use Rattle.hoa_lexer.specs.declared.token.Token.TheVariants as token
 use Rattle.hoa_parser.proofs.reading.FrontParts.{passed_then, subst_tokens}
 use Rattle.hoa_parser.proofs.reading.Chains.{IsChain, chain_whole}
 use Rattle.hoa_parser.specs.inner.Chains.{AddsFands, AddsFatoms}
-use Rattle.hoa_parser.specs.Grammar.{FandsWithin, FatomWithin, FatomsWithin, and_fatom, formula_conjunction, formula_disjunction, condition, fands_meaning, fands_tokens}
-use Rattle.hoa_parser.specs.Grammar.{fatom_meaning, fatom_tokens, fatoms_meaning, fatoms_tokens, no_fand, no_fatom, or_fand}
+use Rattle.hoa_parser.specs.Phrases.{FandsWithin, FatomWithin, FatomsWithin, and_fatom, formula_conjunction, formula_disjunction, condition, fands_meaning, fands_tokens}
+use Rattle.hoa_parser.specs.Phrases.{fatom_meaning, fatom_tokens, fatoms_meaning, fatoms_tokens, no_fand, no_fatom, or_fand}
 use Rattle.hoa_parser.specs.inner.Parsing.{Cursor}
 use Rattle.hoa_parser.specs.inner.RuleReads.{IsAndFatoms, IsCondition, IsFand, IsFatom, IsOrFands, FandWithin, fand_meaning, fand_tokens}
 use Rattle.aut_base.specs.Formula as formula

@@ -4,7 +4,7 @@ use Rattle.aut_base.specs.declared.formula.Formula.{Formula}
 use Rattle.hoa_lexer.specs.declared.token.Token.TheVariants as token
 use Rattle.hoa_parser.proofs.reading.FrontParts.{passed_then}
 use Rattle.hoa_parser.proofs.reading.Steps.{Read}
-use Rattle.hoa_parser.specs.Grammar.{condition_group, condition_tokens}
+use Rattle.hoa_parser.specs.Phrases.{condition_group, condition_tokens}
 use Rattle.hoa_parser.specs.inner.Parsing.{Cursor}
 use Rattle.hoa_parser.specs.inner.RuleReads.{IsCondition, IsFatom}
 use Rattle.hoa_parser.specs.Standing.{most_depth}

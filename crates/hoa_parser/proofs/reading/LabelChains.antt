@@ -5,8 +5,8 @@ use Rattle.hoa_lexer.specs.declared.token.Token.TheVariants as token
 use Rattle.hoa_parser.proofs.reading.FrontParts.{passed_then, subst_tokens}
 use Rattle.hoa_parser.proofs.reading.Chains.{IsChain, chain_whole}
 use Rattle.hoa_parser.specs.inner.Chains.{AddsLands, AddsLnots}
-use Rattle.hoa_parser.specs.Grammar.{LandsWithin, LnotWithin, LnotsWithin, and_lnot, raw_conjunction, disjunction, label, lands_meaning, lands_tokens}
-use Rattle.hoa_parser.specs.Grammar.{lnot_meaning, lnot_tokens, lnots_meaning, lnots_tokens, no_land, no_lnot, or_land}
+use Rattle.hoa_parser.specs.Phrases.{LandsWithin, LnotWithin, LnotsWithin, and_lnot, raw_conjunction, disjunction, label, lands_meaning, lands_tokens}
+use Rattle.hoa_parser.specs.Phrases.{lnot_meaning, lnot_tokens, lnots_meaning, lnots_tokens, no_land, no_lnot, or_land}
 use Rattle.hoa_parser.specs.inner.Parsing.{Cursor}
 use Rattle.hoa_parser.specs.inner.RuleReads.{IsAndLnots, IsLabel, IsLand, IsLnot, IsOrLands, LandWithin, land_meaning, land_tokens}
 use Rattle.hoa_parser.specs.Raw as raw

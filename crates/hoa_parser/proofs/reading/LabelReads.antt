@@ -5,7 +5,7 @@ use Rattle.hoa_parser.proofs.reading.Atoms.{IsAtom, atom_found}
 use Rattle.hoa_parser.proofs.reading.FrontParts.{passed_then, subst_tokens}
 use Rattle.hoa_parser.proofs.reading.Steps.{Read, reads_as, takes, takes_last}
 use Rattle.hoa_parser.specs.inner.Expecting.{Factor}
-use Rattle.hoa_parser.specs.Grammar.{group, label_tokens, lnot_tokens, negated}
+use Rattle.hoa_parser.specs.Phrases.{group, label_tokens, lnot_tokens, negated}
 use Rattle.hoa_parser.specs.inner.Parsing.{Advanced, Cursor, FailsAt, ReadsTo, State, Unadvanced}
 use Rattle.hoa_parser.specs.inner.RuleReads.{IsLabel, IsLnot, atom_of}
 use Rattle.hoa_parser.specs.Raw as raw

@@ -7,7 +7,8 @@ use Rattle.hoa_lexer.specs.declared.token.Token.TheVariants as token
 use Rattle.hoa_parser.proofs.reading.Atoms.{sign_word}
 use Rattle.hoa_parser.proofs.reading.FrontParts.{passed_then, subst_tokens}
 use Rattle.hoa_parser.proofs.reading.Steps.{Read, takes}
-use Rattle.hoa_parser.specs.Grammar.{Fatom, FatomWithin, bang_tokens, fatom_meaning, fatom_tokens, set_tokens}
+use Rattle.hoa_parser.specs.Grammar.{bang_tokens, set_tokens}
+use Rattle.hoa_parser.specs.Phrases.{Fatom, FatomWithin, fatom_meaning, fatom_tokens}
 use Rattle.hoa_parser.specs.inner.Expecting.{Atom, Part, Takes, move, open_at, set_parts}
 use Rattle.hoa_parser.specs.inner.Parsing.{Advanced, Cursor, ReadsTo, State}
 use Rattle.hoa_parser.specs.inner.RuleReads.{IsFatom, IsMaybeBang, IsIntToken, IsSet}

@@ -4,9 +4,9 @@ use Rattle.hoa_lexer.specs.declared.token.Token.{Token}
 use Rattle.hoa_lexer.specs.declared.token.Token.TheVariants as token
 use Rattle.hoa_parser.specs.inner.Expecting as part
 use Rattle.hoa_parser.specs.inner.Expecting.{Part, parts_after, after_some, parts_behind}
-use Rattle.hoa_parser.specs.Grammar.{IsViable, SpellsAutomaton}
+use Rattle.hoa_parser.specs.Grammar.{IsViable}
 use Rattle.hoa_parser.specs.Standing.{IsDead, SpellsNothing, most_depth}
-use Rattle.hoa_parser.proofs.grammar.Depths.{after_more, viable_more, within_more}
+use Rattle.hoa_parser.proofs.grammar.Depths.{after_more, spelled_more, viable_more}
 use Rattle.hoa_parser.proofs.grammar.AfterLabels.{after_append}
 use Rattle.hoa_parser.proofs.grammar.AfterStates.{spelled_follows}
 use Rattle.hoa_parser.proofs.grammar.NoAbort.{abort}
@@ -52,8 +52,7 @@ pub unfinished : (ts : List Token) (p : Part) (left : List Part) → parts_after
 unfinished ts p left e most w s =
     let n : ℕ = most + most_depth in
     let there = after_more most_depth n ts (part.Whole ∷ []) (p ∷ left) (omega arith) e in
-    let more : SpellsAutomaton n ts w = record { phrase = s.phrase; within = within_more most n s.phrase (omega arith) s.within; spelled = s.spelled; means = s.means } in
-    some_nothing p left (sym there ∙ spelled_follows n ts w more)
+    some_nothing p left (sym there ∙ spelled_follows n ts w (spelled_more most n ts w (omega arith) s))
 
 -- A token that could stand if more might be open.
 pub deep : (m : ℕ) (ts : List Token) (left left' : List Part) (z : Token) → parts_after most_depth (part.Whole ∷ []) ts ≡ Some left → parts_behind most_depth left z ≡ None

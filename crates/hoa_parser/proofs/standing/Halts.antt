@@ -1,11 +1,12 @@
 -- What a reading of a text comes to: its tokens, and what stands behind them.
 use Rattle.std.proofs.Common.{◌≡◌, ◌≢◌, ℕ, ◌⊎◌, List, [], ◌∷◌, ◌++◌, map, inl, inr, refl, sym, subst, ◌∙◌, ap}
+use Rattle.std.specs.Prelude.{codes}
 use Rattle.std.proofs.lemmas.List.{append_assoc, append-nil}
 use Rattle.hoa_lexer.specs.Blanks.{IsBlanks}
 use Rattle.hoa_lexer.specs.Text.{IsNext, Lexes}
 use Rattle.hoa_lexer.specs.declared.token.Token.{Token}
 use Rattle.hoa_lexer.specs.declared.token.Token.TheVariants as token
-use Rattle.hoa_parser.specs.Grammar.{AutomatonPhrase, IsViable, SpellsAutomaton, automaton_meaning, automaton_tokens}
+use Rattle.hoa_parser.specs.Grammar.{IsViable, SpellsAutomaton, none}
 use Rattle.hoa_parser.specs.Raw.{Written}
 use Rattle.hoa_parser.specs.Standing.{EndsOpen, IsBegun, IsMisplaced, IsNoTokenAt, SpellsNothing, Standing, Stands, most_depth}
 use Rattle.hoa_parser.specs.Standing.Standing.{Blank, Whole, Deep, Bad, Aborted, Cut}
@@ -75,15 +76,11 @@ reading (Aborted r) start text h =
     (part start text h.tokens h.used h.rest h.begun, h.some, h.offset, h.next)
 reading Cut start text h = begun_reading Cut start text h.tokens h.used h.rest h.begun (part start text h.tokens h.used h.rest h.begun, h.ends)
 
--- the smallest automaton
-abbrev smallest : AutomatonPhrase
-smallest = record { version = []; items = []; states = [] }
-
 pub viable_nothing : (m : ℕ) → IsViable m []
 viable_nothing m = record {
-  more = automaton_tokens smallest;
-  whole = automaton_meaning smallest;
-  spelled = record { phrase = smallest; within = (tt, tt); spelled = refl; means = refl };
+  more = token.HeaderName (codes "HOA") ∷ token.Identifier [] ∷ token.Body ∷ token.End ∷ [];
+  whole = record { version = []; items = []; states = [] };
+  spelled = record { item_tokens = []; state_tokens = []; items = none; states = none; spelled = refl };
 }
 
 pub viable_whole : (m : ℕ) (tokens : List Token) (w : Written) → SpellsAutomaton m tokens w → IsViable m tokens

@@ -16,6 +16,8 @@ use Rattle.hoa_lexer.specs.declared.token.LexFault.{LexFault}
 use Rattle.hoa_lexer.specs.declared.token.LexFault.TheVariants as lex
 use Rattle.hoa_lexer.specs.declared.token.Token.{Token}
 use Rattle.hoa_lexer.specs.declared.token.Token.TheVariants as token
+use Rattle.hoa_parser.proofs.grammar.HavePhrases.{have_phrases}
+use Rattle.hoa_parser.proofs.grammar.PhrasesSpell.{phrases_spell}
 use Rattle.hoa_parser.proofs.reading.Automata.{opening}
 use Rattle.hoa_parser.proofs.standing.Begun.{aborted_behind, bad_behind, begun_with_tokens, cut_behind, deep_behind}
 use Rattle.hoa_parser.proofs.standing.DeadEnds.{after_next, dead, deep, nothing_unfinished, nothing_viable}
@@ -26,7 +28,7 @@ use Rattle.hoa_parser.proofs.grammar.Viability.{viable}
 use Rattle.hoa_parser.specs.inner.Expecting as part
 use Rattle.hoa_parser.specs.inner.Expecting.{Part, parts_after, parts_behind, move}
 use Rattle.hoa_parser.specs.inner.Faults.{read_fault}
-use Rattle.hoa_parser.specs.Grammar.{AutomatonPhrase, automaton_tokens, item_tokens, state_tokens}
+use Rattle.hoa_parser.specs.Phrases.{AutomatonPhrase, automaton_tokens, item_tokens, state_tokens}
 use Rattle.hoa_parser.specs.inner.Parsing.{Abandons, Cursor, FailsParts, FailsAt, PassesTokens, Passed, HoldsOfPlaces, ReadsTo, RefusesToken, Relation, State, TooDeep, Unended, Unread, cursor_of}
 use Rattle.hoa_parser.specs.inner.RuleReads.{IsAutomaton, open_tokens}
 use Rattle.hoa_parser.specs.Raw.{written}
@@ -47,7 +49,9 @@ ended_tokens : (p : AutomatonPhrase) → open_tokens p ++ token.End ∷ [] ≡ a
 ended_tokens p = ap (λ (ts : List Token). opening ∷ token.Identifier p.version ∷ ts) (append_assoc (flat_map item_tokens p.items) (token.Body ∷ flat_map state_tokens p.states) (token.End ∷ []))
 
 spells_nothing : (ts : List Token) → Unended ts → SpellsNothing ts
-spells_nothing ts unended most w s = never_ended (open_tokens s.phrase) (subst Unended (s.spelled ∙ sym (ended_tokens s.phrase)) unended)
+spells_nothing ts unended most w s =
+    let p = have_phrases most ts w s in
+    never_ended (open_tokens p.phrase) (subst Unended (p.spelled ∙ sym (ended_tokens p.phrase)) unended)
 
 -- The first token of the text is that of `a`, and a byte past it is held exactly where it was needed.
 pub record Starts (start : ℕ) (text : List ℕ) (a : Cursor) : Type 0 where
@@ -170,12 +174,12 @@ answers_whole raw start text a b starts is =
     record {
       placed = s.placed;
       lexes = s.lexes;
-      spells = record {
+      spells = phrases_spell most_depth (map (λ p. p.0) s.placed) (written raw) (record {
         phrase = w.phrase;
         within = w.within;
         spelled = s.shown ∙ ap (λ (z : Token). open_tokens w.phrase ++ z ∷ []) is.ends ∙ ended_tokens w.phrase;
         means = w.means;
-      };
+      });
     }
 
 -- an automaton begins with no other token

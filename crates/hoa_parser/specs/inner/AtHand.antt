@@ -4,8 +4,8 @@ use Rattle.hoa_lexer.specs.Text.{IsFront}
 use Rattle.hoa_lexer.specs.inner.Steps.{PassesBlanks}
 use Rattle.hoa_lexer.specs.declared.token.Token.{Token}
 use Rattle.hoa_lexer.specs.declared.token.Token.TheVariants as token
-use Rattle.hoa_parser.specs.Grammar.{Label, Lnot, Lnots, LabelWithin, LnotWithin, LnotsWithin, raw_conjunction, disjunction, edge_meaning, label, label_meaning, label_tokens}
-use Rattle.hoa_parser.specs.Grammar.{lands_meaning, lnot_meaning, lnot_tokens, lnots_meaning, lnots_tokens, marks_meaning, optional_marks}
+use Rattle.hoa_parser.specs.Phrases.{Label, Lnot, Lnots, LabelWithin, LnotWithin, LnotsWithin, raw_conjunction, disjunction, edge_meaning, label, label_meaning, label_tokens}
+use Rattle.hoa_parser.specs.Phrases.{lands_meaning, lnot_meaning, lnot_tokens, lnots_meaning, lnots_tokens, marks_meaning, optional_marks}
 use Rattle.hoa_parser.specs.declared.parse.body.StateHead.{StateHead}
 use Rattle.hoa_parser.specs.declared.parse.plain.Next.{Next}
 use Rattle.hoa_parser.specs.declared.parse.plain.Next.TheVariants as next

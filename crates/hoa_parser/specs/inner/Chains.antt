@@ -5,7 +5,7 @@ use Rattle.aut_base.specs.Formula.{FormulaTree, formula_list}
 use Rattle.aut_base.specs.declared.formula.Formulas.{Formulas}
 use Rattle.hoa_lexer.specs.declared.token.Token.{Token}
 use Rattle.hoa_lexer.specs.declared.token.Token.TheVariants as token
-use Rattle.hoa_parser.specs.Grammar.{FatomWithin, LnotWithin, fatom_meaning, fatom_tokens, lnot_meaning, lnot_tokens}
+use Rattle.hoa_parser.specs.Phrases.{FatomWithin, LnotWithin, fatom_meaning, fatom_tokens, lnot_meaning, lnot_tokens}
 use Rattle.hoa_parser.specs.inner.Parsing.{IsWritten, Cursor}
 use Rattle.hoa_parser.specs.inner.RuleReads.{FandWithin, LandWithin, fand_meaning, fand_tokens, land_meaning, land_tokens}
 use Rattle.hoa_parser.specs.Raw.{RawTree, raw_list}

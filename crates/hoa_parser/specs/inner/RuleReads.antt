@@ -6,14 +6,15 @@ use Rattle.aut_base.specs.Formula.{FormulaTree, formula_tree}
 use Rattle.aut_base.specs.declared.formula.Formula.{Formula}
 use Rattle.hoa_lexer.specs.declared.token.Token.{Token}
 use Rattle.hoa_lexer.specs.declared.token.Token.TheVariants as token
-use Rattle.hoa_parser.specs.Grammar.{AccValue, AutomatonPhrase, AutomatonWithin, ConditionWithin, Conj, FandsWithin, Fatom, FatomWithin, Fatoms}
-use Rattle.hoa_parser.specs.Grammar.{FatomsWithin, ItemPhrase, ItemWithin, Label, LabelWithin, LandsWithin, Lnot, LnotWithin, Lnots, LnotsWithin}
-use Rattle.hoa_parser.specs.Grammar.{OptionalWithin, StateWithin, Value, acc_value_token, formula_conjunction, and_number, automaton_meaning, bang_tokens}
-use Rattle.hoa_parser.specs.Grammar.{header_of, condition_meaning, condition_tokens, conj_meaning, conj_tokens, raw_conjunction, disjunction}
-use Rattle.hoa_parser.specs.Grammar.{edge_meaning, edge_tokens, fands_meaning, fands_tokens, fatom_meaning, fatom_tokens, fatoms_meaning}
-use Rattle.hoa_parser.specs.Grammar.{fatoms_tokens, item_meaning, item_tokens, label_meaning, label_tokens, lands_meaning, lands_tokens, lnot_meaning}
-use Rattle.hoa_parser.specs.Grammar.{lnot_tokens, lnots_meaning, lnots_tokens, marks_meaning, formula_disjunction, optional_label, optional_marks, optional_text}
-use Rattle.hoa_parser.specs.Grammar.{set_tokens, state_meaning, state_tokens, value_token}
+use Rattle.hoa_parser.specs.Phrases.{AccValue, AutomatonPhrase, AutomatonWithin, ConditionWithin, Conj, FandsWithin, Fatom, FatomWithin, Fatoms}
+use Rattle.hoa_parser.specs.Phrases.{FatomsWithin, ItemPhrase, ItemWithin, Label, LabelWithin, LandsWithin, Lnot, LnotWithin, Lnots, LnotsWithin}
+use Rattle.hoa_parser.specs.Grammar.{and_number, bang_tokens, header_of, optional_text, set_tokens}
+use Rattle.hoa_parser.specs.Phrases.{OptionalWithin, StateWithin, Value, acc_value_token, formula_conjunction, automaton_meaning}
+use Rattle.hoa_parser.specs.Phrases.{condition_meaning, condition_tokens, conj_meaning, conj_tokens, raw_conjunction, disjunction}
+use Rattle.hoa_parser.specs.Phrases.{edge_meaning, edge_tokens, fands_meaning, fands_tokens, fatom_meaning, fatom_tokens, fatoms_meaning}
+use Rattle.hoa_parser.specs.Phrases.{fatoms_tokens, item_meaning, item_tokens, label_meaning, label_tokens, lands_meaning, lands_tokens, lnot_meaning}
+use Rattle.hoa_parser.specs.Phrases.{lnot_tokens, lnots_meaning, lnots_tokens, marks_meaning, formula_disjunction, optional_label, optional_marks}
+use Rattle.hoa_parser.specs.Phrases.{state_meaning, state_tokens, value_token}
 use Rattle.hoa_parser.specs.inner.Expecting as part
 use Rattle.hoa_parser.specs.inner.Expecting.{Part}
 use Rattle.hoa_parser.specs.inner.Parsing.{IsWritten, Passed, Cursor}
@@ -60,13 +61,6 @@ AreTexts texts a b = Passed a (map token.Str texts) b
 
 abbrev pub AreWords : List (List ℕ) → Cursor → Cursor → Type 0
 AreWords words a b = Passed a (map token.Identifier words) b
-
--- whether a token is a value, where texts are values too or not: behind the name of an acceptance they are none
-abbrev pub is_value : Bool → Token → Bool
-is_value texts (token.Int n) = true
-is_value texts (token.Str text) = texts
-is_value texts (token.Identifier word) = true
-is_value texts _ = false
 
 abbrev pub values_part : Bool → Part
 values_part false = part.AccValues

@@ -2,6 +2,7 @@
 
 ghost use Rattle.std.specs.Prelude.{◌≡◌, ◌∷◌, [], false, IsTrue, ◌↔◌, OnOk};
 ghost use Rattle.hoa_lexer.specs.declared.token.Token.{Token};
+ghost use Rattle.hoa_parser.specs.Grammar.{is_value};
 ghost use Rattle.hoa_parser.specs.inner.Expecting as part;
 ghost use Rattle.hoa_parser.specs.inner.Expecting.{conj_parts};
 ghost use Rattle.hoa_parser.specs.inner.Parsing.{ReadsParts, Uses, reader_state};
@@ -103,7 +104,7 @@ pub(super) fn words<I: Inputs>(
 
 /// INT | IDENTIFIER, and STRING where texts are values too
 fn is_value(token: &Token, texts: bool) -> bool
-    ensures { result ≡ written.is_value texts token.now }
+    ensures { result ≡ is_value texts token.now }
 {
     match token {
         Token::Int(_) | Token::Identifier(_) => true,

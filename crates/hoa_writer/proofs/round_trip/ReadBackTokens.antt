@@ -11,10 +11,12 @@ use Rattle.aut_base.specs.Automaton.{LabelledEdge, Automaton, IsEdgeOf, IsWellFo
 use Rattle.hoa_lexer.specs.Laws.{HasTokens}
 use Rattle.hoa_lexer.specs.declared.token.Token.{Token}
 use Rattle.hoa_lexer.specs.declared.token.Token.TheVariants.{HeaderName, Identifier, Str, Int, LeftBracket, RightBracket, LeftBrace, RightBrace, Body, End}
-use Rattle.hoa_parser.specs.Grammar.{AutomatonPhrase, EdgePhrase, ItemPhrase, SpellsAutomaton, StatePhrase, automaton_meaning, automaton_tokens, edge_meaning}
-use Rattle.hoa_parser.specs.Grammar.{edge_tokens, item_meaning, item_tokens, label_tokens, marks_meaning, optional_marks, state_meaning, state_tokens}
-use Rattle.hoa_parser.specs.Grammar.ItemPhrase.{states_item, start_item, names_item, acceptance_item, name_item, properties_item}
+use Rattle.hoa_parser.specs.Grammar.{SpellsAutomaton}
+use Rattle.hoa_parser.specs.Phrases.{AutomatonPhrase, EdgePhrase, ItemPhrase, StatePhrase, automaton_meaning, automaton_tokens, edge_meaning}
+use Rattle.hoa_parser.specs.Phrases.{edge_tokens, item_meaning, item_tokens, label_tokens, marks_meaning, optional_marks, state_meaning, state_tokens}
+use Rattle.hoa_parser.specs.Phrases.ItemPhrase.{states_item, start_item, names_item, acceptance_item, name_item, properties_item}
 use Rattle.hoa_parser.proofs.grammar.OneRaw.{one_raw}
+use Rattle.hoa_parser.proofs.grammar.PhrasesSpell.{phrases_spell}
 use Rattle.hoa_parser.specs.Raw as raw
 use Rattle.hoa_parser.specs.Raw.{Written}
 use Rattle.aut_base.specs.LabelText.{joined}
@@ -252,7 +254,7 @@ canonical_reads a name few sets names w =
     let tokens = automaton_tokens phrase in
     let most = automaton_opens phrase in
     let written = canonical_written a name in
-    let spells : SpellsAutomaton most tokens written = record { phrase = phrase; within = automaton_within phrase; spelled = refl; means = sym (automaton_means a name) } in
+    let spells = phrases_spell most tokens written (record { phrase = phrase; within = automaton_within phrase; spelled = refl; means = sym (automaton_means a name) }) in
     record {
       tokens = tokens;
       lexes = free_is_read tokens (canonical_text a name) (automaton_spelled a name few sets names w);

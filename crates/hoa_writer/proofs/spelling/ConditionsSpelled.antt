@@ -6,12 +6,13 @@ use Rattle.aut_base.specs.Formula as formula
 use Rattle.aut_base.specs.Formula.{FormulaTree, FormulaTrees, SetsBelow, EachSetsBelow, trees}
 use Rattle.hoa_lexer.specs.declared.token.Token.{Token}
 use Rattle.hoa_lexer.specs.declared.token.Token.TheVariants.{Identifier, Int, Amp, Bar, LeftParen, RightParen}
-use Rattle.hoa_parser.specs.Grammar.{Condition, Fands, Fatom, Fatoms, bang_tokens, set_tokens, condition_meaning, condition_tokens, fands_meaning}
-use Rattle.hoa_parser.specs.Grammar.{fands_tokens, fatom_meaning, fatom_tokens, fatoms_meaning, fatoms_tokens}
-use Rattle.hoa_parser.specs.Grammar.Condition.{condition}
-use Rattle.hoa_parser.specs.Grammar.Fands.{no_fand, or_fand}
-use Rattle.hoa_parser.specs.Grammar.Fatoms.{no_fatom, and_fatom}
-use Rattle.hoa_parser.specs.Grammar.Fatom.{true_condition, false_condition, infinitely, finitely, condition_group}
+use Rattle.hoa_parser.specs.Grammar.{bang_tokens, set_tokens}
+use Rattle.hoa_parser.specs.Phrases.{Condition, Fands, Fatom, Fatoms, condition_meaning, condition_tokens, fands_meaning}
+use Rattle.hoa_parser.specs.Phrases.{fands_tokens, fatom_meaning, fatom_tokens, fatoms_meaning, fatoms_tokens}
+use Rattle.hoa_parser.specs.Phrases.Condition.{condition}
+use Rattle.hoa_parser.specs.Phrases.Fands.{no_fand, or_fand}
+use Rattle.hoa_parser.specs.Phrases.Fatoms.{no_fatom, and_fatom}
+use Rattle.hoa_parser.specs.Phrases.Fatom.{true_condition, false_condition, infinitely, finitely, condition_group}
 use Rattle.hoa_writer.specs.CanonicalText.{set_text, part, formula_text, parts_text}
 use Rattle.hoa_writer.proofs.spelling.SpelledOut.{Free, Held, Stops, free_free, free_held, held_free, held_held, as_held, free_one, free_none, held_identifier, held_ended}
 use Rattle.hoa_writer.proofs.spelling.WordsSpelled.{number, bang, amp_apart, bar_apart}

@@ -4,12 +4,12 @@ use Rattle.std.specs.Prelude.{codes}
 use Rattle.std.proofs.lemmas.List.{append_assoc, append-nil}
 use Rattle.aut_base.specs.Label.{LabelTree, trees}
 use Rattle.hoa_lexer.specs.declared.token.Token.{Token}
-use Rattle.hoa_parser.specs.Grammar.{Label, Lands, Lnot, Lnots, raw_conjunction, disjunction, label_meaning, label_tokens, lands_meaning, lands_tokens}
-use Rattle.hoa_parser.specs.Grammar.{lnot_meaning, lnot_tokens, lnots_meaning, lnots_tokens}
-use Rattle.hoa_parser.specs.Grammar.Label.{label}
-use Rattle.hoa_parser.specs.Grammar.Lands.{no_land, or_land}
-use Rattle.hoa_parser.specs.Grammar.Lnots.{no_lnot, and_lnot}
-use Rattle.hoa_parser.specs.Grammar.Lnot.{true_label, false_label, proposition, negated}
+use Rattle.hoa_parser.specs.Phrases.{Label, Lands, Lnot, Lnots, raw_conjunction, disjunction, label_meaning, label_tokens, lands_meaning, lands_tokens}
+use Rattle.hoa_parser.specs.Phrases.{lnot_meaning, lnot_tokens, lnots_meaning, lnots_tokens}
+use Rattle.hoa_parser.specs.Phrases.Label.{label}
+use Rattle.hoa_parser.specs.Phrases.Lands.{no_land, or_land}
+use Rattle.hoa_parser.specs.Phrases.Lnots.{no_lnot, and_lnot}
+use Rattle.hoa_parser.specs.Phrases.Lnot.{true_label, false_label, proposition, negated}
 use Rattle.hoa_parser.specs.Raw.{RawTree, raw_trees}
 use Rattle.aut_base.specs.CanonicalLabel.{Literal, cubes, is_independent}
 use Rattle.aut_base.specs.LabelText.{joined, literal_text, cube_text, cubes_text, label_text}

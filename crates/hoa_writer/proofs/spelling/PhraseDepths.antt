@@ -1,12 +1,12 @@
 -- The depth of every phrase has a bound: the number of its opening signs.
 use Rattle.std.proofs.Common.{ℕ, suc, ◌+◌, ◌≤◌, List, [], ◌∷◌, Option, Some, None, arith}
 use Rattle.std.specs.List.{AllByRecursion}
-use Rattle.hoa_parser.specs.Grammar.{Label, Lands, Lnot, Lnots, label, no_land, or_land, no_lnot, and_lnot, true_label, false_label, proposition}
-use Rattle.hoa_parser.specs.Grammar.{alias, negated, group, LabelWithin, LandsWithin, LnotsWithin, LnotWithin, Condition, Fands, Fatoms, Fatom}
-use Rattle.hoa_parser.specs.Grammar.{condition, no_fand, or_fand, no_fatom, and_fatom, true_condition, false_condition, infinitely, finitely}
-use Rattle.hoa_parser.specs.Grammar.{condition_group, ConditionWithin, FandsWithin, FatomsWithin, FatomWithin, ItemPhrase, alias_item}
-use Rattle.hoa_parser.specs.Grammar.{acceptance_item, states_item, start_item, names_item, acc_name_item, tool_item, name_item, properties_item}
-use Rattle.hoa_parser.specs.Grammar.{other_item, ItemWithin, OptionalWithin, EdgePhrase, StatePhrase, StateWithin, AutomatonPhrase, AutomatonWithin}
+use Rattle.hoa_parser.specs.Phrases.{Label, Lands, Lnot, Lnots, label, no_land, or_land, no_lnot, and_lnot, true_label, false_label, proposition}
+use Rattle.hoa_parser.specs.Phrases.{alias, negated, group, LabelWithin, LandsWithin, LnotsWithin, LnotWithin, Condition, Fands, Fatoms, Fatom}
+use Rattle.hoa_parser.specs.Phrases.{condition, no_fand, or_fand, no_fatom, and_fatom, true_condition, false_condition, infinitely, finitely}
+use Rattle.hoa_parser.specs.Phrases.{condition_group, ConditionWithin, FandsWithin, FatomsWithin, FatomWithin, ItemPhrase, alias_item}
+use Rattle.hoa_parser.specs.Phrases.{acceptance_item, states_item, start_item, names_item, acc_name_item, tool_item, name_item, properties_item}
+use Rattle.hoa_parser.specs.Phrases.{other_item, ItemWithin, OptionalWithin, EdgePhrase, StatePhrase, StateWithin, AutomatonPhrase, AutomatonWithin}
 
 -- the number of `(` and `!` in a label
 abbrev mutual

@@ -1,7 +1,7 @@
 use Rattle.hoa_parser.proofs.reading.RuleParts.{list_next, list_none}
 use Rattle.hoa_parser.proofs.reading.Steps.{fails_after, handed_on, no_memory, reads_then, reads_end}
 use Rattle.hoa_parser.specs.inner.Expecting as part
-use Rattle.hoa_parser.specs.Grammar.{OptionalWithin, edge_meaning, edge_tokens}
+use Rattle.hoa_parser.specs.Phrases.{OptionalWithin, edge_meaning, edge_tokens}
 use Rattle.hoa_parser.specs.Raw.{written_edge}
 use Rattle.hoa_parser.specs.Standing.{most_depth}
 use Rattle.hoa_parser.proofs.grammar.OtherTokens.{other}

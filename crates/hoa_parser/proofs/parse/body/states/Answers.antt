@@ -2,7 +2,7 @@ use Rattle.std.proofs.Common.{[]}
 use Rattle.hoa_parser.proofs.reading.RuleParts.{list_next, list_none}
 use Rattle.hoa_parser.proofs.reading.Steps.{fails_after, handed_on, no_memory, reads_then, reads_as, reads_at, token_refused}
 use Rattle.hoa_parser.specs.inner.Expecting as part
-use Rattle.hoa_parser.specs.Grammar.{StateWithin, state_meaning, state_tokens}
+use Rattle.hoa_parser.specs.Phrases.{StateWithin, state_meaning, state_tokens}
 use Rattle.hoa_parser.specs.Raw.{written_state}
 use Rattle.hoa_parser.specs.Standing.{most_depth}
 use Rattle.hoa_parser.proofs.grammar.OtherTokens.{other}

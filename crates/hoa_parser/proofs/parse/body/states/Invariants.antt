@@ -2,7 +2,7 @@ use Rattle.hoa_parser.proofs.reading.Loops.{GoesOn, bytes_left}
 use Rattle.hoa_parser.specs.inner.Expecting as part
 use Rattle.hoa_parser.specs.inner.Parsing.{reader_state}
 use Rattle.hoa_parser.proofs.reading.RuleParts.{ListSo}
-use Rattle.hoa_parser.specs.Grammar.{StateWithin, state_meaning, state_tokens}
+use Rattle.hoa_parser.specs.Phrases.{StateWithin, state_meaning, state_tokens}
 use Rattle.hoa_parser.specs.Raw.{written_state}
 use Rattle.hoa_parser.specs.Standing.{most_depth}
 use Rattle.hoa_parser.proofs.parse.body.states.Given as goal

@@ -10,7 +10,7 @@ use Rattle.aut_base.proofs.trees.FormulaTrees.{formula_tree-And, formula_tree-Or
 use Rattle.hoa_parser.proofs.reading.Chains.{chain_first, chain_next}
 use Rattle.hoa_parser.proofs.reading.ConditionChains.{condition_of, fand_of, fands_whole, fatoms_whole}
 use Rattle.hoa_parser.proofs.reading.ConditionReads.{group_of}
-use Rattle.hoa_parser.specs.Grammar.{no_fand, no_fatom}
+use Rattle.hoa_parser.specs.Phrases.{no_fand, no_fatom}
 use Rattle.hoa_parser.specs.inner.RuleReads.{IsAndFatom, IsAndFatoms, IsCondition, IsFand, IsFatom, IsOrFand, IsOrFands}
 use Rattle.aut_base.specs.Formula.{formula_tree}
 use Rattle.aut_base.specs.declared.formula.Formula.TheVariants as rust

@@ -6,7 +6,7 @@ use Rattle.hoa_parser.proofs.reading.Atoms.{no_sign, sign_found, sign_word}
 use Rattle.hoa_parser.proofs.reading.Sets.{sign_alone, sign_opens, sign_taken, sign_taken_here, sign_with_set}
 use Rattle.hoa_parser.proofs.reading.Steps.{handed_on, next_fails, next_reads, reads_as, takes_last, token_refused}
 use Rattle.hoa_parser.specs.inner.Expecting.{Atom}
-use Rattle.hoa_parser.specs.Grammar.{false_condition, finitely, infinitely, true_condition}
+use Rattle.hoa_parser.specs.Phrases.{false_condition, finitely, infinitely, true_condition}
 use Rattle.hoa_parser.specs.declared.parse.condition.Sign.{Sign}
 use Rattle.hoa_parser.specs.declared.parse.condition.Sign.TheVariants as sign
 use Rattle.hoa_parser.proofs.parse.condition.atom.Goals as goal

@@ -10,7 +10,7 @@ use Rattle.hoa_parser.proofs.grammar.RawTrees.{raw_tree-And, raw_tree-Or}
 use Rattle.hoa_parser.proofs.reading.Chains.{chain_first, chain_next}
 use Rattle.hoa_parser.proofs.reading.LabelChains.{label_of, land_of, lands_whole, lnots_whole}
 use Rattle.hoa_parser.proofs.reading.LabelReads.{group_of, negated_of}
-use Rattle.hoa_parser.specs.Grammar.{no_land, no_lnot}
+use Rattle.hoa_parser.specs.Phrases.{no_land, no_lnot}
 use Rattle.hoa_parser.specs.inner.RuleReads.{IsAndLnot, IsAndLnots, IsLabel, IsLand, IsLnot, IsOrLand, IsOrLands}
 use Rattle.hoa_parser.specs.Raw.{RawTree, raw_parts, raw_tree, raw_trees}
 use Rattle.hoa_parser.specs.declared.raw.RawLabels.{RawLabels}
