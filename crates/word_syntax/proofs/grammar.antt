@@ -1,5 +1,6 @@
 -- The parsers of words and letters accept exactly what the grammar derives.
 pub mod Completions
+pub mod FromLeft
 pub mod InLetters
 pub mod LetterParts
 pub mod LetterRuns

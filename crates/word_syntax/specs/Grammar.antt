@@ -6,8 +6,9 @@
 --     operand     = "1" | "0" | NAME | "!" operand | "(" letter ")"
 --
 -- A formula refers to a proposition by the index of its name in the list of names.
-use Rattle.std.specs.Prelude.{◌≡◌, ℕ, suc, List, [], ◌∷◌, ◌++◌, Some, filter, not, slice_get}
+use Rattle.std.specs.Prelude.{◌≡◌, ℕ, List, [], ◌∷◌, ◌++◌, Some, filter, not, slice_get}
 use Rattle.aut_base.specs.CanonicalLabel.{all_of, one_of}
+use Rattle.aut_base.specs.Chains.{Chains, IsSum}
 use Rattle.aut_base.specs.Label as label
 use Rattle.aut_base.specs.Label.{LabelTree}
 use Rattle.aut_base.specs.Text.{same_text}
@@ -21,43 +22,32 @@ pub record WordPattern : Type 0 where
   pub stem : List LabelTree
   pub cycle : List LabelTree
 
--- The rules for a letter, over a list of names, where no more than `room` of `(` and `!` may be open at once. A chain
--- of `&` or `|` is one conjunction or disjunction of its parts in order; a single part is its own.
-mutual
-  -- operand = "1" | "0" | NAME | "!" operand | "(" letter ")"
-  pub data IsOperand : List (List ℕ) → ℕ → List Token → LabelTree → Type 0 where
-    always : {names : List (List ℕ)} {room : ℕ} → IsOperand names room (token.True ∷ []) label.True
-    never : {names : List (List ℕ)} {room : ℕ} → IsOperand names room (token.False ∷ []) label.False
-    proposition : {names : List (List ℕ)} {room : ℕ} (name : List ℕ) (place : ℕ) → slice_get names place ≡ Some name → IsOperand names room (token.Name name ∷ []) (label.Prop place)
-    negated : {names : List (List ℕ)} {room : ℕ} {w : List Token} {t : LabelTree} → IsOperand names room w t → IsOperand names (suc room) (token.Not ∷ w) (label.Not t)
-    group : {names : List (List ℕ)} {room : ℕ} {w : List Token} {t : LabelTree} → IsLetter names room w t → IsOperand names (suc room) (token.LeftParen ∷ (w ++ token.RightParen ∷ [])) t
+-- "1" | "0" | NAME, over a list of names
+pub data IsLetterAtom (names : List (List ℕ)) : List Token → LabelTree → Type 0 where
+  always : IsLetterAtom names (token.True ∷ []) label.True
+  never : IsLetterAtom names (token.False ∷ []) label.False
+  proposition : (name : List ℕ) (place : ℕ) → slice_get names place ≡ Some name → IsLetterAtom names (token.Name name ∷ []) (label.Prop place)
 
-  -- (operand "&")*
-  pub data AreConjuncts : List (List ℕ) → ℕ → List Token → List LabelTree → Type 0 where
-    no_operand : {names : List (List ℕ)} {room : ℕ} → AreConjuncts names room [] []
-    operand : {names : List (List ℕ)} {room : ℕ} {v w u : List Token} {ts us : List LabelTree} {t : LabelTree} → AreConjuncts names room v ts → IsOperand names room w t
-        → u ≡ v ++ (w ++ token.And ∷ []) → us ≡ ts ++ t ∷ [] → AreConjuncts names room u us
-
-  -- conjunction = (operand "&")* operand
-  pub data IsConjunction : List (List ℕ) → ℕ → List Token → LabelTree → Type 0 where
-    joined : {names : List (List ℕ)} {room : ℕ} {v w u : List Token} {ts : List LabelTree} {t c : LabelTree} → AreConjuncts names room v ts → IsOperand names room w t → u ≡ v ++ w
-        → c ≡ all_of (ts ++ t ∷ []) → IsConjunction names room u c
-
-  -- (conjunction "|")*
-  pub data AreConjunctions : List (List ℕ) → ℕ → List Token → List LabelTree → Type 0 where
-    no_conjunction : {names : List (List ℕ)} {room : ℕ} → AreConjunctions names room [] []
-    alternative : {names : List (List ℕ)} {room : ℕ} {v w u : List Token} {ts us : List LabelTree} {t : LabelTree} → AreConjunctions names room v ts → IsConjunction names room w t
-        → u ≡ v ++ (w ++ token.Or ∷ []) → us ≡ ts ++ t ∷ [] → AreConjunctions names room u us
-
-  -- letter = (conjunction "|")* conjunction
-  pub data IsLetter : List (List ℕ) → ℕ → List Token → LabelTree → Type 0 where
-    either : {names : List (List ℕ)} {room : ℕ} {v w u : List Token} {ts : List LabelTree} {t l : LabelTree} → AreConjunctions names room v ts → IsConjunction names room w t → u ≡ v ++ w
-        → l ≡ one_of (ts ++ t ∷ []) → IsLetter names room u l
+-- letter = (conjunction "|")* conjunction
+-- conjunction = (operand "&")* operand
+-- operand = "1" | "0" | NAME | "!" operand | "(" letter ")"
+abbrev pub letters_over : List (List ℕ) → Chains Token LabelTree
+letters_over names = record {
+  bang = token.Not;
+  amp = token.And;
+  bar = token.Or;
+  left = token.LeftParen;
+  right = token.RightParen;
+  IsAtom = IsLetterAtom names;
+  Negates = λ t u. u ≡ label.Not t;
+  conjunction = all_of;
+  disjunction = one_of;
+}
 
 -- (letter ";")*
 pub data AreLetters (names : List (List ℕ)) (room : ℕ) : List Token → List LabelTree → Type 0 where
   no_letter : AreLetters names room [] []
-  letter : {v w u : List Token} {ts us : List LabelTree} {t : LabelTree} → AreLetters names room v ts → IsLetter names room w t → u ≡ v ++ (w ++ token.Semicolon ∷ []) → us ≡ ts ++ t ∷ []
+  letter : {v w u : List Token} {ts us : List LabelTree} {t : LabelTree} → AreLetters names room v ts → IsSum (letters_over names) room w t → u ≡ v ++ (w ++ token.Semicolon ∷ []) → us ≡ ts ++ t ∷ []
       → AreLetters names room u us
 
 -- the names among the tokens, in order
@@ -86,7 +76,7 @@ pub record IsWord (tokens : List Token) (p : WordPattern) : Type 0 where
   pub names : p.names ≡ distinct (token_names tokens)
   pub stem : AreLetters p.names most_open stem_tokens p.stem
   pub letters : AreLetters p.names most_open cycle_tokens first
-  pub last_letter : IsLetter p.names most_open last_tokens last
+  pub last_letter : IsSum (letters_over p.names) most_open last_tokens last
   pub cycle : p.cycle ≡ first ++ last ∷ []
   pub spelled : tokens ≡ stem_tokens ++ (token.Cycle ∷ token.LeftBrace ∷ (cycle_tokens ++ (last_tokens ++ token.RightBrace ∷ [])))
 

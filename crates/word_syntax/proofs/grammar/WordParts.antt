@@ -8,7 +8,8 @@ use Rattle.std.specs.Option.{option_map}
 use Rattle.aut_base.specs.declared.limit.TheConstants.{MOST_DEPTH}
 use Rattle.aut_base.specs.Label.{LabelTree}
 use Rattle.word_syntax.proofs.grammar.LetterParts.{IsLevel, IsPart, Knows, Surrounds, level_letter, nots, part_fresh, part_step}
-use Rattle.word_syntax.specs.Grammar.{AreConjunctions, AreLetters, AreConjuncts, IsLetter, IsWord, alternative, distinct, letter, token_names, no_conjunction, no_letter, no_operand, operand}
+use Rattle.word_syntax.specs.Grammar.{AreLetters, IsWord, distinct, letter, token_names, no_letter}
+use Rattle.word_syntax.proofs.grammar.FromLeft.{AreConjunctions, AreConjuncts, IsLetter, alternative, no_conjunction, no_operand, operand, letter_sum}
 use Rattle.word_syntax.specs.inner.Machine as machine
 use Rattle.word_syntax.specs.inner.Machine.{LetterState, LevelTree, WordState, is_fresh, is_none, is_of_letter, letter_step, level_label, whole_letter, with_letter, word_step}
 use Rattle.word_syntax.specs.declared.stage.Stage.{Stage}
@@ -129,7 +130,7 @@ semicolon_part : (names : List (List ℕ)) (stem cycle : List LabelTree) (stage 
 semicolon_part names stem cycle Stem l next t tokens p whole step = part_at names _ next (tokens ++ token.Semicolon ∷ []) step (record {
   stem_tokens = p.stem_tokens ++ (p.letter_tokens ++ token.Semicolon ∷ []);
   letter_tokens = [];
-  stem = letter p.stem (whole_part names l p.letter_tokens t p.part whole) refl refl;
+  stem = letter p.stem (letter_sum (whole_part names l p.letter_tokens t p.part whole)) refl refl;
   part = part_fresh names;
   cycle = p.cycle;
   spelled = ap (λ (x : List Token). x ++ token.Semicolon ∷ []) p.spelled
@@ -140,7 +141,7 @@ semicolon_part names stem cycle Cycle l next t tokens p whole step = part_at nam
   cycle_tokens = p.cycle_tokens ++ (p.letter_tokens ++ token.Semicolon ∷ []);
   letter_tokens = [];
   stem = p.stem;
-  cycle = letter p.cycle (whole_part names l p.letter_tokens t p.part whole) refl refl;
+  cycle = letter p.cycle (letter_sum (whole_part names l p.letter_tokens t p.part whole)) refl refl;
   part = part_fresh names;
   spelled = ap (λ (x : List Token). x ++ token.Semicolon ∷ []) p.spelled ∙ five p.stem_tokens p.cycle_tokens p.letter_tokens token.Cycle token.LeftBrace token.Semicolon;
 })
@@ -159,7 +160,7 @@ brace_part names stem cycle Cycle l next t tokens p whole step = part_at names _
   names = names_are;
   stem = p.stem;
   letters = p.cycle;
-  last_letter = whole_part names l p.letter_tokens t p.part whole;
+  last_letter = letter_sum (whole_part names l p.letter_tokens t p.part whole);
   cycle = refl;
   spelled = ap (λ (x : List Token). x ++ token.RightBrace ∷ []) p.spelled ∙ four p.stem_tokens p.cycle_tokens p.letter_tokens token.Cycle token.LeftBrace token.RightBrace;
 })

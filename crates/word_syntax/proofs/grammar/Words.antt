@@ -12,6 +12,7 @@ use Rattle.word_syntax.proofs.grammar.Runs.{runs_once, runs_over, runs_push, run
 use Rattle.word_syntax.specs.inner.Runs.{RunsTokens}
 use Rattle.word_syntax.proofs.grammar.WordParts.{IsWordPart, PartAt, word, word_part_start, word_part_step}
 use Rattle.word_syntax.specs.Grammar.{AreLetters, IsPrefixOfWord, IsWord, WordPattern, distinct, letter, token_names, no_letter}
+use Rattle.word_syntax.proofs.grammar.FromLeft.{sum_letter}
 use Rattle.word_syntax.specs.inner.Chains.{Agrees}
 use Rattle.word_syntax.specs.inner.Reading.{HasReadTokens}
 use Rattle.word_syntax.specs.inner.Machine.{WordState, fresh, with_letter, word_start, word_step}
@@ -24,9 +25,9 @@ use Rattle.word_syntax.specs.declared.token.Token.TheVariants as token
 stem_runs : (place : List ℕ → ℕ) {names : List (List ℕ)} {w : List Token} {ts : List LabelTree} → Agrees place names → AreLetters names MOST_DEPTH w ts
     → RunsTokens (word_step place) word_start w (word ts [] Stem fresh)
 stem_runs place agrees no_letter = refl
-stem_runs place agrees (letter {v = v} {w = w} {u = u} {ts = ts} {us = us} {t = t} before one spelled parts) =
+stem_runs place {names = names} agrees (letter {v = v} {w = w} {u = u} {ts = ts} {us = us} {t = t} before one spelled parts) =
     let first = stem_runs place agrees before in
-    let read = letter_runs place agrees one [] 0 (omega arith) in
+    let read = letter_runs place agrees (sum_letter names one) [] 0 (omega arith) in
     let here : WordState = word ts [] Stem fresh in
     let second = lifted place here fresh (ended [] read.inner) w refl read.runs in
     let third = runs_push (word_step place) here (with_letter here (ended [] read.inner)) (word (ts ++ t ∷ []) [] Stem fresh) w token.Semicolon second
@@ -37,9 +38,9 @@ stem_runs place agrees (letter {v = v} {w = w} {u = u} {ts = ts} {us = us} {t = 
 cycle_runs : (place : List ℕ → ℕ) (stem : List LabelTree) {names : List (List ℕ)} {w : List Token} {ts : List LabelTree} → Agrees place names → AreLetters names MOST_DEPTH w ts
     → RunsTokens (word_step place) (word stem [] Cycle fresh) w (word stem ts Cycle fresh)
 cycle_runs place stem agrees no_letter = refl
-cycle_runs place stem agrees (letter {v = v} {w = w} {u = u} {ts = ts} {us = us} {t = t} before one spelled parts) =
+cycle_runs place stem {names = names} agrees (letter {v = v} {w = w} {u = u} {ts = ts} {us = us} {t = t} before one spelled parts) =
     let first = cycle_runs place stem agrees before in
-    let read = letter_runs place agrees one [] 0 (omega arith) in
+    let read = letter_runs place agrees (sum_letter names one) [] 0 (omega arith) in
     let here : WordState = word stem ts Cycle fresh in
     let second = lifted place here fresh (ended [] read.inner) w refl read.runs in
     let third = runs_push (word_step place) here (with_letter here (ended [] read.inner)) (word stem (ts ++ t ∷ []) Cycle fresh) w token.Semicolon second
@@ -53,7 +54,7 @@ pub word_runs : (place : List ℕ → ℕ) (tokens : List Token) (p : WordPatter
 word_runs place tokens p agrees w =
     let stem = stem_runs place agrees w.stem in
     let letters = cycle_runs place p.stem agrees w.letters in
-    let read = letter_runs place agrees w.last_letter [] 0 (omega arith) in
+    let read = letter_runs place agrees (sum_letter p.names w.last_letter) [] 0 (omega arith) in
     let here : WordState = word p.stem w.first Cycle fresh in
     let last : WordState = word p.stem (w.first ++ w.last ∷ []) End fresh in
     let final = runs_push (word_step place) here (with_letter here (ended [] read.inner)) last w.last_tokens token.RightBrace

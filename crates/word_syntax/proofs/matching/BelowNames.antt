@@ -6,9 +6,8 @@ use Rattle.aut_base.proofs.lists.AllByRecursion.{AllByRecursion-push}
 use Rattle.aut_base.proofs.canonical.CanonicalBelow.{all_of_below, one_of_below}
 use Rattle.aut_base.specs.CanonicalLabel.{all_of, one_of}
 use Rattle.aut_base.specs.Label.{AllBelow, LabelTree}
-use Rattle.word_syntax.specs.Grammar.{AreConjunctions, AreLetters, AreConjuncts, IsConjunction, IsLetter, IsOperand, IsWord, WordPattern, alternative}
-use Rattle.word_syntax.specs.Grammar.{always, either, group, joined, letter, negated, never, no_conjunction, no_letter, no_operand, operand}
-use Rattle.word_syntax.specs.Grammar.{proposition}
+use Rattle.word_syntax.specs.Grammar.{AreLetters, IsWord, WordPattern, letter, no_letter}
+use Rattle.word_syntax.proofs.grammar.FromLeft.{AreConjunctions, AreConjuncts, IsConjunction, IsLetter, IsOperand, alternative, always, either, group, joined, negated, never, no_conjunction, no_operand, operand, proposition, sum_letter}
 use Rattle.word_syntax.specs.declared.token.Token.{Token}
 
 along : (n : ℕ) (t u : LabelTree) → t ≡ u → AllBelow n u → AllBelow n t
@@ -47,14 +46,14 @@ mutual
 letters_below : {names : List (List ℕ)} {room : ℕ} {w : List Token} {ts : List LabelTree} → AreLetters names room w ts → AllByRecursion (AllBelow (length names)) ts
 letters_below no_letter = tt
 letters_below {names = names} (letter {ts = ts} {us = us} {t = t} before one spelled parts) =
-    all_along (length names) us (ts ++ t ∷ []) parts (AllByRecursion-push (AllBelow (length names)) ts t (letters_below before) (letter_below one))
+    all_along (length names) us (ts ++ t ∷ []) parts (AllByRecursion-push (AllBelow (length names)) ts t (letters_below before) (letter_below (sum_letter names one)))
 
 pub stem_below : (tokens : List Token) (p : WordPattern) → IsWord tokens p → AllByRecursion (AllBelow (length p.names)) p.stem
 stem_below tokens p w = letters_below w.stem
 
 pub cycle_below : (tokens : List Token) (p : WordPattern) → IsWord tokens p → AllByRecursion (AllBelow (length p.names)) p.cycle
 cycle_below tokens p w = all_along (length p.names) p.cycle (w.first ++ w.last ∷ []) w.cycle
-    (AllByRecursion-push (AllBelow (length p.names)) w.first w.last (letters_below w.letters) (letter_below w.last_letter))
+    (AllByRecursion-push (AllBelow (length p.names)) w.first w.last (letters_below w.letters) (letter_below (sum_letter p.names w.last_letter)))
 
 pub some_cycle : (tokens : List Token) (p : WordPattern) → IsWord tokens p → 0 < length p.cycle
 some_cycle tokens p w = let e : length p.cycle ≡ length (w.first ++ w.last ∷ []) = ap (λ (x : List LabelTree). length x) w.cycle in omega (arith, length-append w.first (w.last ∷ []))

@@ -17,14 +17,15 @@ use Rattle.aut_base.proofs.words.Spelled.{stem_letter, word_letter}
 use Rattle.aut_base.proofs.words.Texts.{differ_texts}
 use Rattle.aut_base.specs.CanonicalLabel.{all_of}
 use Rattle.aut_base.specs.Label as label
+use Rattle.aut_base.specs.Chains.{IsSum}
 use Rattle.aut_base.specs.Label.{LabelTree, holds_at, trees, truth}
 use Rattle.aut_base.specs.Text.{same_text}
 use Rattle.aut_base.specs.Word.{NameSet, SpellsSame, copies}
 use Rattle.word_syntax.proofs.lassos.Cyclic.{at_cycle, copies_at, mod_of_multiple}
 use Rattle.word_syntax.proofs.grammar.NamePlaces.{Differ, Has, contains_has, has_contains, mutual_push, names_of-append, others}
 use Rattle.word_syntax.proofs.printing.PrintedTokens.{cycle_tokens, letter_tokens, literal_tokens, literals_tokens, printed_tokens, stem_tokens, word_tokens}
-use Rattle.word_syntax.specs.Grammar.{AreLetters, AreConjuncts, IsConjunction, IsLetter, IsOperand, IsWord, WordPattern, always, distinct, either}
-use Rattle.word_syntax.specs.Grammar.{joined, letter, token_names, negated, no_conjunction, no_letter, no_operand, operand, proposition}
+use Rattle.word_syntax.specs.Grammar.{AreLetters, IsWord, WordPattern, distinct, letter, token_names, no_letter, letters_over}
+use Rattle.word_syntax.proofs.grammar.FromLeft.{AreConjuncts, IsConjunction, IsOperand, always, either, joined, negated, no_conjunction, no_operand, operand, proposition, letter_sum}
 use Rattle.word_syntax.specs.Matching.{AllMeet, Matches}
 use Rattle.word_syntax.specs.ReadBack.{AgreesOn, AgreesUnrolled, AllAgree, PrintedIsReadBack}
 use Rattle.word_syntax.specs.declared.token.Token.{Token}
@@ -72,8 +73,8 @@ letter_conjunction : (all names : List (List ℕ)) (x : NameSet) → all ≡ nam
 letter_conjunction all [] x is = joined no_operand always refl refl
 letter_conjunction all (n ∷ ns) x is = conjunction_from all x [] 0 n ns [] [] is refl no_operand
 
-letter_written : (names : List (List ℕ)) (x : NameSet) → IsLetter names MOST_DEPTH (letter_tokens names x) (letter_tree names x)
-letter_written names x = either no_conjunction (letter_conjunction names names x refl) refl refl
+letter_written : (names : List (List ℕ)) (x : NameSet) → IsSum (letters_over names) MOST_DEPTH (letter_tokens names x) (letter_tree names x)
+letter_written names x = letter_sum (either no_conjunction (letter_conjunction names names x refl) refl refl)
 
 stem_written : (names : List (List ℕ)) (xs : List NameSet) (v : List Token) (ts : List LabelTree) → AreLetters names MOST_DEPTH v ts
     → AreLetters names MOST_DEPTH (v ++ stem_tokens names xs) (ts ++ map (letter_tree names) xs)
@@ -95,7 +96,7 @@ record CycleWritten (names : List (List ℕ)) (tokens : List Token) (trees : Lis
   first : List LabelTree
   last : LabelTree
   letters : AreLetters names MOST_DEPTH front first
-  last_letter : IsLetter names MOST_DEPTH last_tokens last
+  last_letter : IsSum (letters_over names) MOST_DEPTH last_tokens last
   spelled : tokens ≡ front ++ last_tokens
   parts : trees ≡ first ++ last ∷ []
 
