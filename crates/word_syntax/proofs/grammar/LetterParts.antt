@@ -9,7 +9,8 @@ use Rattle.aut_base.specs.CanonicalLabel.{all_of}
 use Rattle.aut_base.specs.Label as label
 use Rattle.aut_base.specs.Label.{LabelTree}
 use Rattle.word_syntax.proofs.grammar.LetterRuns.{awaiting, ended, level}
-use Rattle.word_syntax.proofs.grammar.FromLeft.{AreConjunctions, AreConjuncts, IsConjunction, IsLetter, IsOperand, alternative, always, either, group, joined, negated, never, no_conjunction, no_operand, operand, proposition}
+use Rattle.word_syntax.proofs.grammar.FromLeft.{AreConjunctions, AreConjuncts, IsConjunction, IsLetter, IsOperand}
+use Rattle.word_syntax.proofs.grammar.FromLeft.{alternative, always, either, group, joined, negated, never, no_conjunction, no_operand, operand, proposition}
 use Rattle.word_syntax.specs.inner.Machine as machine
 use Rattle.word_syntax.specs.inner.Machine.{LetterState, LevelTree, complete_level, fresh_level, may_nest, letter_step, level_label, nots_on}
 use Rattle.word_syntax.specs.declared.token.Token.{Token}

@@ -7,7 +7,8 @@ use Rattle.aut_base.proofs.canonical.CanonicalBelow.{all_of_below, one_of_below}
 use Rattle.aut_base.specs.CanonicalLabel.{all_of, one_of}
 use Rattle.aut_base.specs.Label.{AllBelow, LabelTree}
 use Rattle.word_syntax.specs.Grammar.{AreLetters, IsWord, WordPattern, letter, no_letter}
-use Rattle.word_syntax.proofs.grammar.FromLeft.{AreConjunctions, AreConjuncts, IsConjunction, IsLetter, IsOperand, alternative, always, either, group, joined, negated, never, no_conjunction, no_operand, operand, proposition, sum_letter}
+use Rattle.word_syntax.proofs.grammar.FromLeft.{AreConjunctions, AreConjuncts, IsConjunction, IsLetter, IsOperand}
+use Rattle.word_syntax.proofs.grammar.FromLeft.{alternative, always, either, group, joined, negated, never, no_conjunction, no_operand, operand, proposition, sum_letter}
 use Rattle.word_syntax.specs.declared.token.Token.{Token}
 
 along : (n : ℕ) (t u : LabelTree) → t ≡ u → AllBelow n u → AllBelow n t
