@@ -13,11 +13,11 @@ use Rattle.hoa_parser.specs.Grammar as grammar
 use Rattle.hoa_parser.specs.Grammar.{AreMarks, Each, IsConditionAtom, IsEdge, IsItem, IsLabelAtom, IsOptionalLabel, IsState, SpellsAutomaton, and_number, conditions, formula_all}
 use Rattle.hoa_parser.specs.Grammar.{formula_any, is_value, labels, optional_text}
 use Rattle.hoa_parser.specs.Phrases as phrase
-use Rattle.hoa_parser.specs.Phrases.{AccValue, AutomatonPhrase, Condition, ConditionWithin, EdgePhrase, Fands, Fatom, FatomWithin, Fatoms, FatomsWithin, FandsWithin}
-use Rattle.hoa_parser.specs.Phrases.{ItemPhrase, ItemWithin, Label, LabelWithin, Lands, LandsWithin, Lnot, LnotWithin, Lnots, LnotsWithin, OptionalWithin}
-use Rattle.hoa_parser.specs.Phrases.{SpellsPhrase, StatePhrase, StateWithin, Value, acc_value_token, condition_meaning, condition_tokens, disjunction, edge_meaning, edge_tokens}
+use Rattle.hoa_parser.specs.Phrases.{AccValue, Condition, ConditionWithin, EdgePhrase, Fands, Fatom, FatomWithin, Fatoms, FatomsWithin, FandsWithin}
+use Rattle.hoa_parser.specs.Phrases.{ItemWithin, Label, LabelWithin, Lands, LandsWithin, Lnot, LnotWithin, Lnots, LnotsWithin, OptionalWithin}
+use Rattle.hoa_parser.specs.Phrases.{SpellsPhrase, StateWithin, Value, acc_value_token, condition_meaning, condition_tokens, edge_meaning, edge_tokens}
 use Rattle.hoa_parser.specs.Phrases.{fands_meaning, fands_tokens, fatom_meaning, fatom_tokens, fatoms_meaning, fatoms_tokens, formula_conjunction}
-use Rattle.hoa_parser.specs.Phrases.{formula_disjunction, item_meaning, item_tokens, label_meaning, label_tokens, lands_meaning, lands_tokens, lnot_meaning}
+use Rattle.hoa_parser.specs.Phrases.{item_meaning, item_tokens, label_meaning, label_tokens, lands_meaning, lands_tokens, lnot_meaning}
 use Rattle.hoa_parser.specs.Phrases.{lnot_tokens, lnots_meaning, lnots_tokens, marks_meaning, optional_label, optional_marks, raw_conjunction, state_meaning}
 use Rattle.hoa_parser.specs.Phrases.{state_tokens, value_token}
 use Rattle.hoa_parser.specs.Raw as raw
