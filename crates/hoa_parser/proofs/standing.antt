@@ -3,6 +3,7 @@ pub mod Begun
 pub mod DeadEnds
 pub mod Halts
 pub mod Hopeless
+pub mod Needed
 pub mod NextCases
 pub mod OneStanding
 pub mod OpenEnds

@@ -1,24 +1,20 @@
 -- What a reader answers, of what it has not read yet.
-use Rattle.std.specs.Prelude.{◌≡◌, ℕ, ◌⊎◌, List, [], ◌∷◌, ◌++◌, Option, None, Result, Ok, Err, is_some, not}
+use Rattle.std.specs.Prelude.{◌≡◌, ◌↔◌, ℕ, ◌⊎◌, List, [], ◌∷◌, ◌++◌, Option, None, Result, Ok, Err}
 use Rattle.hoa_lexer.specs.Moves.{Stop, AtEnd, AtFault, AtMost, Elsewhere}
 use Rattle.hoa_lexer.specs.Reading.{unread}
-use Rattle.hoa_lexer.specs.Spelling.{closes_itself}
+use Rattle.hoa_lexer.specs.Spelling.{IsDelimited}
 use Rattle.hoa_lexer.specs.Text.{AsksPast, IsNext}
 use Rattle.hoa_lexer.specs.declared.token.Token.{Token}
 use Rattle.hoa_parser.specs.Raw.{Written, written}
-use Rattle.hoa_parser.specs.Standing.{IsBad, IsBegun, IsDeep, IsWhole, Stands, Blank, Whole, Deep, Bad, Aborted, Cut}
+use Rattle.hoa_parser.specs.Standing.{AfterTokens, IsBad, IsDeep, IsWhole, Stands, Blank, Whole, Deep, Bad, Aborted, Cut}
 use Rattle.hoa_parser.specs.declared.fault.ReadFault.{ReadFault}
 use Rattle.hoa_parser.specs.declared.fault.ReadFault.TheVariants as fault
 use Rattle.hoa_parser.specs.declared.read.Front.{Front}
 use Rattle.hoa_parser.specs.declared.read.Front.TheVariants as front
 
 -- An automaton may have begun, and one byte more is asked for.
-pub record AsksOn (start : ℕ) (text new : List ℕ) : Type 0 where
-  pub tokens : List Token
-  pub used : ℕ
-  pub rest : List ℕ
-  pub begun : IsBegun start text tokens used rest
-  pub asks : AsksPast rest new
+abbrev pub AsksOn : ℕ → List ℕ → List ℕ → Type 0
+AsksOn start text new = AfterTokens start text (λ tokens used rest. AsksPast rest new)
 
 -- So it was before the last byte that was taken: nothing is taken past the byte that shows an answer.
 pub record AskedForLast (start : ℕ) (text left : List ℕ) : Type 0 where
@@ -33,12 +29,8 @@ pub record HasToken (used : ℕ) (rest new : List ℕ) : Type 0 where
 
 -- An automaton may have begun, and behind its closed tokens no more was read than bytes that ask for one more, or one more
 -- token.
-pub record MayHaveBegun (start : ℕ) (text new : List ℕ) : Type 0 where
-  pub tokens : List Token
-  pub used : ℕ
-  pub rest : List ℕ
-  pub begun : IsBegun start text tokens used rest
-  pub behind : AsksPast rest new ⊎ HasToken used rest new
+abbrev pub MayHaveBegun : ℕ → List ℕ → List ℕ → Type 0
+MayHaveBegun start text new = AfterTokens start text (λ tokens used rest. AsksPast rest new ⊎ HasToken used rest new)
 
 -- What each answer says of the unread bytes before and after. `start` is how many bytes of the text were used before.
 abbrev pub AnswersFront : Result Front ReadFault → ℕ → List ℕ → List ℕ → Type 0
@@ -60,13 +52,13 @@ pub record IsHopeless (k start : ℕ) (old left : List ℕ) : Type 0 where
   pub bad : IsBad start used k
   pub hopeless : (more : List ℕ) (w : Written) (rest : List ℕ) → IsWhole start (used ++ more) w rest → ⊥
 
--- A token opens one more than may be open, and `left` follows it, or the byte that closes it, where it needs one (`(` and `!` need
--- none): nothing is taken past that.
+-- A token opens one more than may be open, and `left` follows it, or the byte that closes it, where it needs one: nothing is taken
+-- past that. It needs none if it is delimited where the input ends, as `(` and `!` are.
 pub record EndsDeep (start : ℕ) (old left : List ℕ) : Type 0 where
   pub deep : IsDeep start old
   pub held : Option ℕ
   pub behind : deep.after ≡ unread held left
-  pub needed : is_some held ≡ not (closes_itself deep.next_token)
+  pub needed : IsDelimited deep.next_token [] ↔ (held ≡ None)
 
 -- What the bytes that were taken show. `left` is what is left in the inputs, behind a byte that is held.
 abbrev pub Shows : Result Front ReadFault → ℕ → List ℕ → List ℕ → Type 0

@@ -48,13 +48,17 @@ pub record IsMisplaced (k : ℕ) (tokens : List Token) (used : ℕ) (rest : List
 abbrev pub IsNoTokenAt : ℕ → ℕ → List ℕ → Type 0
 IsNoTokenAt k used rest = AfterBlanks rest (λ bytes. (k + length bytes ≡ used + length rest) × IsNoToken bytes)
 
--- The text cannot go on at offset k as it does.
-pub record IsBad (start : ℕ) (text : List ℕ) (k : ℕ) : Type 0 where
+-- An automaton has begun with some tokens, and this holds of them, of the bytes they took and of what is left.
+pub record AfterTokens (start : ℕ) (text : List ℕ) (Holds : List Token → ℕ → List ℕ → Type 0) : Type 0 where
   pub tokens : List Token
   pub used : ℕ
   pub rest : List ℕ
   pub begun : IsBegun start text tokens used rest
-  pub fault : IsMisplaced k tokens used rest ⊎ IsNoTokenAt k used rest
+  pub holds : Holds tokens used rest
+
+-- The text cannot go on at offset k as it does.
+abbrev pub IsBad : ℕ → List ℕ → ℕ → Type 0
+IsBad start text k = AfterTokens start text (λ tokens used rest. IsMisplaced k tokens used rest ⊎ IsNoTokenAt k used rest)
 
 -- A token opens one more than may be open.
 pub record IsDeep (start : ℕ) (text : List ℕ) : Type 0 where
@@ -71,26 +75,16 @@ pub record IsDeep (start : ℕ) (text : List ℕ) : Type 0 where
   pub too_deep : IsViable most_depth (tokens ++ next_token ∷ []) → ⊥
 
 -- the automaton is abandoned, and `after` follows its `--ABORT--`
-pub record IsAborted (start : ℕ) (text after : List ℕ) : Type 0 where
-  pub tokens : List Token
-  pub used : ℕ
-  pub rest : List ℕ
-  pub begun : IsBegun start text tokens used rest
-  pub some : tokens ≢ []
-  pub offset : ℕ
-  pub next : IsNext rest used token.Abort offset after
+abbrev pub IsAborted : ℕ → List ℕ → List ℕ → Type 0
+IsAborted start text after = AfterTokens start text (λ tokens used rest. (tokens ≢ []) × (offset : ℕ) × IsNext rest used token.Abort offset after)
 
 -- a text ends inside a comment, a string or another token
 abbrev pub EndsOpen : List ℕ → Type 0
 EndsOpen rest = AfterBlanks rest IsOpenComment ⊎ (AfterBlanks rest IsOpenString ⊎ AfterBlanks rest IsOpenToken)
 
 -- The text ends inside an automaton.
-pub record IsCut (start : ℕ) (text : List ℕ) : Type 0 where
-  pub tokens : List Token
-  pub used : ℕ
-  pub rest : List ℕ
-  pub begun : IsBegun start text tokens used rest
-  pub ends : (tokens ≢ []) × IsBlanks rest ⊎ EndsOpen rest
+abbrev pub IsCut : ℕ → List ℕ → Type 0
+IsCut start text = AfterTokens start text (λ tokens used rest. (tokens ≢ []) × IsBlanks rest ⊎ EndsOpen rest)
 
 -- what stands next
 pub data Standing : Type 0 where

@@ -1,13 +1,14 @@
 -- What is counted of a written automaton that keeps the rules, and the numbers that the counts may not pass.
-use Rattle.std.specs.Prelude.{◌≡◌, ◌+◌, ◌/◌, max, ℕ, Bool, true, false, not, if◌then◌else◌, nat_lt, List, [], ◌∷◌, ◌++◌, length, map, sum_by}
+use Rattle.std.specs.Prelude.{◌≡◌, ◌+◌, ◌/◌, max, ℕ, Bool, true, false, not, if◌then◌else◌, nat_lt, List, [], ◌∷◌, length, map, sum_by}
 use Rattle.std.specs.List.{AllByRecursion}
 use Rattle.std.specs.Option.{option_map_or}
 use Rattle.aut_base.specs.Label as label
 use Rattle.aut_base.specs.Label.{LabelTree, LabelTrees, label_size}
+use Rattle.hoa_reader.specs.Lists.{FirstIn}
 use Rattle.aut_base.specs.declared.limit.Limit.{Limit}
 use Rattle.aut_base.specs.declared.limit.Limit.TheVariants as limit
 use Rattle.aut_base.specs.declared.limit.TheConstants.{MOST_NAMES, MOST_SETS, MOST_STATES, MOST_EDGES, MOST_ALIASES}
-use Rattle.hoa_reader.specs.Described.{edges_of, expanded, meanings_of, state_count}
+use Rattle.hoa_reader.specs.Described.{edges_of, expanded, greatest, meanings_of, state_count}
 use Rattle.hoa_parser.specs.Raw.{RawTree, Written, WrittenEdge, WrittenState}
 use Rattle.hoa_reader.specs.Validity.{acceptance_of, aliases_among, body_labels, written_names}
 
@@ -24,11 +25,6 @@ abbrev mutual
   pub greatest_height : LabelTrees → ℕ
   greatest_height label.none = 0
   greatest_height (label.more t ts) = max (height t) (greatest_height ts)
-
--- the greatest number, 0 where there is none
-abbrev pub greatest : List ℕ → ℕ
-greatest [] = 0
-greatest (x ∷ xs) = max x (greatest xs)
 
 -- height and size of a label whose aliases are replaced
 abbrev pub height_in : Written → RawTree → ℕ
@@ -77,14 +73,8 @@ abbrev pub IsCountWithin : Counted → Type 0
 IsCountWithin c = nat_lt c.most c.count ≡ false
 
 -- The limit is that of a count that passes its number, and each that is examined before it is within its own.
-pub record PassesFirst (which : Limit) (w : Written) : Type 0 where
-  pub before : List Counted
-  pub first : Counted
-  pub after : List Counted
-  pub all : limit_counts w ≡ before ++ first ∷ after
-  pub earlier : AllByRecursion IsCountWithin before
-  pub passes : nat_lt first.most first.count ≡ true
-  pub shown : which ≡ first.which
+abbrev pub PassesFirst : Limit → Written → Type 0
+PassesFirst which w = (c : Counted) × FirstIn IsCountWithin (limit_counts w) c × (nat_lt c.most c.count ≡ true) × (which ≡ c.which)
 
 -- none passes its number
 abbrev pub PassesNone : Written → Type 0

@@ -1,10 +1,11 @@
 -- The automaton that is described by what is written. It is what it should be where no rule is broken.
-use Rattle.std.specs.Prelude.{◌/◌, ◌%◌, ◌^◌, ◌+◌, max, ℕ, zero, suc, not, ◌==◌, if◌then◌else◌, List, [], ◌∷◌, ◌++◌, length, map, filter, filter_map, find, flat_map, get_or}
+use Rattle.std.specs.Prelude.{◌/◌, ◌%◌, ◌^◌, ◌+◌, max, ℕ, zero, suc, ◌==◌, if◌then◌else◌, List, [], ◌∷◌, ◌++◌, length, map, filter, filter_map, find, flat_map, get_or}
 use Rattle.std.specs.List.{enumerate_from}
 use Rattle.std.specs.Option.{option_map_or}
 use Rattle.aut_base.specs.Automaton.{LabelledEdge, Automaton}
 use Rattle.aut_base.specs.CanonicalLabel.{all_of}
 use Rattle.aut_base.specs.Label.{LabelTree, LabelTrees}
+use Rattle.aut_base.specs.Lists.{distinct}
 use Rattle.aut_base.specs.Marks.{is_in}
 use Rattle.hoa_parser.specs.Raw as raw
 use Rattle.hoa_parser.specs.Raw.{RawTree, RawTrees, Written, WrittenEdge, WrittenState}
@@ -16,26 +17,21 @@ abbrev pub below : ℕ → List ℕ
 below zero = []
 below (suc n) = below n ++ n ∷ []
 
--- the numbers in order, each where it stands first
-abbrev pub without_repeats : List ℕ → List ℕ
-without_repeats [] = []
-without_repeats (x ∷ xs) = x ∷ filter (λ y. not (y == x)) (without_repeats xs)
+-- the greatest number, 0 where there is none
+abbrev pub greatest : List ℕ → ℕ
+greatest [] = 0
+greatest (x ∷ xs) = max x (greatest xs)
 
--- the least number that is above all of these
-abbrev pub after_all : List ℕ → ℕ
-after_all [] = 0
-after_all (x ∷ xs) = max (x + 1) (after_all xs)
-
--- the number of states is written, or follows from the numbers that are used
+-- the number of states is written, or is the least one that is above each number that is used
 abbrev pub state_count : Written → ℕ
-state_count w = get_or (filter_map states_item w.items) 0 (after_all (used_states w))
+state_count w = get_or (filter_map states_item w.items) 0 (greatest (map (λ q. q + 1) (used_states w)))
 
 -- the state that a start or an edge names
 abbrev pub only_state : List ℕ → ℕ
 only_state states = get_or states 0 0
 
 abbrev pub starts_of : Written → List ℕ
-starts_of w = without_repeats (map only_state (starts_written w))
+starts_of w = distinct ◌==◌ (map only_state (starts_written w))
 
 -- an alias and what it stands for, with no alias left in it
 pub record Meaning : Type 0 where

@@ -5,6 +5,7 @@ use Rattle.std.specs.Prelude.{filter_map, count_by, codes, get_or, Option, Some,
 use Rattle.std.specs.List.{AllByRecursion, list_any, list_all}
 use Rattle.aut_base.specs.Formula as formula
 use Rattle.aut_base.specs.Formula.{FormulaTree, FormulaTrees}
+use Rattle.hoa_reader.specs.Lists.{FirstIn}
 use Rattle.aut_base.specs.Text.{same_text}
 use Rattle.hoa_parser.specs.Raw as raw
 use Rattle.hoa_parser.specs.Raw.{RawTree, RawTrees, Written, WrittenEdge, WrittenItem, WrittenState, States, Start, Ap, AliasOf, Acceptance, AccName, Tool, Name, Properties, Other}
@@ -70,11 +71,8 @@ written_names w = get_or (filter_map names_item w.items) 0 []
 abbrev pub alias_lines : Written → List AliasLine
 alias_lines w = filter_map alias_item w.items
 
-abbrev pub no_acceptance : AcceptanceLine
-no_acceptance = record { sets = 0; formula = formula.True }
-
 abbrev pub acceptance_of : Written → AcceptanceLine
-acceptance_of w = get_or (filter_map acceptance_item w.items) 0 no_acceptance
+acceptance_of w = get_or (filter_map acceptance_item w.items) 0 (record { sets = 0; formula = formula.True })
 
 -- the groups of states that `Start:` lines and edges name, each of which should be one state
 abbrev pub starts_written : Written → List (List ℕ)
@@ -84,11 +82,8 @@ abbrev pub edges_written : Written → List WrittenEdge
 edges_written w = flat_map (λ s. s.edges) w.states
 
 -- the labels of states and edges
-abbrev pub state_labels : WrittenState → List RawTree
-state_labels s = option_to_list s.label ++ flat_map (λ e. option_to_list e.label) s.edges
-
 abbrev pub body_labels : Written → List RawTree
-body_labels w = flat_map state_labels w.states
+body_labels w = flat_map (λ s. option_to_list s.label ++ flat_map (λ e. option_to_list e.label) s.edges) w.states
 
 -- every number of a state, wherever it stands
 abbrev pub used_states : Written → List ℕ
@@ -172,11 +167,8 @@ abbrev pub has_counted_names : Written → Bool
 has_counted_names w = list_all names_agree w.items
 
 -- V5: each start is one state, and each edge leads to one.
-abbrev pub is_one_state : List ℕ → Bool
-is_one_state states = length states == 1
-
 abbrev pub names_single_states : Written → Bool
-names_single_states w = list_all is_one_state (starts_written w) && list_all (λ e. is_one_state e.to) (edges_written w)
+names_single_states w = list_all (λ states. length states == 1) (starts_written w) && list_all (λ e. length e.to == 1) (edges_written w)
 
 -- V6: where the number of states is written, every state is below it.
 abbrev pub states_are_below : Written → Bool
@@ -215,24 +207,15 @@ abbrev pub defines_states_once : Written → Bool
 defines_states_once w = all_differ ◌==◌ (map (λ s. s.number) w.states)
 
 -- V11: in a state with a label no edge has one; in another all edges have one, or none has.
-abbrev pub all_edges_labelled : WrittenState → Bool
-all_edges_labelled s = list_all (λ e. is_some e.label) s.edges
-
 abbrev pub no_edge_labelled : WrittenState → Bool
 no_edge_labelled s = list_all (λ e. is_none e.label) s.edges
 
-abbrev pub labels_one_way : WrittenState → Bool
-labels_one_way s = no_edge_labelled s || (is_none s.label && all_edges_labelled s)
-
 abbrev pub labels_each_state_one_way : Written → Bool
-labels_each_state_one_way w = list_all labels_one_way w.states
+labels_each_state_one_way w = list_all (λ s. no_edge_labelled s || (is_none s.label && list_all (λ e. is_some e.label) s.edges)) w.states
 
 -- V12: a state without any label has no edges, or one for each letter over n names.
-abbrev pub has_no_label : WrittenState → Bool
-has_no_label s = is_none s.label && no_edge_labelled s
-
 abbrev pub has_edge_per_letter : ℕ → WrittenState → Bool
-has_edge_per_letter n s = (length s.edges == 0) || ((length s.edges == 2 ^ n) || not (has_no_label s))
+has_edge_per_letter n s = (length s.edges == 0) || ((length s.edges == 2 ^ n) || not (is_none s.label && no_edge_labelled s))
 
 abbrev pub has_edges_for_all_letters : Written → Bool
 has_edges_for_all_letters w = list_all (has_edge_per_letter (length (written_names w))) w.states
@@ -255,24 +238,10 @@ keeps_rule V12 = has_edges_for_all_letters
 abbrev pub rules : List Rule
 rules = V1 ∷ V2 ∷ V3 ∷ V4 ∷ V5 ∷ V6 ∷ V7 ∷ V8 ∷ V9 ∷ V10 ∷ V11 ∷ V12 ∷ []
 
-abbrev pub IsRuleKept : Rule → Written → Type 0
-IsRuleKept rule w = keeps_rule rule w ≡ true
-
-abbrev pub IsBroken : Rule → Written → Type 0
-IsBroken rule w = keeps_rule rule w ≡ false
-
--- each rule of the list is kept
-abbrev pub AreRulesKept : List Rule → Written → Type 0
-AreRulesKept list w = AllByRecursion (λ rule. IsRuleKept rule w) list
-
 -- The rule is broken, and each that is examined before it is kept.
-pub record IsFirstBroken (rule : Rule) (w : Written) : Type 0 where
-  pub before : List Rule
-  pub after : List Rule
-  pub all : rules ≡ before ++ rule ∷ after
-  pub earlier : AreRulesKept before w
-  pub broken : IsBroken rule w
+abbrev pub IsFirstBroken : Rule → Written → Type 0
+IsFirstBroken rule w = FirstIn (λ other. keeps_rule other w ≡ true) rules rule × (keeps_rule rule w ≡ false)
 
 -- none is broken
 abbrev pub IsValid : Written → Type 0
-IsValid = AreRulesKept rules
+IsValid w = AllByRecursion (λ rule. keeps_rule rule w ≡ true) rules

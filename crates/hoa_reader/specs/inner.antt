@@ -7,9 +7,11 @@ pub mod Growing
 pub mod Headers
 pub mod Implicit
 pub mod Links
+pub mod Numbers
 pub mod PickedOut
 pub mod Places
 pub mod Rising
+pub mod Rules
 pub mod Sums
 pub mod TreeEdges
 pub mod Weighing

@@ -6,10 +6,7 @@ use Rattle.aut_base.specs.Automaton.{LabelledEdge, Automaton}
 use Rattle.aut_base.specs.Formula.{FormulaTree, FormulaTrees, True, False, Inf, Fin, And, Or, none, more}
 use Rattle.aut_base.specs.LabelText.{joined, label_text}
 pub use Rattle.aut_base.specs.Strings.{escaped_byte, quoted}
-
--- the bytes and a line feed
-abbrev pub line : List ℕ → List ℕ
-line bytes = bytes ++ 10 ∷ []
+use Rattle.aut_base.specs.Text.{line}
 
 -- the number of an acceptance set, with `!` before it where it is negated
 abbrev pub set_text : ℕ → Bool → List ℕ

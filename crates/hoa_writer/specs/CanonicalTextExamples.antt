@@ -4,7 +4,8 @@ use Rattle.aut_base.specs.Automaton.{Automaton}
 use Rattle.aut_base.specs.Formula.{Inf, Fin, And, none}
 use Rattle.aut_base.specs.Label.{Prop, Not}
 use Rattle.aut_base.specs.LabelExamples.{both, either}
-use Rattle.hoa_writer.specs.CanonicalText.{canonical_text, line}
+use Rattle.aut_base.specs.Text.{line}
+use Rattle.hoa_writer.specs.CanonicalText.{canonical_text}
 
 -- the second name is `b"`
 abbrev pub two_states : Automaton

@@ -7,7 +7,8 @@ use Rattle.std.proofs.lemmas.Fmt.{decimal_digit}
 use Rattle.std.proofs.lemmas.List.{drop_all}
 use Rattle.std.proofs.Math.Seq.{drop-cons}
 use Rattle.aut_base.proofs.lists.Lists.{drop-slice_get}
-use Rattle.made_stream.specs.Made.{line, made_text, mark, ring_text, state_back, state_on}
+use Rattle.aut_base.specs.Text.{line}
+use Rattle.made_stream.specs.Made.{made_text, mark, ring_text, state_back, state_on}
 use Rattle.made_stream.specs.inner.Parts.{behind_part, behind_state, ring_part_text, rings_behind}
 use Rattle.made_stream.specs.declared.made.place.Part.{Part}
 use Rattle.made_stream.specs.declared.made.place.Part.TheVariants as part

@@ -4,12 +4,9 @@ use Rattle.std.specs.Prelude.{ℕ, ◌+◌, ◌-◌, ◌%◌, ◌==◌, if◌the
 use Rattle.std.specs.FinMap.{from_entries}
 use Rattle.std.specs.Fmt.{decimal}
 use Rattle.std.specs.List.{range_with_len}
+use Rattle.aut_base.specs.Text.{line}
 use Rattle.aut_io.specs.Outside.{Texts}
 use Rattle.aut_io.specs.Seen.{Seen}
-
--- the bytes and a line feed
-abbrev pub line : List ℕ → List ℕ
-line bytes = bytes ++ 10 ∷ []
 
 -- a state, and the edge to the next one
 abbrev pub state_on : ℕ → List ℕ

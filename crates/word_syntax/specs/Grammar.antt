@@ -6,7 +6,8 @@
 --     operand     = "1" | "0" | NAME | "!" operand | "(" letter ")"
 --
 -- A formula refers to a proposition by the index of its name in the list of names.
-use Rattle.std.specs.Prelude.{◌≡◌, ℕ, List, [], ◌∷◌, ◌++◌, Some, filter, not, slice_get}
+use Rattle.std.specs.Prelude.{◌≡◌, ℕ, List, [], ◌∷◌, ◌++◌, Some, slice_get}
+use Rattle.aut_base.specs.Lists.{distinct}
 use Rattle.aut_base.specs.CanonicalLabel.{all_of, one_of}
 use Rattle.aut_base.specs.Chains.{Chains, IsSum}
 use Rattle.aut_base.specs.Label as label
@@ -56,11 +57,6 @@ token_names [] = []
 token_names (token.Name name ∷ ts) = name ∷ token_names ts
 token_names (_ ∷ ts) = token_names ts
 
--- the names in the order of their first occurrence, each once
-abbrev pub distinct : List (List ℕ) → List (List ℕ)
-distinct [] = []
-distinct (name ∷ names) = name ∷ filter (λ other. not (same_text name other)) (distinct names)
-
 -- the most `(` and `!` of a letter that may be open at once
 abbrev pub most_open : ℕ
 most_open = MOST_DEPTH
@@ -73,7 +69,7 @@ pub record IsWord (tokens : List Token) (p : WordPattern) : Type 0 where
   pub last_tokens : List Token
   pub first : List LabelTree
   pub last : LabelTree
-  pub names : p.names ≡ distinct (token_names tokens)
+  pub names : p.names ≡ distinct same_text (token_names tokens)
   pub stem : AreLetters p.names most_open stem_tokens p.stem
   pub letters : AreLetters p.names most_open cycle_tokens first
   pub last_letter : IsSum (letters_over p.names) most_open last_tokens last

@@ -16,6 +16,7 @@ use Rattle.hoa_parser.proofs.grammar.NoAbort.{no_abort_inside}
 use Rattle.hoa_parser.proofs.grammar.OneRaw.{whole_goes_no_further}
 use Rattle.hoa_parser.proofs.standing.Halts.{shown}
 use Rattle.hoa_parser.proofs.standing.Hopeless.{next_leaves, next_off}
+use Rattle.hoa_parser.proofs.standing.Needed.{held_as_needed}
 use Rattle.hoa_parser.proofs.standing.Readings.{lexes_more, lexes_shorter}
 use Rattle.hoa_parser.specs.Grammar.{IsViable, SpellsAutomaton}
 use Rattle.hoa_parser.specs.Raw.{Written}
@@ -111,7 +112,7 @@ module _ (tokens whole : List Token) (at_hand new rest : List ℕ) (are : IsApar
 none_asks : (start : ℕ) (text new rest : List ℕ) (placed : List (Token × ℕ)) (a : AsksOn start text new) → IsApart a.tokens (shown placed) new rest → Lexes text start placed rest
     → length new ≤ length rest → ⊥
 none_asks start text new rest placed a are lexes short =
-    apart a.tokens (shown placed) a.asks.at_hand new rest are a.asks.asks short a.begun.placed placed [] text start a.rest (sym a.begun.shown) refl a.begun.lexes lexes a.asks.split
+    apart a.tokens (shown placed) a.holds.at_hand new rest are a.holds.asks short a.begun.placed placed [] text start a.rest (sym a.begun.shown) refl a.begun.lexes lexes a.holds.split
 
 -- ---- where a whole automaton is next
 
@@ -167,7 +168,7 @@ pub none_asks_behind_deep : (start : ℕ) (text left new : List ℕ) → EndsDee
 none_asks_behind_deep start text left new h a short =
     let d = h.deep in
     none_asks_behind_token start text d.tokens d.used d.rest d.next_token d.offset d.after new d.begun d.next a
-    (λ size. closed_there h.held d.next_token left new d.after h.behind h.needed short size)
+    (λ size. closed_there h.held d.next_token left new d.after h.behind (held_as_needed h.held d.next_token h.needed) short size)
     (λ us is. d.too_deep (viable_front (d.tokens ++ d.next_token ∷ []) us
     (subst (λ (ts : List Token). IsViable most_depth ts) (is ∙ sym (append_assoc d.tokens (d.next_token ∷ []) us)) a.begun.viable)))
     (behind_no_shorter h.held left new d.after h.behind short)
@@ -192,5 +193,5 @@ none_asks_behind_deep start text left new h a short =
 -- where an automaton is abandoned
 pub none_asks_behind_abort : (start : ℕ) (text after new : List ℕ) → IsAborted start text after → AsksOn start text new → length new ≤ length after → ⊥
 none_asks_behind_abort start text after new h a =
-    none_asks_behind_token start text h.tokens h.used h.rest token.Abort h.offset after new h.begun h.next a (λ size. refl)
+    none_asks_behind_token start text h.tokens h.used h.rest token.Abort h.holds.1 after new h.begun h.holds.2 a (λ size. refl)
     (λ us is. no_abort_inside most_depth h.tokens us (subst (λ (ts : List Token). IsViable most_depth ts) is a.begun.viable))

@@ -111,16 +111,16 @@ pub no_earlier : (k start : ℕ) (bytes extra new : List ℕ) → IsBad start by
 no_earlier k start bytes extra new bad a =
     let r = reading (standing.Bad k) start bytes bad in
     let viable = subst (λ (ts : List Token). IsViable most_depth ts) (sym a.begun.shown) a.begun.viable in
-    apart k (place start bytes r.rest) (shown r.placed) (shown a.begun.placed) r.rest extra new a.asks.at_hand
-    (record { halts = r.halts; viable = viable; asks = a.asks.asks })
-    r.placed a.begun.placed [] bytes start a.rest refl refl r.lexes a.begun.lexes a.asks.split
+    apart k (place start bytes r.rest) (shown r.placed) (shown a.begun.placed) r.rest extra new a.holds.at_hand
+    (record { halts = r.halts; viable = viable; asks = a.holds.asks })
+    r.placed a.begun.placed [] bytes start a.rest refl refl r.lexes a.begun.lexes a.holds.split
 
 -- ---- two ends of one text
 
 pub asked_leaves : (start : ℕ) (text new : List ℕ) → AsksOn start text new → Leaves text new
 asked_leaves start text new a =
     let l = lexes_leaves a.begun.placed text start a.rest a.begun.lexes in
-    record { before = l.before ++ a.asks.at_hand; split = l.split ∙ ap (λ w. l.before ++ w) a.asks.split ∙ sym (append_assoc l.before a.asks.at_hand new) }
+    record { before = l.before ++ a.holds.at_hand; split = l.split ∙ ap (λ w. l.before ++ w) a.holds.split ∙ sym (append_assoc l.before a.holds.at_hand new) }
 
 either_longer : (a x b : List ℕ) (c : ℕ) (y : List ℕ) → a ++ x ≡ b ++ c ∷ y → Leaves x (c ∷ y) ⊎ Leaves y x
 either_longer [] x b c y e = inl (record { before = b; split = e })

@@ -58,7 +58,7 @@ bad_number n text after next = record {
   used = 0;
   rest = text;
   begun = before_all text;
-  fault = inl (record { next_token = Int n; after = after; next = next; dead = no_number n; no_abort = λ some. absurd (some refl) });
+  holds = inl (record { next_token = Int n; after = after; next = next; dead = no_number n; no_abort = λ some. absurd (some refl) });
 }
 
 hopeless : (used left : List ℕ) → IsBad 0 used 0 → IsHopeless 0 0 (used ++ left) left
@@ -113,7 +113,7 @@ what_is_left = record {
       };
       unfinished = opened_unfinished;
     };
-    asks = record { at_hand = []; split = refl; asks = open_end_asks [] (inl nothing) };
+    holds = record { at_hand = []; split = refl; asks = open_end_asks [] (inl nothing) };
   };
   opening = asked_last 0 (codes "HOA:v1") (codes "v1") [] 0 (codes "HOA:v1") (before_all (codes "HOA:v1"))
       (last_is_asked_for (codes "HOA:v1") 0 0 (HeaderName (codes "HOA")) None (codes "v1") (header (codes "v1")) refl);

@@ -22,4 +22,4 @@ whole_less start text w rest h = spelled_less h.placed text start rest w h.lexes
 
 pub aborted_less : (start : ℕ) (text after : List ℕ) → IsAborted start text after → length after < length text
 aborted_less start text after h =
-    omega (arith, lexes_less h.begun.placed text start h.rest h.begun.lexes, next_less h.rest h.used _ h.offset after h.next)
+    omega (arith, lexes_less h.begun.placed text start h.rest h.begun.lexes, next_less h.rest h.used _ h.holds.1 after h.holds.2)

@@ -8,6 +8,7 @@ use Rattle.hoa_lexer.specs.Text.{IsNext}
 use Rattle.hoa_lexer.specs.declared.token.Token.{Token}
 use Rattle.hoa_lexer.proofs.next_token.Asked.{last_is_asked_for}
 use Rattle.hoa_parser.proofs.standing.Hopeless.{asked_last, held_bytes, hopeless_so, next_leaves, next_off, next_some, no_token_at, unread_is}
+use Rattle.hoa_parser.proofs.standing.Needed.{needed_at_end}
 use Rattle.hoa_parser.proofs.standing.OpenEnds.{open_end_asks}
 use Rattle.hoa_parser.specs.Reads.{AskedForLast, IsHopeless}
 use Rattle.hoa_parser.specs.Standing.{EndsOpen, IsBegun, IsMisplaced, IsNoTokenAt}
@@ -55,12 +56,15 @@ fault_is_shown start k text tokens used rest begun (inr n) =
     (r.left, no_token_at k start text r.left tokens used rest begun r.answers.2, asked_last start text r.left tokens used rest begun r.answers.1)
 
 pub bad_is_shown : BadIsShown
-bad_is_shown start k text h = fault_is_shown start k text h.tokens h.used h.rest h.begun h.fault
+bad_is_shown start k text h = fault_is_shown start k text h.tokens h.used h.rest h.begun h.holds
 
 pub deep_is_shown : DeepIsShown
 deep_is_shown start text h =
-    let c = closing h.next_token h.after h.next.front.ends in
-    (c.left, record { deep = h; held = c.held; behind = c.follows; needed = c.needed }, asked_for_token start text h.tokens h.used h.rest h.next_token h.offset h.after h.begun h.next c)
+    let c = closing h.next_token h.after h.next.front.ends in (
+      c.left,
+      record { deep = h; held = c.held; behind = c.follows; needed = needed_at_end c.held h.next_token c.needed },
+      asked_for_token start text h.tokens h.used h.rest h.next_token h.offset h.after h.begun h.next c,
+    )
 
 ends_so : (some : Type 0) (rest : List ℕ) → some × IsBlanks rest ⊎ EndsOpen rest → IsBlanks rest ⊎ EndsOpen rest
 ends_so some rest (inl h) = inl h.1
@@ -72,5 +76,5 @@ cut_is_shown start text h = record {
   used = h.used;
   rest = h.rest;
   begun = h.begun;
-  asks = record { at_hand = h.rest; split = sym (append-nil h.rest); asks = open_end_asks h.rest (ends_so (h.tokens ≢ []) h.rest h.ends) };
+  holds = record { at_hand = h.rest; split = sym (append-nil h.rest); asks = open_end_asks h.rest (ends_so (h.tokens ≢ []) h.rest h.holds) };
 }

@@ -50,8 +50,9 @@ pub counts_pass : (which : Limit) (w : Written) → PassesLimit which w → IsOf
 counts_pass which w h =
     let P : Counted → Type 0 = λ c. IsOfWhole c.which in
     let each : AllByRecursion P (limit_counts w) = (refl, (refl, (refl, (refl, (refl, tt))))) in
-    let parts = subst (AllByRecursion P) h.passes.all each in
-    ap when_told h.passes.shown ∙ (AllByRecursion-right P h.passes.before (h.passes.first ∷ h.passes.after) parts).0
+    let (c, first, over, shown) = h.passes in
+    let parts = subst (AllByRecursion P) first.all each in
+    ap when_told shown ∙ (AllByRecursion-right P first.before (c ∷ first.after) parts).0
 
 -- ---- those of filters and changes
 

@@ -16,15 +16,15 @@ begun_with_tokens s viable unfinished = record { placed = s.placed; shown = s.sh
 
 pub bad_behind : {start used : ℕ} {text rest : List ℕ} {tokens : List Token} (k : ℕ) → IsBegun start text tokens used rest → IsMisplaced k tokens used rest ⊎ IsNoTokenAt k used rest
     → IsBad start text k
-bad_behind {used = used} {rest = rest} {tokens = tokens} k begun fault = record { tokens = tokens; used = used; rest = rest; begun = begun; fault = fault }
+bad_behind {used = used} {rest = rest} {tokens = tokens} k begun fault = record { tokens = tokens; used = used; rest = rest; begun = begun; holds = fault }
 
 pub cut_behind : {start used : ℕ} {text rest : List ℕ} {tokens : List Token} → IsBegun start text tokens used rest → (tokens ≢ []) × IsBlanks rest ⊎ EndsOpen rest → IsCut start text
-cut_behind {used = used} {rest = rest} {tokens = tokens} begun ends = record { tokens = tokens; used = used; rest = rest; begun = begun; ends = ends }
+cut_behind {used = used} {rest = rest} {tokens = tokens} begun ends = record { tokens = tokens; used = used; rest = rest; begun = begun; holds = ends }
 
 pub aborted_behind : {start used offset : ℕ} {text rest after : List ℕ} {tokens : List Token} → IsBegun start text tokens used rest → tokens ≢ [] → IsNext rest used token.Abort offset after
     → IsAborted start text after
 aborted_behind {used = used} {offset = offset} {rest = rest} {tokens = tokens} begun some next =
-    record { tokens = tokens; used = used; rest = rest; begun = begun; some = some; offset = offset; next = next }
+    record { tokens = tokens; used = used; rest = rest; begun = begun; holds = (some, offset, next) }
 
 abbrev pub deep_behind : {start used offset : ℕ} {text rest after : List ℕ} {tokens : List Token} {next_token : Token} (most : ℕ) → IsBegun start text tokens used rest
     → IsNext rest used next_token offset after → IsViable most (tokens ++ next_token ∷ []) → (IsViable most_depth (tokens ++ next_token ∷ []) → ⊥) → IsDeep start text

@@ -70,11 +70,11 @@ reading Deep start text h =
         too_deep = h.too_deep;
       },
     )
-reading (Bad k) start text h = begun_reading (Bad k) start text h.tokens h.used h.rest h.begun (part start text h.tokens h.used h.rest h.begun, h.fault)
+reading (Bad k) start text h = begun_reading (Bad k) start text h.tokens h.used h.rest h.begun (part start text h.tokens h.used h.rest h.begun, h.holds)
 reading (Aborted r) start text h =
     begun_reading (Aborted r) start text h.tokens h.used h.rest h.begun
-    (part start text h.tokens h.used h.rest h.begun, h.some, h.offset, h.next)
-reading Cut start text h = begun_reading Cut start text h.tokens h.used h.rest h.begun (part start text h.tokens h.used h.rest h.begun, h.ends)
+    (part start text h.tokens h.used h.rest h.begun, h.holds.0, h.holds.1, h.holds.2)
+reading Cut start text h = begun_reading Cut start text h.tokens h.used h.rest h.begun (part start text h.tokens h.used h.rest h.begun, h.holds)
 
 pub viable_nothing : (m : ℕ) → IsViable m []
 viable_nothing m = record {

@@ -21,6 +21,7 @@ use Rattle.hoa_lexer.specs.declared.token.Token.TheVariants as token
 use Rattle.hoa_parser.proofs.reading.FrontParts.{refuses_behind}
 use Rattle.hoa_parser.proofs.standing.Begun.{bad_behind}
 use Rattle.hoa_parser.proofs.standing.DeadEnds.{dead}
+use Rattle.hoa_parser.proofs.standing.Needed.{needed_at_end}
 use Rattle.hoa_parser.proofs.standing.OpenEnds.{open_end_asks}
 use Rattle.hoa_parser.proofs.standing.Settled.{bad_is_hopeless, place_on}
 use Rattle.hoa_parser.proofs.standing.StandingAnswers.{Opened, Starts, before, begun_with, nothing_begun, said_then, too_deep}
@@ -163,7 +164,7 @@ no_token_at k start text left tokens used rest begun by =
 pub asked_last : (start : ℕ) (text left : List ℕ) (tokens : List Token) (used : ℕ) (rest : List ℕ) → IsBegun start text tokens used rest → AskedForOne rest left → AskedForLast start text left
 asked_last start text left tokens used rest begun one = record {
   byte = one.byte;
-  asked = record { tokens = tokens; used = used; rest = rest; begun = begun; asks = record { at_hand = one.at_hand; split = one.split; asks = one.asks } };
+  asked = record { tokens = tokens; used = used; rest = rest; begun = begun; holds = record { at_hand = one.at_hand; split = one.split; asks = one.asks } };
 }
 
 passed_holds : (a b : Cursor) (ts : List Token) → Passed a ts b → is_some a.held ≡ not (closes_itself a.token) → is_some b.held ≡ not (closes_itself b.token)
@@ -206,7 +207,7 @@ shows_unread fault.Truncated start text left a last starts u ends =
         used = u.b.used;
         rest = u.b.rest;
         begun = begun_with _ start text a last u starts;
-        asks = record { at_hand = u.b.rest; split = sym (append-nil u.b.rest) ∙ ap (λ (w : List ℕ). u.b.rest ++ w) (sym none); asks = open_end_asks u.b.rest u.bytes.0 };
+        holds = record { at_hand = u.b.rest; split = sym (append-nil u.b.rest) ∙ ap (λ (w : List ℕ). u.b.rest ++ w) (sym none); asks = open_end_asks u.b.rest u.bytes.0 };
       },
     )
 shows_unread fault.Depth start text left a last starts u ends = absurd u.bytes
@@ -217,7 +218,7 @@ shows_unread fault.Memory start text left a last starts u ends = tt
 -- a token that opens one more than may be open
 deep_shown : (start : ℕ) (text left : List ℕ) (a b : Cursor) → Starts start text a → TooDeep (part.Whole ∷ []) a b → b.rest ≡ unread b.held left → EndsDeep start text left
 deep_shown start text left a b starts d ends =
-    record { deep = too_deep start text a b starts d; held = b.held; behind = ends; needed = passed_holds a b d.goes.tokens d.goes.passed starts.holds }
+    record { deep = too_deep start text a b starts d; held = b.held; behind = ends; needed = needed_at_end b.held b.token (passed_holds a b d.goes.tokens d.goes.passed starts.holds) }
 
 -- why no automaton was read
 pub shows_fault : (f : ReadFault) (start : ℕ) (text left : List ℕ) (a last : Cursor) → (Abandons f last.token → ⊥) → Starts start text a → FailsParts f (part.Whole ∷ []) a last
@@ -251,7 +252,7 @@ shows_open start old left ends none = (
     used = start;
     rest = old;
     begun = nothing_begun start old;
-    asks =
+    holds =
         record { at_hand = old; split = sym (append-nil old) ∙ ap (λ (w : List ℕ). old ++ w) (sym none); asks = open_end_asks old ends };
   },
 )

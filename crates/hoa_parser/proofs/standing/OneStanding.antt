@@ -18,6 +18,7 @@ use Rattle.hoa_parser.proofs.standing.Halts.{Halts, abandons, halts_here, halts_
 use Rattle.hoa_parser.proofs.grammar.NoAbort.{no_abort_inside}
 use Rattle.hoa_parser.proofs.grammar.OneRaw.{one_raw}
 use Rattle.hoa_parser.proofs.standing.Readings.{IsFurther, compared, place}
+use Rattle.hoa_parser.proofs.standing.Needed.{held_as_needed}
 use Rattle.hoa_parser.proofs.standing.NextCases.{HasNext, blanks_no_fault, next_no_blanks, next_no_fault, next_not_open, one_no_token, one_token, open_only}
 
 spells_some : (m : ℕ) (tokens : List Token) (w : Written) → tokens ≡ [] → SpellsAutomaton m tokens w → ⊥
@@ -171,4 +172,6 @@ behind_held (Some b) (Some c) x y s e = cc
 pub one_deep_end : (start : ℕ) (text x y : List ℕ) → EndsDeep start text x → EndsDeep start text y → x ≡ y
 one_deep_end start text x y f g =
     let one = one_deep start text f.deep g.deep in
-    behind_held f.held g.held x y (f.needed ∙ ap (λ t. not (closes_itself t)) one.0 ∙ sym g.needed) (sym f.behind ∙ one.1 ∙ g.behind)
+    let holds = held_as_needed f.held f.deep.next_token f.needed in
+    let holds' = held_as_needed g.held g.deep.next_token g.needed in
+    behind_held f.held g.held x y (holds ∙ ap (λ t. not (closes_itself t)) one.0 ∙ sym holds') (sym f.behind ∙ one.1 ∙ g.behind)

@@ -108,14 +108,14 @@ deep_on start text more h =
 
 bad_on : (start : ℕ) (text more : List ℕ) (k : ℕ) → IsBad start text k → IsBad start (text ++ more) k
 bad_on start text more k h =
-    bad_behind k (begun_on start text h.tokens h.used h.rest more h.begun) (elim h.fault [
+    bad_behind k (begun_on start text h.tokens h.used h.rest more h.begun) (elim h.holds [
       | inl m ↦ inl (misplaced_on k h.tokens h.used h.rest more m)
       | inr n ↦ inr (no_token_at_on k h.used h.rest more n)
     ])
 
 aborted_on : (start : ℕ) (text after more : List ℕ) → IsAborted start text after → IsAborted start (text ++ more) (after ++ more)
 aborted_on start text after more h =
-    aborted_behind (begun_on start text h.tokens h.used h.rest more h.begun) h.some (next_on h.rest after more h.used h.offset _ h.next)
+    aborted_behind (begun_on start text h.tokens h.used h.rest more h.begun) h.holds.0 (next_on h.rest after more h.used h.holds.1 _ h.holds.2)
 
 pub settled_stays : SettledStays
 settled_stays Blank start text more i h = absurd i

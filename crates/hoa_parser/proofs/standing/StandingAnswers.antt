@@ -136,11 +136,11 @@ answers_unread fault.Truncated start text a last starts u =
     cut_behind (begun_with _ start text a last u starts) (ends_so (u.goes.tokens ++ u.b.token ∷ []) u.b.rest (some_more u.goes.tokens u.b.token) u.bytes.0)
 answers_unread fault.Depth start text a last starts u = absurd u.bytes
 answers_unread fault.Bytes start text a last starts u =
-    record { tokens = u.goes.tokens ++ u.b.token ∷ []; used = u.b.used; rest = u.b.rest; begun = begun_with _ start text a last u starts; asks = u.bytes }
+    record { tokens = u.goes.tokens ++ u.b.token ∷ []; used = u.b.used; rest = u.b.rest; begun = begun_with _ start text a last u starts; holds = u.bytes }
 answers_unread fault.Read start text a last starts u =
-    record { tokens = u.goes.tokens ++ u.b.token ∷ []; used = u.b.used; rest = u.b.rest; begun = begun_with _ start text a last u starts; asks = u.bytes }
+    record { tokens = u.goes.tokens ++ u.b.token ∷ []; used = u.b.used; rest = u.b.rest; begun = begun_with _ start text a last u starts; holds = u.bytes }
 answers_unread fault.Memory start text a last starts u =
-    record { tokens = u.goes.tokens ++ u.b.token ∷ []; used = u.b.used; rest = u.b.rest; begun = begun_with _ start text a last u starts; behind = inl u.bytes }
+    record { tokens = u.goes.tokens ++ u.b.token ∷ []; used = u.b.used; rest = u.b.rest; begun = begun_with _ start text a last u starts; holds = inl u.bytes }
 
 -- why no automaton was read
 pub answers_fault : (f : ReadFault) (start : ℕ) (text : List ℕ) (a last : Cursor) → (Abandons f last.token → ⊥) → Starts start text a → FailsParts f (part.Whole ∷ []) a last
@@ -150,7 +150,7 @@ answers_fault (fault.Syntax k) start text a last other starts (inl h) = misplace
 answers_fault fault.Depth start text a last other starts (inl h) = too_deep start text a last starts h
 answers_fault fault.Memory start text a last other starts (inl h) =
     let s = before start text a last h.0 h.1 starts in
-    record { tokens = h.1.tokens; used = s.used; rest = s.rest; begun = s.begun; behind = inr (record { next_token = last.token; offset = last.offset; next = s.next }) }
+    record { tokens = h.1.tokens; used = s.used; rest = s.rest; begun = s.begun; holds = inr (record { next_token = last.token; offset = last.offset; next = s.next }) }
 answers_fault fault.Truncated start text a last other starts (inl h) = absurd h
 answers_fault fault.Bytes start text a last other starts (inl h) = absurd h
 answers_fault fault.Read start text a last other starts (inl h) = absurd h
@@ -199,9 +199,9 @@ answers_lexing (lex.BadToken k) start offset old new h = bad_behind k (nothing_b
 answers_lexing lex.OpenComment start offset old new h = cut_behind (nothing_begun start old) (inr (inl h.0))
 answers_lexing lex.OpenString start offset old new h = cut_behind (nothing_begun start old) (inr (inr (inl h.0)))
 answers_lexing lex.OpenToken start offset old new h = cut_behind (nothing_begun start old) (inr (inr (inr h.0)))
-answers_lexing lex.Read start offset old new h = record { tokens = []; used = start; rest = old; begun = nothing_begun start old; asks = h }
-answers_lexing lex.Bytes start offset old new h = record { tokens = []; used = start; rest = old; begun = nothing_begun start old; asks = h }
-answers_lexing lex.Memory start offset old new h = record { tokens = []; used = start; rest = old; begun = nothing_begun start old; behind = inl h }
+answers_lexing lex.Read start offset old new h = record { tokens = []; used = start; rest = old; begun = nothing_begun start old; holds = h }
+answers_lexing lex.Bytes start offset old new h = record { tokens = []; used = start; rest = old; begun = nothing_begun start old; holds = h }
+answers_lexing lex.Memory start offset old new h = record { tokens = []; used = start; rest = old; begun = nothing_begun start old; holds = inl h }
 
 used_so : (since since' taken taken' hold hold' x y old new : ℕ) → hold ≤ since → since' + taken ≡ since + taken' → taken' + y ≡ taken + x → taken ≤ taken' → old ≡ hold + x → new ≡ hold' + y
     → new ≤ old → since' - hold' ≡ (since - hold) + (old - new)

@@ -3,7 +3,7 @@ use Rattle.std.proofs.Common.{◌≡◌, ◌+◌, max, ℕ, List, [], ◌∷◌,
 use Rattle.std.proofs.lemmas.Bool.Decides.{nat_tests}
 use Rattle.std.proofs.lemmas.Grind.{flat_map-append}
 use Rattle.std.specs.Prelude.{flat_map}
-use Rattle.hoa_reader.specs.Described.{after_all}
+use Rattle.hoa_reader.specs.inner.Numbers.{after_all}
 use Rattle.hoa_reader.specs.inner.PickedOut.{edge_targets}
 use Rattle.hoa_parser.specs.Raw.{WrittenEdge, WrittenState}
 use Rattle.hoa_reader.specs.Validity.{numbers_below}

@@ -10,7 +10,7 @@ use Rattle.aut_base.specs.Automaton.{LabelledEdge}
 use Rattle.hoa_reader.proofs.description.WellFormed.{AreBelow, used_are_below}
 use Rattle.hoa_reader.specs.Described.{tree_edge_of, tree_edges_from, tree_edges_of, below, edges_of, state_count}
 use Rattle.hoa_parser.specs.Raw.{Written, WrittenEdge, WrittenState}
-use Rattle.hoa_reader.specs.Validity.{IsRuleKept, edges_written, starts_written, states_item, used_states}
+use Rattle.hoa_reader.specs.Validity.{edges_written, keeps_rule, starts_written, states_item, used_states}
 use Rattle.hoa_reader.specs.inner.Weighing.{all_edges}
 use Rattle.hoa_reader.specs.declared.elaborate.Rule.TheVariants.{V6}
 use Rattle.aut_base.proofs.lists.AllByRecursion.{AllByRecursion-left, AllByRecursion-right, AllByRecursion-from_map}
@@ -72,7 +72,7 @@ all_below n (s ∷ ss) all =
     omega (arith, here, rest, sum)
 
 -- the states that are defined are below their number
-pub states_below : (w : Written) → IsRuleKept V6 w → AllByRecursion (λ (s : WrittenState). s.number < state_count w) w.states
+pub states_below : (w : Written) → keeps_rule V6 w ≡ true → AllByRecursion (λ (s : WrittenState). s.number < state_count w) w.states
 states_below w kept =
     let n = state_count w in
     let P : ℕ → Type 0 = λ q. q < n in
@@ -82,5 +82,5 @@ states_below w kept =
     let others = AllByRecursion-right P (flat_map (λ (q : List ℕ). q) (starts_written w)) (numbers ++ goals) used in
     AllByRecursion-from_map P (λ (s : WrittenState). s.number) w.states (AllByRecursion-left P numbers goals others)
 
-pub edge_count : (w : Written) → IsRuleKept V6 w → length (edges_of w) ≡ length (all_edges w.states)
+pub edge_count : (w : Written) → keeps_rule V6 w ≡ true → length (edges_of w) ≡ length (all_edges w.states)
 edge_count w kept = counted_below w (state_count w) ∙ all_below (state_count w) w.states (states_below w kept)

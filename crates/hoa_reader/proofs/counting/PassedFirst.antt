@@ -6,12 +6,9 @@ use Rattle.hoa_reader.specs.Counts.{Counted, IsCountWithin, PassesFirst, limit_c
 
 pub passed_first : (place : ℕ) (one : Counted) (w : Written) → limit_counts w ≡ take place (limit_counts w) ++ one ∷ drop (place + 1) (limit_counts w)
     → AllByRecursion IsCountWithin (take place (limit_counts w)) → nat_lt one.most one.count ≡ true → PassesFirst one.which w
-passed_first place one w all earlier passes = record {
-  before = take place (limit_counts w);
-  first = one;
-  after = drop (place + 1) (limit_counts w);
-  all = all;
-  earlier = earlier;
-  passes = passes;
-  shown = refl;
-}
+passed_first place one w all earlier passes = (
+  one,
+  record { before = take place (limit_counts w); after = drop (place + 1) (limit_counts w); all = all; earlier = earlier },
+  passes,
+  refl,
+)

@@ -8,7 +8,8 @@ use Rattle.std.specs.Option.{option_map_or}
 use Rattle.aut_base.specs.declared.limit.TheConstants.{MOST_ALIASES}
 use Rattle.aut_base.specs.Label.{label_size}
 use Rattle.hoa_reader.proofs.labels.Meanings.{known_heights, known_sizes}
-use Rattle.hoa_reader.specs.Counts.{greatest, height, holds_alias}
+use Rattle.hoa_reader.specs.Counts.{height, holds_alias}
+use Rattle.hoa_reader.specs.Described.{greatest}
 use Rattle.hoa_reader.specs.Described.{Meaning, expanded}
 use Rattle.hoa_reader.specs.inner.Growing.{AreAliasesKnown, cap, capped_height, capped_size, heights_in, sizes_in}
 use Rattle.hoa_parser.specs.Raw.{RawTree, WrittenEdge, WrittenState}

@@ -1,7 +1,9 @@
 -- The worked examples, by computation.
-use Rattle.std.proofs.Common.{drop, refl, take}
+use Rattle.std.proofs.Common.{[], ◌∷◌, codes, drop, refl, replicate, take}
+use Rattle.aut_base.specs.Formula as formula
+use Rattle.hoa_parser.specs.Raw as raw
 use Rattle.hoa_reader.proofs.counting.PassedFirst.{passed_first}
-use Rattle.hoa_reader.specs.DescribingExamples.{CountExamples, DescribingExamples, DescriptionExamples, RuleExamples}
+use Rattle.hoa_reader.specs.DescribingExamples.{CountExamples, DescribingExamples, DescriptionExamples, RuleExamples, text}
 use Rattle.hoa_reader.specs.Validity.{rules}
 
 rule_examples : RuleExamples
@@ -40,7 +42,7 @@ rule_examples = record {
   three_letters_of_four = refl;
   four_letters_of_four = refl;
   both_broken = refl;
-  earlier_is_first = record { before = take 4 rules; after = drop 5 rules; all = refl; earlier = (refl, (refl, (refl, (refl, tt)))); broken = refl };
+  earlier_is_first = (record { before = take 4 rules; after = drop 5 rules; all = refl; earlier = (refl, (refl, (refl, (refl, tt)))) }, refl);
 }
 
 description_examples : DescriptionExamples
@@ -73,9 +75,9 @@ count_examples = record {
   no_weight = refl;
   height_of_state = refl;
   uncounted = refl;
-  many_sets = passed_first 1 _ _ refl (refl, tt) refl;
-  many_states = passed_first 2 _ _ refl (refl, (refl, tt)) refl;
-  too_many_names = passed_first 0 _ _ refl tt refl;
+  many_sets = passed_first 1 _ (record { version = codes "v1"; items = raw.Acceptance 513 formula.True ∷ raw.States 100001 ∷ []; states = [] }) refl (refl, tt) refl;
+  many_states = passed_first 2 _ (text (raw.States 100001 ∷ []) []) refl (refl, (refl, tt)) refl;
+  too_many_names = passed_first 0 _ (text (raw.Ap 33 (replicate 33 (codes "a")) ∷ []) []) refl tt refl;
   most_names = (refl, tt);
   most_sets = (refl, (refl, tt));
   most_states = (refl, (refl, (refl, tt)));

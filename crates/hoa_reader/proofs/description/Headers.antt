@@ -9,7 +9,8 @@ use Rattle.aut_base.specs.declared.formula.Formula.{Formula}
 use Rattle.aut_base.specs.declared.formula.Formula.TheVariants as of_formula
 use Rattle.hoa_parser.specs.Raw as raw
 use Rattle.hoa_parser.specs.Raw.{WrittenItem}
-use Rattle.hoa_reader.specs.Validity.{acceptance_item, no_acceptance}
+use Rattle.hoa_reader.specs.Validity.{acceptance_item}
+use Rattle.hoa_reader.specs.inner.Rules.{no_acceptance}
 use Rattle.hoa_reader.specs.inner.Headers.{first_given, formula_item}
 use Rattle.hoa_reader.specs.inner.PickedOut.{list_of}
 

@@ -8,7 +8,8 @@ use Rattle.std.specs.List.{AllByRecursion, enumerate_from}
 use Rattle.std.specs.List.Sorted.{IsNonDecreasing}
 use Rattle.aut_base.specs.Automaton.{LabelledEdge}
 use Rattle.hoa_reader.proofs.description.LabelsInRange.{numbers_are_below}
-use Rattle.hoa_reader.specs.Described.{after_all, tree_edge_of, tree_edges_from, tree_edges_of, below, edges_of, state_count, without_repeats}
+use Rattle.hoa_reader.specs.Described.{tree_edge_of, tree_edges_from, tree_edges_of, below, edges_of, state_count}
+use Rattle.hoa_reader.specs.inner.Numbers.{after_all, without_repeats}
 use Rattle.hoa_parser.specs.Raw.{Written, WrittenEdge, WrittenState}
 use Rattle.aut_base.proofs.lists.AllByRecursion.{AllByRecursion-of_each, AllByRecursion-append, AllByRecursion-filter, AllByRecursion-filter_passes}
 use Rattle.aut_base.proofs.lists.AllByRecursion.{AllByRecursion-flat_map, AllByRecursion-map, AllByRecursion-weaker}
@@ -17,15 +18,16 @@ use Rattle.std.proofs.lemmas.List.Elements.{All-from_recursion}
 
 pub all_without_repeats : (P : ℕ → Type 0) (xs : List ℕ) → AllByRecursion P xs → AllByRecursion P (without_repeats xs)
 all_without_repeats P [] all = tt
-all_without_repeats P (x ∷ xs) all = (all.0, AllByRecursion-filter P (λ y. not (y == x)) (without_repeats xs) (all_without_repeats P xs all.1))
+all_without_repeats P (x ∷ xs) all = (all.0, AllByRecursion-filter P (λ y. not (x == y)) (without_repeats xs) (all_without_repeats P xs all.1))
 
 pub they_differ : (xs : List ℕ) → AllPairs (λ p q. p ≢ q) (without_repeats xs)
 they_differ [] = λ i j d l m. absurd (omega (arith, m))
 they_differ (x ∷ xs) =
-    let p : ℕ → Bool = λ y. not (y == x) in
+    let p : ℕ → Bool = λ y. not (x == y) in
     let ys = filter p (without_repeats xs) in
     AllPairs-cons (λ p q. p ≢ q) x ys
-    (All-from_recursion (λ y. x ≢ y) ys (AllByRecursion-weaker (λ y. p y ≡ true) (λ y. x ≢ y) ys (other_number x) (AllByRecursion-filter_passes p (without_repeats xs))))
+    (All-from_recursion (λ y. x ≢ y) ys (AllByRecursion-weaker (λ y. p y ≡ true) (λ y. x ≢ y) ys (λ y other same. other_number y x other (sym same))
+    (AllByRecursion-filter_passes p (without_repeats xs))))
     (AllPairs-filter (λ p q. p ≢ q) p (without_repeats xs) (they_differ xs))
 
 -- every number that is used is below the number of states that follows from them

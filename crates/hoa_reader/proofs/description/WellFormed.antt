@@ -14,11 +14,13 @@ use Rattle.aut_base.specs.Label.{AllBelow, LabelTree}
 use Rattle.aut_base.specs.Marks.{is_in}
 use Rattle.hoa_reader.proofs.description.LabelsInRange.{MeansBelow, expanded_below, letter_below, meanings_below, numbers_are_below, sets_in_range}
 use Rattle.hoa_reader.proofs.description.StatesInRange.{all_used_below, all_without_repeats, edges_in_order, they_differ}
-use Rattle.hoa_reader.specs.Described.{Meaning, after_all, tree_edge_of, tree_edges_from, tree_edges_of, below, described, edges_of, expanded}
+use Rattle.hoa_reader.specs.Described.{Meaning, tree_edge_of, tree_edges_from, tree_edges_of, below, described, edges_of, expanded}
+use Rattle.hoa_reader.specs.inner.Numbers.{after_all}
 use Rattle.hoa_reader.specs.Described.{meanings_of, only_state, state_count}
 use Rattle.hoa_parser.specs.Raw.{RawTree, Written, WrittenEdge, WrittenState}
-use Rattle.hoa_reader.specs.Validity.{IsRuleKept, IsValid, acceptance_of, alias_lines, body_labels, edges_written, is_one_state, written_names, numbers_below}
-use Rattle.hoa_reader.specs.Validity.{props_below, starts_written, state_labels, states_item, used_states}
+use Rattle.hoa_reader.specs.Validity.{IsValid, acceptance_of, alias_lines, body_labels, edges_written, keeps_rule, numbers_below, props_below}
+use Rattle.hoa_reader.specs.Validity.{starts_written, states_item, used_states, written_names}
+use Rattle.hoa_reader.specs.inner.Rules.{is_one_state, state_labels}
 use Rattle.hoa_reader.specs.declared.elaborate.Rule.TheVariants.{V4, V5, V6, V8, V9}
 use Rattle.aut_base.proofs.lists.AllByRecursion.{AllByRecursion-left, AllByRecursion-right, AllByRecursion-both, AllByRecursion-enumerate_from}
 use Rattle.aut_base.proofs.lists.AllByRecursion.{AllByRecursion-from_flat_map, AllByRecursion-from_map, AllByRecursion-from_list_all, AllByRecursion-map}
@@ -121,10 +123,10 @@ groups_below n group xs ones used =
     (AllByRecursion-from_flat_map P group xs used))
 
 -- the starts, the states of the body and the goals of their edges
-states_below : (w : Written) → IsRuleKept V6 w → AreBelow (state_count w) (used_states w)
+states_below : (w : Written) → keeps_rule V6 w ≡ true → AreBelow (state_count w) (used_states w)
 states_below w states = used_are_below (used_states w) (filter_map states_item w.items) states
 
-state_edges_good : (w : Written) → IsRuleKept V5 w → IsRuleKept V6 w → IsRuleKept V8 w → AreGoodEdges w
+state_edges_good : (w : Written) → keeps_rule V5 w ≡ true → keeps_rule V6 w ≡ true → keeps_rule V8 w ≡ true → AreGoodEdges w
 state_edges_good w one states props =
     let n = state_count w in
     let k = length (written_names w) in
@@ -148,7 +150,7 @@ state_edges_good w one states props =
     AllByRecursion-weaker G (λ (s : WrittenState). AllByRecursion (IsEdgeOf (described w)) (tree_edges_of w s)) w.states
     (λ (s : WrittenState) g. tree_edges_good w means s (good_state n k s g)) facts
 
-pub well_formed : (w : Written) → IsRuleKept V4 w → IsRuleKept V5 w → IsRuleKept V6 w → IsRuleKept V8 w → IsRuleKept V9 w → IsWellFormed (described w)
+pub well_formed : (w : Written) → keeps_rule V4 w ≡ true → keeps_rule V5 w ≡ true → keeps_rule V6 w ≡ true → keeps_rule V8 w ≡ true → keeps_rule V9 w ≡ true → IsWellFormed (described w)
 well_formed w counted one states props sets =
     let n = state_count w in
     let P : ℕ → Type 0 = λ q. q < n in

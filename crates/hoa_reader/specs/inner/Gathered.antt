@@ -1,11 +1,12 @@
 -- What the rules speak of, picked out of what was written.
 use Rattle.std.specs.Prelude.{◌≡◌, false, length, map}
 use Rattle.std.specs.Option.{option_map_or}
-use Rattle.hoa_reader.specs.Described.{after_all}
+use Rattle.hoa_reader.specs.inner.Numbers.{after_all}
 use Rattle.hoa_reader.specs.inner.PickedOut.{acceptance_def, alias_def, label_refs, numbers}
 use Rattle.hoa_reader.specs.inner.Rising.{rises_from}
 use Rattle.hoa_parser.specs.Raw.{Written}
-use Rattle.hoa_reader.specs.Validity.{acceptance_of, alias_lines, body_labels, written_names, no_acceptance, starts_written, used_states}
+use Rattle.hoa_reader.specs.Validity.{acceptance_of, alias_lines, body_labels, starts_written, used_states, written_names}
+use Rattle.hoa_reader.specs.inner.Rules.{no_acceptance}
 use Rattle.hoa_reader.specs.declared.elaborate.parts.Parts.{Parts}
 use Rattle.hoa_reader.specs.inner.Sums.{body_sums}
 

@@ -1,7 +1,7 @@
 -- Labels that are implicit at every state (HOA v1, implicit labels).
 use Rattle.std.specs.Prelude.{◌≡◌, ℕ, ◌+◌, ◌^◌, ◌==◌, ◌&&◌, Bool, true, List, [], ◌∷◌, length}
 use Rattle.hoa_parser.specs.Raw.{WrittenState}
-use Rattle.hoa_reader.specs.Validity.{has_no_label}
+use Rattle.hoa_reader.specs.inner.Rules.{has_no_label}
 
 -- the state has no label, and an edge for each letter over n names
 abbrev pub is_implicit : ℕ → WrittenState → Bool

@@ -3,8 +3,9 @@ use Rattle.std.specs.Prelude.{◌+◌, ◌*◌, ◌^◌, ◌==◌, ◌&&◌, ◌
 use Rattle.std.specs.Option.{option_map_or}
 use Rattle.hoa_parser.specs.Raw as raw
 use Rattle.hoa_parser.specs.Raw.{RawTree, RawTrees, WrittenEdge, WrittenState}
-use Rattle.hoa_reader.specs.Described.{after_all}
-use Rattle.hoa_reader.specs.Validity.{aliases_among, is_one_state}
+use Rattle.hoa_reader.specs.inner.Numbers.{after_all}
+use Rattle.hoa_reader.specs.Validity.{aliases_among}
+use Rattle.hoa_reader.specs.inner.Rules.{is_one_state}
 use Rattle.hoa_reader.specs.declared.elaborate.sums.Sums.{Sums}
 use Rattle.hoa_reader.specs.inner.Growing.{cap, capped_height, capped_size}
 

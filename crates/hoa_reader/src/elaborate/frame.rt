@@ -4,7 +4,8 @@ ghost use Rattle.std.specs.Prelude.{◌≡◌, true, filter_map, get_or, map, If
 ghost use Rattle.aut_base.specs.Formula.{formula_tree};
 ghost use Rattle.hoa_parser.specs.Raw.{written, written_item};
 ghost use Rattle.hoa_reader.specs.Counts.{PassesNone};
-ghost use Rattle.hoa_reader.specs.Validity.{IsValid, acceptance_item, alias_item, no_acceptance};
+ghost use Rattle.hoa_reader.specs.Validity.{IsValid, acceptance_item, alias_item};
+ghost use Rattle.hoa_reader.specs.inner.Rules.{no_acceptance};
 ghost use Rattle.hoa_reader.specs.inner.Frames.{IsFrameOf, IsSharedBy};
 ghost use Rattle.hoa_reader.specs.inner.Gathered.{ArePartsOf};
 ghost use Rattle.hoa_reader.specs.inner.PickedOut.{are_defined};

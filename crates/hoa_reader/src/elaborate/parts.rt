@@ -4,7 +4,8 @@ ghost use Rattle.std.specs.Prelude.{◌≡◌, [], ◌++◌, false, map, flat_ma
 ghost use Rattle.std.specs.Option.{option_map, option_map_or};
 ghost use Rattle.hoa_reader.specs.inner.Gathered.{ArePartsOf};
 ghost use Rattle.hoa_parser.specs.Raw.{raw_tree, written, written_edge, written_item, written_state};
-ghost use Rattle.hoa_reader.specs.Validity.{acceptance_item, alias_item, names_item, no_acceptance, start_item, states_item, state_labels};
+ghost use Rattle.hoa_reader.specs.Validity.{acceptance_item, alias_item, names_item, start_item, states_item};
+ghost use Rattle.hoa_reader.specs.inner.Rules.{no_acceptance, state_labels};
 ghost use Rattle.hoa_reader.specs.inner.PickedOut.{alias_def, acceptance_def, label_refs, list_of};
 
 use crate::elaborate::rules::numbers_rise;

@@ -6,7 +6,8 @@ ghost use Rattle.hoa_reader.specs.inner.PickedOut.{is_line, lines_once, numbers}
 ghost use Rattle.hoa_reader.specs.inner.Rising.{rises_from};
 ghost use Rattle.hoa_parser.specs.Raw.{written_item, written_state};
 ghost use Rattle.aut_base.specs.Text.{same_text};
-ghost use Rattle.hoa_reader.specs.Validity.{all_differ, begins_with_capital, is_one_state, may_be_passed_over, names_agree, states_item};
+ghost use Rattle.hoa_reader.specs.Validity.{all_differ, begins_with_capital, may_be_passed_over, names_agree, states_item};
+ghost use Rattle.hoa_reader.specs.inner.Rules.{is_one_state};
 
 use crate::elaborate::places::Places;
 use aut_base::{FewNumbers, Memory, Text};

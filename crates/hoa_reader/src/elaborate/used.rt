@@ -1,7 +1,7 @@
 //! The least number above those that are used.
 
 ghost use Rattle.std.specs.Prelude.{◌≡◌, max};
-ghost use Rattle.hoa_reader.specs.Described.{after_all};
+ghost use Rattle.hoa_reader.specs.inner.Numbers.{after_all};
 ghost use Rattle.hoa_reader.specs.inner.PickedOut.{starts_named};
 
 use aut_base::FewNumbers;

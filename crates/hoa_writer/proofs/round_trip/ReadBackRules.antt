@@ -10,10 +10,11 @@ use Rattle.aut_base.specs.Automaton.{LabelledEdge, Automaton, IsEdgeOf, IsWellFo
 use Rattle.aut_base.specs.Label.{LabelTree}
 use Rattle.hoa_parser.specs.Raw.{RawTree, WrittenEdge, WrittenItem, WrittenState}
 use Rattle.aut_base.specs.Text.{same_text}
-use Rattle.hoa_reader.specs.Validity.{AcceptanceLine, AliasLine, IsRuleKept, IsValid, acceptance_item, aliases_among, all_differ, all_edges_labelled}
-use Rattle.hoa_reader.specs.Validity.{body_labels, edges_written, has_edge_per_letter, is_acc_name, is_name, is_one_state, is_tool, labels_one_way}
-use Rattle.hoa_reader.specs.Validity.{marks_below, may_be_passed_over, names_agree, names_item, written_names, no_edge_labelled, numbers_below}
-use Rattle.hoa_reader.specs.Validity.{props_below, sets_below, starts_written, state_labels, states_item, used_states, uses_earlier}
+use Rattle.hoa_reader.specs.Validity.{AcceptanceLine, AliasLine, IsValid, acceptance_item, aliases_among, all_differ, body_labels, edges_written}
+use Rattle.hoa_reader.specs.Validity.{has_edge_per_letter, is_acc_name, is_name, is_tool, keeps_rule, marks_below, may_be_passed_over, names_agree}
+use Rattle.hoa_reader.specs.Validity.{names_item, no_edge_labelled, numbers_below, props_below, sets_below, starts_written, states_item, used_states}
+use Rattle.hoa_reader.specs.Validity.{uses_earlier, written_names}
+use Rattle.hoa_reader.specs.inner.Rules.{is_one_state, labels_one_way, state_labels}
 use Rattle.hoa_reader.specs.declared.elaborate.Rule.TheVariants.{V2, V3, V4, V5, V6, V7, V8, V9, V10, V11, V12}
 use Rattle.hoa_writer.proofs.round_trip.CanonicalLines.{acceptance_found, all_starts, closing, counted_from, each_edge, each_state, edges_at}
 use Rattle.hoa_writer.proofs.round_trip.CanonicalLines.{names_found, no_aliases, no_starts_counted, starting, starts_found, states_found}
@@ -33,7 +34,7 @@ exactly : (p : WrittenItem → Bool) (k : ℕ) (a : Automaton) → ((s : ℕ) �
     → (counted_from p k (starting a.starts ++ closing a) == 1) ≡ true
 exactly p k a h e = ap (λ n. n == 1) (no_starts_counted p k a.starts (closing a) h) ∙ e
 
-lines_once : (a : Automaton) (name : Option (List ℕ)) → IsRuleKept V2 (canonical_written a name)
+lines_once : (a : Automaton) (name : Option (List ℕ)) → keeps_rule V2 (canonical_written a name) ≡ true
 lines_once a None =
     two _ _ (once (λ i. is_some (states_item i)) 1 a (λ s. refl) refl)
     (two _ _ (once (λ i. is_some (names_item i)) 0 a (λ s. refl) refl)
@@ -47,7 +48,7 @@ lines_once a (Some text) =
     (two _ _ (once is_acc_name 0 a (λ s. refl) refl)
     (two _ _ (once is_tool 0 a (λ s. refl) refl) (once is_name 1 a (λ s. refl) refl)))))
 
-words_known : (a : Automaton) (name : Option (List ℕ)) → IsRuleKept V3 (canonical_written a name)
+words_known : (a : Automaton) (name : Option (List ℕ)) → keeps_rule V3 (canonical_written a name) ≡ true
 words_known a None = all_starts may_be_passed_over a.starts (closing a) (λ s. refl) refl
 words_known a (Some text) = all_starts may_be_passed_over a.starts (closing a) (λ s. refl) refl
 
@@ -56,12 +57,12 @@ names_differ names h =
     two _ _ (eq-eqb (length names) (length names) refl)
     (all_differ_from same_text names (pairs_weaker (λ x y. x ≢ y) (λ x y. same_text x y ≡ false) names differ_texts (pairs_from (λ x y. x ≢ y) names h)))
 
-names_counted : (a : Automaton) (name : Option (List ℕ)) → AllPairs (λ x y. x ≢ y) a.names → IsRuleKept V4 (canonical_written a name)
+names_counted : (a : Automaton) (name : Option (List ℕ)) → AllPairs (λ x y. x ≢ y) a.names → keeps_rule V4 (canonical_written a name) ≡ true
 names_counted a None h = all_starts names_agree a.starts (closing a) (λ s. refl) (two _ _ (names_differ a.names h) refl)
 names_counted a (Some text) h = all_starts names_agree a.starts (closing a) (λ s. refl) (two _ _ (names_differ a.names h) refl)
 
 -- each start is one state, and each edge leads to one
-single_states : (a : Automaton) (name : Option (List ℕ)) → IsRuleKept V5 (canonical_written a name)
+single_states : (a : Automaton) (name : Option (List ℕ)) → keeps_rule V5 (canonical_written a name) ≡ true
 single_states a name =
     let one : ℕ → List ℕ = λ s. s ∷ [] in
     two _ _ (ap (list_all is_one_state) (starts_found a name)
@@ -72,7 +73,7 @@ single_states a name =
 tree_edges : (a : Automaton) → IsWellFormed a → AllByRecursion (IsEdgeOf a) a.edges
 tree_edges a h = recursion_from_All (IsEdgeOf a) a.edges h.edges
 
-states_below : (a : Automaton) (name : Option (List ℕ)) → IsWellFormed a → IsRuleKept V6 (canonical_written a name)
+states_below : (a : Automaton) (name : Option (List ℕ)) → IsWellFormed a → keeps_rule V6 (canonical_written a name) ≡ true
 states_below a name h =
     let w = canonical_written a name in
     let n = a.states in
@@ -101,14 +102,14 @@ each_label a name P h =
     (λ q l. AllByRecursion-flat_map P (λ (e : WrittenEdge). option_to_list e.label) (canonical_state a q).edges
     (edges_at a q (λ e. AllByRecursion P (option_to_list e.label)) (AllByRecursion-of_each _ a.edges (λ e. (h e.label, tt))))))
 
-aliases_defined : (a : Automaton) (name : Option (List ℕ)) → IsRuleKept V7 (canonical_written a name)
+aliases_defined : (a : Automaton) (name : Option (List ℕ)) → keeps_rule V7 (canonical_written a name) ≡ true
 aliases_defined a name =
     let labels = body_labels (canonical_written a name) in
     ap (λ (lines : List AliasLine). all_differ same_text (map (λ line. line.name) lines) && (uses_earlier [] lines && list_all (aliases_among (map (λ line. line.name) lines)) labels))
     (no_aliases a name)
     ∙ every_passes (aliases_among []) labels (each_label a name (λ t. aliases_among [] t ≡ true) (no_alias (length a.names) []))
 
-propositions_named : (a : Automaton) (name : Option (List ℕ)) → IsRuleKept V8 (canonical_written a name)
+propositions_named : (a : Automaton) (name : Option (List ℕ)) → keeps_rule V8 (canonical_written a name) ≡ true
 propositions_named a name =
     let w = canonical_written a name in
     let labels = body_labels w in
@@ -117,7 +118,7 @@ propositions_named a name =
     ∙ every_passes (props_below (length a.names)) labels (each_label a name (λ t. props_below (length a.names) t ≡ true) (props_are_below (length a.names))))
 
 -- sets
-sets_kept : (a : Automaton) (name : Option (List ℕ)) → IsWellFormed a → IsRuleKept V9 (canonical_written a name)
+sets_kept : (a : Automaton) (name : Option (List ℕ)) → IsWellFormed a → keeps_rule V9 (canonical_written a name) ≡ true
 sets_kept a name h =
     let w = canonical_written a name in
     let n = a.sets in
@@ -134,7 +135,7 @@ numbers_of : (a : Automaton) (qs : List ℕ) → map (λ (s : WrittenState). s.n
 numbers_of a [] = refl
 numbers_of a (q ∷ qs) = ap (λ xs. q ∷ xs) (numbers_of a qs)
 
-states_once : (a : Automaton) (name : Option (List ℕ)) → IsRuleKept V10 (canonical_written a name)
+states_once : (a : Automaton) (name : Option (List ℕ)) → keeps_rule V10 (canonical_written a name) ≡ true
 states_once a name =
     let qs = range_with_len 0 a.states in
     ap (all_differ ◌==◌) (numbers_of a qs)
@@ -144,10 +145,10 @@ or_true : (b c : Bool) → c ≡ true → (b || c) ≡ true
 or_true true c e = refl
 or_true false c e = e
 
-one_way : (a : Automaton) (name : Option (List ℕ)) → IsRuleKept V11 (canonical_written a name)
+one_way : (a : Automaton) (name : Option (List ℕ)) → keeps_rule V11 (canonical_written a name) ≡ true
 one_way a name =
     every_passes labels_one_way (canonical_written a name).states (each_state a name (λ s. labels_one_way s ≡ true)
-    (λ q l. or_true (no_edge_labelled (canonical_state a q)) (all_edges_labelled (canonical_state a q))
+    (λ q l. or_true (no_edge_labelled (canonical_state a q)) (list_all (λ (e : WrittenEdge). is_some e.label) (canonical_state a q).edges)
     (every_passes (λ (e : WrittenEdge). is_some e.label) (canonical_state a q).edges (edges_at a q (λ e. is_some e.label ≡ true) (AllByRecursion-of_each _ a.edges (λ e. refl))))))
 
 -- each edge has a label
@@ -155,7 +156,7 @@ edge_has_label : (n k q : ℕ) (es : List LabelledEdge) → has_edge_per_letter 
 edge_has_label n k q [] = refl
 edge_has_label n k q (e ∷ es) = or_true (length (map (canonical_edge k) (e ∷ es)) == 0) _ (or_true (length (map (canonical_edge k) (e ∷ es)) == 2 ^ n) true refl)
 
-letters_kept : (a : Automaton) (name : Option (List ℕ)) → IsRuleKept V12 (canonical_written a name)
+letters_kept : (a : Automaton) (name : Option (List ℕ)) → keeps_rule V12 (canonical_written a name) ≡ true
 letters_kept a name =
     let n = length (written_names (canonical_written a name)) in
     every_passes (has_edge_per_letter n) (canonical_written a name).states (each_state a name (λ s. has_edge_per_letter n s ≡ true)

@@ -3,7 +3,8 @@ use Rattle.aut_base.proofs.lists.AllByRecursion.{AllByRecursion-weaker}
 use Rattle.aut_base.proofs.order.Ordered.{At, Pairs, Under, all_kept, filter_by_one, flat_map_same, none_kept, none_pass, pairs_weaker, under_more, under_zero}
 use Rattle.aut_base.specs.Marks.{is_in}
 use Rattle.hoa_reader.proofs.description.LabelsInRange.{numbers_are_below}
-use Rattle.hoa_reader.specs.Described.{below, marks_in_order, without_repeats}
+use Rattle.hoa_reader.specs.Described.{below, marks_in_order}
+use Rattle.hoa_reader.specs.inner.Numbers.{without_repeats}
 use Rattle.hoa_reader.specs.Validity.{all_differ}
 use Rattle.std.proofs.Common.{◌≡◌, ◌≢◌, ◌==◌, ◌<◌, ◌≤◌, ℕ, zero, suc, Bool, true, false, not, cond, ◌&&◌, ◌||◌, List, [], ◌∷◌, ◌++◌, filter, nat_lt, refl, sym, ap, ◌∙◌, arith}
 use Rattle.std.proofs.lemmas.Bool.{eqb-true, lt-ltb, ne_eqb}
@@ -18,13 +19,13 @@ all_differ_from same [] h = refl
 all_differ_from same (x ∷ xs) h = ap (λ b. not b && all_differ same xs) (none_pass (same x) xs h.0) ∙ all_differ_from same xs h.1
 
 -- numbers that differ
-other_way : (x y : ℕ) → x ≢ y → not (y == x) ≡ true
-other_way x y ne = ap not (ne_eqb y x (λ e. ne (sym e)))
+other_way : (x y : ℕ) → x ≢ y → not (x == y) ≡ true
+other_way x y ne = ap not (ne_eqb x y ne)
 
 pub no_repeats : (xs : List ℕ) → Pairs (λ x y. x ≢ y) xs → without_repeats xs ≡ xs
 no_repeats [] h = refl
 no_repeats (x ∷ xs) h =
-    let p : ℕ → Bool = λ y. not (y == x) in
+    let p : ℕ → Bool = λ y. not (x == y) in
     ap (λ ys. x ∷ filter p ys) (no_repeats xs h.1)
     ∙ ap (λ ys. x ∷ ys) (all_kept p xs (AllByRecursion-weaker (λ y. x ≢ y) (λ y. p y ≡ true) xs (other_way x) h.0))
 

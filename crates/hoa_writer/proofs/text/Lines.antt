@@ -10,7 +10,8 @@ use Rattle.aut_base.proofs.order.Ordered.{filter_map_of}
 use Rattle.aut_base.specs.Automaton.{Automaton, LabelledEdge}
 use Rattle.aut_core.specs.SymbolicAutomata.{SymbolicAutomaton, IsLinkOf, automaton_of, edge_of}
 use Rattle.aut_core.specs.declared.link.Link.{Link}
-use Rattle.hoa_writer.specs.CanonicalText.{edge_line, line, state_lines}
+use Rattle.aut_base.specs.Text.{line}
+use Rattle.hoa_writer.specs.CanonicalText.{edge_line, state_lines}
 use Rattle.hoa_writer.specs.inner.Lines.{link_line}
 use Rattle.label_guards.specs.Store.{Has, Store}
 

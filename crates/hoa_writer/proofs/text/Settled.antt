@@ -11,7 +11,8 @@ use Rattle.aut_base.specs.CanonicalLabel.{canonical, canonical_label}
 use Rattle.aut_base.specs.Label.{LabelTree}
 use Rattle.aut_base.specs.LabelText.{cubes_text, label_text}
 use Rattle.aut_base.specs.Valuation.{truth_on}
-use Rattle.hoa_writer.specs.CanonicalText.{canonical_text, edge_line, header_lines, line, marks_text, state_lines}
+use Rattle.aut_base.specs.Text.{line}
+use Rattle.hoa_writer.specs.CanonicalText.{canonical_text, edge_line, header_lines, marks_text, state_lines}
 
 text_of_label : (n : ℕ) (t : LabelTree) → label_text n (canonical_label n t) ≡ label_text n t
 text_of_label n t = ap cubes_text (cubes_same 0 n (truth_on (canonical_label n t)) (truth_on t) (truth_on-label_of n (truth_on t)))

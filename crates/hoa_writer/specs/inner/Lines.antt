@@ -3,7 +3,8 @@ use Rattle.std.specs.Prelude.{ℕ, List, ◌++◌, flat_map, length, codes}
 use Rattle.std.specs.Fmt.{decimal}
 use Rattle.aut_base.specs.LabelText.{label_text}
 use Rattle.aut_core.specs.declared.link.Link.{Link}
-use Rattle.hoa_writer.specs.CanonicalText.{line, marks_text, quoted}
+use Rattle.aut_base.specs.Text.{line}
+use Rattle.hoa_writer.specs.CanonicalText.{marks_text, quoted}
 use Rattle.label_guards.specs.Store.{Store, label_in}
 
 abbrev pub start_lines : List ℕ → List ℕ

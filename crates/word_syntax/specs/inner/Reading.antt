@@ -1,7 +1,7 @@
 -- What a parser has read of a text, up to an offset or to the end.
 use Rattle.std.specs.Prelude.{◌≡◌, ℕ, ◌+◌, ◌≤◌, true, List, length, drop, Result, Ok, Err}
 use Rattle.std.specs.List.{list_all}
-use Rattle.word_syntax.specs.Grammar.{distinct, token_names}
+use Rattle.word_syntax.specs.Grammar.{token_names}
 use Rattle.word_syntax.specs.Tokens.{LexesWord, is_space}
 use Rattle.word_syntax.specs.Writing.{IsStoppedAt}
 use Rattle.word_syntax.specs.declared.pattern.WordFault.{WordFault}
@@ -11,17 +11,19 @@ use Rattle.word_syntax.specs.inner.Machine.{WordState, word_start, word_step}
 use Rattle.word_syntax.specs.inner.Runs.{RunsTokens}
 use Rattle.word_syntax.specs.declared.word.WordReader.{WordReader}
 use Rattle.word_syntax.specs.declared.token.Token.{Token}
+use Rattle.aut_base.specs.Lists.{distinct}
+use Rattle.aut_base.specs.Text.{same_text}
 
 -- the parser is in this state after these tokens, whatever function has the indices of their names
 abbrev pub HasReadTokens : List Token → WordState → Type 0
-HasReadTokens tokens s = (place : List ℕ → ℕ) → Agrees place (distinct (token_names tokens)) → RunsTokens (word_step place) word_start tokens s
+HasReadTokens tokens s = (place : List ℕ → ℕ) → Agrees place (distinct same_text (token_names tokens)) → RunsTokens (word_step place) word_start tokens s
 
 -- The text is read up to the offset `at`.
 pub record HasReadTo (text : List ℕ) (at : ℕ) (r : WordReader) : Type 0 where
   pub tokens : List Token
   pub lexes : LexesWord text tokens (drop at text)
   pub within : at ≤ length text
-  pub names : r.names ≡ distinct (token_names tokens)
+  pub names : r.names ≡ distinct same_text (token_names tokens)
   pub read : HasReadTokens tokens (word_state r)
   pub few_names : length r.names ≤ at
   pub few_letters : length r.stem + length r.cycle ≤ at
@@ -32,7 +34,7 @@ pub record IsThrough (text : List ℕ) (r : WordReader) : Type 0 where
   pub rest : List ℕ
   pub lexes : LexesWord text tokens rest
   pub blank : list_all is_space rest ≡ true
-  pub names : r.names ≡ distinct (token_names tokens)
+  pub names : r.names ≡ distinct same_text (token_names tokens)
   pub read : HasReadTokens tokens (word_state r)
   pub few_letters : length r.stem + length r.cycle ≤ length text
 

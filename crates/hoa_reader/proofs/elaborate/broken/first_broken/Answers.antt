@@ -8,10 +8,12 @@ pub returns-then-not-branch : goal.returns-then-not-branch
 returns-then-not-branch c =
     let k = c.rules.rule-index in
     let within : k < length rules = omega arith in
-    record {
-      before = take k rules;
-      after = drop (k + 1) rules;
-      all = split-at rules k _ within (get_or_default rules k _ _ within);
-      earlier = c.rules.invariant;
-      broken = sym c.in_ok-keeps.ensures ∙ c.if-not-branch.true;
-    }
+    (
+      record {
+        before = take k rules;
+        after = drop (k + 1) rules;
+        all = split-at rules k _ within (get_or_default rules k _ _ within);
+        earlier = c.rules.invariant;
+      },
+      sym c.in_ok-keeps.ensures ∙ c.if-not-branch.true,
+    )

@@ -2,7 +2,8 @@ use Rattle.std.proofs.Common.{◌≡◌, ◌+◌, ◌-◌, ◌*◌, ◌||◌, �
 use Rattle.std.specs.Prelude.{sum_by}
 use Rattle.aut_base.specs.declared.limit.TheConstants.{MOST_ALIASES}
 use Rattle.hoa_reader.proofs.counting.Weights.{edge_weighed, either_passes, tall_law, weight_law}
-use Rattle.hoa_reader.specs.Counts.{greatest, growth, height, weight}
+use Rattle.hoa_reader.specs.Counts.{growth, height, weight}
+use Rattle.hoa_reader.specs.Described.{greatest}
 use Rattle.hoa_reader.specs.Described.{Meaning, expanded, meanings_after, meanings_of}
 use Rattle.hoa_reader.specs.inner.Gathered.{ArePartsOf}
 use Rattle.hoa_reader.specs.inner.Growing.{AreAliasesKnown, cap, meanings_by}

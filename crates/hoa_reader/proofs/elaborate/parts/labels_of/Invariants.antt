@@ -1,6 +1,6 @@
 use Rattle.std.proofs.Common.{◌≡◌, map, flat_map, take}
 use Rattle.hoa_parser.specs.Raw.{written_state}
-use Rattle.hoa_reader.specs.Validity.{state_labels}
+use Rattle.hoa_reader.specs.inner.Rules.{state_labels}
 use Rattle.hoa_reader.specs.inner.PickedOut.{label_refs}
 use Rattle.hoa_reader.proofs.elaborate.parts.labels_of.Given as goal
 

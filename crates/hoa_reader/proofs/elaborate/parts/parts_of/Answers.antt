@@ -5,8 +5,9 @@ use Rattle.hoa_parser.specs.declared.raw.Item.{Item}
 use Rattle.hoa_parser.specs.declared.raw.RawState.{RawState}
 use Rattle.hoa_reader.proofs.counting.AfterAll.{after_all-append}
 use Rattle.hoa_reader.proofs.counting.BodySums.{body_after}
-use Rattle.hoa_reader.specs.Described.{after_all}
-use Rattle.hoa_reader.specs.Validity.{acceptance_item, alias_item, names_item, written_names, no_acceptance, start_item, starts_written, state_labels}
+use Rattle.hoa_reader.specs.inner.Numbers.{after_all}
+use Rattle.hoa_reader.specs.Validity.{acceptance_item, alias_item, names_item, start_item, starts_written, written_names}
+use Rattle.hoa_reader.specs.inner.Rules.{no_acceptance, state_labels}
 use Rattle.hoa_reader.specs.declared.elaborate.sums.Sums.{Sums}
 use Rattle.hoa_reader.specs.inner.PickedOut.{edge_targets, numbers, starts_named}
 use Rattle.hoa_reader.specs.inner.Rising.{rises_from}

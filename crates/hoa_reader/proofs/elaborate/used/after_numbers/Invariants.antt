@@ -1,5 +1,5 @@
 use Rattle.std.proofs.Common.{◌≡◌, max, drop}
-use Rattle.hoa_reader.specs.Described.{after_all}
+use Rattle.hoa_reader.specs.inner.Numbers.{after_all}
 use Rattle.hoa_reader.proofs.elaborate.used.after_numbers.Given as goal
 
 abbrev pub invariant-numbers : goal.invariant-numbers

@@ -1,6 +1,6 @@
 use Rattle.std.proofs.Common.{◌+◌, max, drop, List, ℕ, ap, ◌∙◌}
 use Rattle.hoa_reader.proofs.counting.AfterAll.{after_more}
-use Rattle.hoa_reader.specs.Described.{after_all}
+use Rattle.hoa_reader.specs.inner.Numbers.{after_all}
 use Rattle.hoa_reader.specs.inner.PickedOut.{starts_named}
 use Rattle.hoa_reader.proofs.elaborate.used.after_starts.Goals as goal
 use Rattle.aut_base.proofs.lists.Lists.{drop-at}

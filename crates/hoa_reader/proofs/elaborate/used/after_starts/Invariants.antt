@@ -1,5 +1,5 @@
 use Rattle.std.proofs.Common.{◌≡◌, max, drop}
-use Rattle.hoa_reader.specs.Described.{after_all}
+use Rattle.hoa_reader.specs.inner.Numbers.{after_all}
 use Rattle.hoa_reader.specs.inner.PickedOut.{starts_named}
 use Rattle.hoa_reader.proofs.elaborate.used.after_starts.Given as goal
 
