@@ -1,10 +1,11 @@
 -- What the filters of a plan ask of an automaton, and the verdict on it.
-use Rattle.std.specs.Prelude.{◌≡◌, Bool, true, false, List, [], ◌∷◌, ◌++◌, length, Option, Result, Ok, Err}
+use Rattle.std.specs.Prelude.{Bool, true, false, MatchBool, List, [], ◌∷◌, length, Option, Result, Ok, Err}
 use Rattle.std.specs.Bool.{then_some}
 use Rattle.std.specs.List.{AllByRecursion}
 use Rattle.std.specs.Option.{option_map}
 use Rattle.aut_base.specs.Automaton.{Automaton}
 use Rattle.aut_base.specs.CanonicalLabel.{canonical}
+use Rattle.aut_base.specs.Lists.{FirstIn}
 use Rattle.aut_base.specs.declared.limit.Limit.{Limit}
 use Rattle.aut_base.specs.declared.limit.Limit.TheVariants as limit
 use Rattle.aut_core.specs.Deterministic as core
@@ -124,45 +125,23 @@ abbrev pub AllHold : List Filter → Automaton → Type 0
 AllHold fs a = AllByRecursion (λ f. HoldsWithin f a) fs
 
 -- A filter doesn't hold, and all before it do: it is the last that is examined.
-pub record FailsAtFilter (fs : List Filter) (a : Automaton) : Type 0 where
-  pub before : List Filter
-  pub filter : Filter
-  pub after : List Filter
-  pub all : fs ≡ before ++ filter ∷ after
-  pub held : AllHold before a
-  pub fails : LacksWithin filter a
+abbrev pub FailsAtFilter : List Filter → Automaton → Type 0
+FailsAtFilter fs a = (f : Filter) × FirstIn (λ g. HoldsWithin g a) fs f × LacksWithin f a
 
--- A filter passes a limit, and all before it hold.
-pub record PassesAt (which : Limit) (fs : List Filter) (a : Automaton) : Type 0 where
-  pub before : List Filter
-  pub filter : Filter
-  pub after : List Filter
-  pub all : fs ≡ before ++ filter ∷ after
-  pub held : AllHold before a
-  pub passes : PassesLimitOf which filter a
+-- A filter passes a limit before a verdict is reached: all before it hold.
+abbrev pub PassesAt : Limit → List Filter → Automaton → Type 0
+PassesAt which fs a = (f : Filter) × FirstIn (λ g. HoldsWithin g a) fs f × PassesLimitOf which f a
 
 -- An automaton is kept where all filters hold, and dropped where one doesn't; the other way round where the plan inverts.
-abbrev pub IsKeptBy : Bool → List Filter → Automaton → Type 0
-IsKeptBy false fs a = AllHold fs a
-IsKeptBy true fs a = FailsAtFilter fs a
-
-abbrev pub IsDroppedBy : Bool → List Filter → Automaton → Type 0
-IsDroppedBy false fs a = FailsAtFilter fs a
-IsDroppedBy true fs a = AllHold fs a
-
 abbrev pub IsKept : Plan → List Automaton → Automaton → Type 0
-IsKept p ops a = IsKeptBy p.invert (filters p ops) a
+IsKept p ops a = MatchBool p.invert (FailsAtFilter (filters p ops) a) (AllHold (filters p ops) a)
 
 abbrev pub IsDropped : Plan → List Automaton → Automaton → Type 0
-IsDropped p ops a = IsDroppedBy p.invert (filters p ops) a
-
--- a filter passes a limit before a verdict is reached
-abbrev pub IsOverFilters : Limit → Plan → List Automaton → Automaton → Type 0
-IsOverFilters which p ops a = PassesAt which (filters p ops) a
+IsDropped p ops a = MatchBool p.invert (AllHold (filters p ops) a) (FailsAtFilter (filters p ops) a)
 
 -- what each answer of `judge` means
 abbrev pub Judged : Result Bool PlanFault → Plan → List Automaton → Automaton → Type 0
 Judged (Ok true) p ops a = IsKept p ops a
 Judged (Ok false) p ops a = IsDropped p ops a
-Judged (Err (fault.Limit which)) p ops a = IsOverFilters which p ops a
+Judged (Err (fault.Limit which)) p ops a = PassesAt which (filters p ops) a
 Judged (Err fault.Memory) p ops a = Unit {0}
