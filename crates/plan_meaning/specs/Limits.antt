@@ -7,14 +7,15 @@ use Rattle.aut_base.specs.CanonicalLabel.{canonical}
 use Rattle.aut_base.specs.Word.{NameSet}
 use Rattle.aut_base.specs.declared.limit.Limit.{Limit}
 use Rattle.aut_base.specs.declared.limit.Limit.TheVariants as limit
-use Rattle.aut_base.specs.declared.limit.TheConstants.{MOST_NAMES, MOST_PAIRS}
+use Rattle.aut_base.specs.declared.limit.TheConstants.{MOST_BUCHI_STATES, MOST_NAMES, MOST_PAIRS}
 use Rattle.aut_core.specs.Deterministic as core
 use Rattle.aut_core.specs.OtherNames.{joined_names}
 use Rattle.aut_ops.specs.Completion.{completed}
 use Rattle.aut_ops.specs.Products.{HasMorePairs, over_both}
-use Rattle.parity_det.specs.Complements as det
+use Rattle.degeneralise.specs.Buchi.{NeedsTooManyTerms, buchi_states}
+use Rattle.exploration.specs.declared.fault.Fault.TheVariants as explored
 use Rattle.parity_det.specs.Complements.{IsComplementAutomaton}
-use Rattle.parity_det.specs.declared.fault.CompFault.TheVariants as comp
+use Rattle.parity_det.specs.Determinisation.{MeetsParityLimit}
 use Rattle.word_syntax.specs.Grammar.{WordPattern}
 use Rattle.word_syntax.specs.Matching.{word_automaton}
 
@@ -64,14 +65,18 @@ PassesOfWord which a p =
     ((which ≡ limit.Names) × (MOST_NAMES < length p.names))
     ⊎ ((length p.names ≤ MOST_NAMES) × PassesOfBoth which a (canonical (word_automaton p)))
 
+-- a Büchi form: the terms of its condition, and then its states
+abbrev pub PassesBuchi : Limit → Automaton → Type 0
+PassesBuchi limit.Terms a = NeedsTooManyTerms a.formula
+PassesBuchi limit.BuchiStates a = (NeedsTooManyTerms a.formula → ⊥) × (MOST_BUCHI_STATES < buchi_states a)
+PassesBuchi _ a = ⊥
+
 -- a parity automaton: the limits of the Büchi form, and then the first limit that its determinisation meets
 abbrev pub PassesParityLimit : Limit → Automaton → Type 0
-PassesParityLimit limit.Terms a = det.PassesParity comp.Terms a
-PassesParityLimit limit.BuchiStates a = det.PassesParity comp.BuchiStates a
-PassesParityLimit limit.Trees a = det.PassesParity comp.Trees a
-PassesParityLimit limit.Nodes a = det.PassesParity comp.Nodes a
-PassesParityLimit limit.Classes a = det.PassesParity comp.Classes a
-PassesParityLimit _ a = ⊥
+PassesParityLimit limit.Trees a = MeetsParityLimit a explored.States
+PassesParityLimit limit.Nodes a = MeetsParityLimit a explored.StepFailed
+PassesParityLimit limit.Classes a = MeetsParityLimit a explored.Classes
+PassesParityLimit which a = PassesBuchi which a
 
 -- a complement or a deterministic form: the same where the automaton isn't deterministic, else none
 abbrev pub PassesUnlessDeterministic : Limit → Automaton → Type 0
