@@ -12,7 +12,7 @@ use Rattle.hoa_reader.specs.Counts.{PassesNone}
 use Rattle.hoa_reader.specs.Described.{described}
 use Rattle.hoa_reader.specs.Validity.{IsValid}
 use Rattle.plan_meaning.specs.Changes.{StopsIn, changes_of}
-use Rattle.plan_meaning.specs.Filters.{IsKept, IsOverFilters}
+use Rattle.plan_meaning.specs.Filters.{IsKept, PassesAt, filters}
 use Rattle.plan_meaning.specs.Limits.{PassesOfInclusion}
 use Rattle.plan_meaning.specs.Operands.{refuted_operand}
 
@@ -32,4 +32,4 @@ pub record IsOverPrinting (which : Limit) (p : Plan) (ops : List Automaton) (w :
 pub record IsOverLimit (which : Limit) (p : Plan) (ops : List Automaton) (w : Written) : Type 0 where
   pub valid : IsValid w
   pub within : PassesNone w
-  pub over : IsOverFilters which p ops (described w) ⊎ IsOverPrinting which p ops w
+  pub over : PassesAt which (filters p ops) (described w) ⊎ IsOverPrinting which p ops w

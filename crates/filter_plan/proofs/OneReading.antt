@@ -10,7 +10,7 @@ use Rattle.filter_plan.proofs.RangeTexts.{IsOnlyCut, bounds_of_range, digits_hav
 use Rattle.filter_plan.specs.Formats.{IsFormat, piece_text}
 use Rattle.filter_plan.specs.Hiding.{IsHideOption, suffix}
 use Rattle.filter_plan.specs.Numbers.{IsMadeCount, IsNumber}
-use Rattle.filter_plan.specs.Spans.{IsRange, one, between, from, up_to, range}
+use Rattle.filter_plan.specs.Spans.{IsRange, one, between, from, up_to}
 use Rattle.filter_plan.specs.Table.{IsFile, IsPattern, ReadsOption, figures, refuted}
 use Rattle.filter_plan.specs.declared.format.Piece.{Piece}
 use Rattle.filter_plan.specs.declared.plan.Hidden.{Hidden}
@@ -68,14 +68,14 @@ same_high b (Some n) None h k = absurd (no_number n (subst (λ t. IsNumber t n) 
 same_high b (Some n) (Some m) h k = ap Some (same_number b n m h k)
 
 same_bounds : (a b : List ℕ) (r s : Range) → IsBounds a b r → IsBounds a b s → r ≡ s
-same_bounds a b r s h k = ap (λ n. range n r.high) (same_low a r.low s.low h.low k.low) ∙ ap (λ n. range s.low n) (same_high b r.high s.high h.high k.high)
+same_bounds a b r s h k = ap (λ n. record r { low = n }) (same_low a r.low s.low h.low k.low) ∙ ap (λ n. record s { high = n }) (same_high b r.high s.high h.high k.high)
 
 at_cut : (text a b : List ℕ) (r s : Range) → AllDigits 10 a → text ≡ a ++ (codes ".." ++ b) → IsRange text r → IsRange text s → r ≡ s
 at_cut text a b r s digits split h k =
     same_bounds a b r s (bounds_of_range text a b r split (only_cut text a b digits split) h) (bounds_of_range text a b s split (only_cut text a b digits split) k)
 
 pub same_range : (text : List ℕ) (r s : Range) → IsRange text r → IsRange text s → r ≡ s
-same_range text r s (one n number e) (one m other k) = e ∙ (ap (λ x. range x (Some x)) (same_number text n m number other) ∙ sym k)
+same_range text r s (one n number e) (one m other k) = e ∙ (ap (λ x. record r { low = x; high = Some x }) (same_number text n m number other) ∙ sym k)
 same_range text r s (one n number e) (between a b x y split low high k) = absurd (digits_have_no_dot a (46 ∷ b) (subst (AllDigits 10) split number.0.1))
 same_range text r s (one n number e) (from a x split low k) = absurd (digits_have_no_dot a (46 ∷ []) (subst (AllDigits 10) split number.0.1))
 same_range text r s (one n number e) (up_to b y split high k) = absurd (digits_have_no_dot [] (46 ∷ b) (subst (AllDigits 10) split number.0.1))

@@ -3,7 +3,7 @@ use Rattle.std.proofs.Common.{◌≡◌, ◌≢◌, ◌∙◌, ◌<◌, ℕ, Lis
 use Rattle.std.specs.Char.{digit_value}
 use Rattle.std.specs.Str.Parse.{AllDigits}
 use Rattle.filter_plan.specs.Numbers.{IsNumber}
-use Rattle.filter_plan.specs.Spans.{IsRange, one, between, from, up_to, range}
+use Rattle.filter_plan.specs.Spans.{IsRange, one, between, from, up_to}
 use Rattle.filter_plan.specs.declared.range.Range.{Range}
 use Rattle.filter_plan.specs.inner.Bounds.{IsBounds, IsHigh, IsLow}
 
@@ -23,10 +23,10 @@ digits_have_no_dot (c ∷ cs) b digits = digits_have_no_dot cs b digits.1
 pub range_of_bounds : (text a b : List ℕ) (r : Range) → text ≡ a ++ (codes ".." ++ b) → IsBounds a b r → IsRange text r
 range_of_bounds text a b r is bounds = go r.low r.high refl bounds.low bounds.high
   where
-    go : (low : ℕ) (high : Option ℕ) → r ≡ range low high → IsLow a low → IsHigh b high → IsRange text r
+    go : (low : ℕ) (high : Option ℕ) → r ≡ record { low = low; high = high } → IsLow a low → IsHigh b high → IsRange text r
     go low None e (inl none) h = absurd (bounds.one none.0 h)
     go low None e (inr number) h = from a low (is ∙ ap (λ x. a ++ (codes ".." ++ x)) h) number e
-    go low (Some m) e (inl none) h = up_to b m (is ∙ ap (λ x. x ++ (codes ".." ++ b)) none.0) h (e ∙ ap (λ n. range n (Some m)) none.1)
+    go low (Some m) e (inl none) h = up_to b m (is ∙ ap (λ x. x ++ (codes ".." ++ b)) none.0) h (e ∙ ap (λ n. record r { low = n; high = Some m }) none.1)
     go low (Some m) e (inr number) h = between a b low m is number h e
 
 -- the text has no other division into digits, dots and a rest
@@ -74,4 +74,4 @@ single_of_range text r none (from a n split low e) = absurd (none a [] low.0.1 s
 single_of_range text r none (up_to b m split high e) = absurd (none [] b tt split)
 
 pub range_of_single : (text : List ℕ) (r : Range) → IsNumber text r.low × (r.high ≡ Some r.low) → IsRange text r
-range_of_single text r h = one r.low h.0 (ap (range r.low) h.1)
+range_of_single text r h = one r.low h.0 (ap (λ n. record r { high = n }) h.1)

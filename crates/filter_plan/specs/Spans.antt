@@ -3,15 +3,12 @@ use Rattle.std.specs.Prelude.{◌≡◌, ◌≤◌, ⊤, ℕ, List, ◌++◌, Op
 use Rattle.filter_plan.specs.Numbers.{IsNumber}
 use Rattle.filter_plan.specs.declared.range.Range.{Range}
 
-abbrev pub range : ℕ → Option ℕ → Range
-range low high = record { low = low; high = high }
-
 -- how a range is written: `n`, `n..m`, `n..` or `..m`
 pub data IsRange (text : List ℕ) (r : Range) : Type 0 where
-  one : (n : ℕ) → IsNumber text n → r ≡ range n (Some n) → IsRange text r
-  between : (a b : List ℕ) (n m : ℕ) → text ≡ a ++ (codes ".." ++ b) → IsNumber a n → IsNumber b m → r ≡ range n (Some m) → IsRange text r
-  from : (a : List ℕ) (n : ℕ) → text ≡ a ++ codes ".." → IsNumber a n → r ≡ range n None → IsRange text r
-  up_to : (b : List ℕ) (m : ℕ) → text ≡ codes ".." ++ b → IsNumber b m → r ≡ range 0 (Some m) → IsRange text r
+  one : (n : ℕ) → IsNumber text n → r ≡ record { low = n; high = Some n } → IsRange text r
+  between : (a b : List ℕ) (n m : ℕ) → text ≡ a ++ (codes ".." ++ b) → IsNumber a n → IsNumber b m → r ≡ record { low = n; high = Some m } → IsRange text r
+  from : (a : List ℕ) (n : ℕ) → text ≡ a ++ codes ".." → IsNumber a n → r ≡ record { low = n; high = None } → IsRange text r
+  up_to : (b : List ℕ) (m : ℕ) → text ≡ codes ".." ++ b → IsNumber b m → r ≡ record { low = 0; high = Some m } → IsRange text r
 
 abbrev pub IsAtMost : ℕ → Option ℕ → Type 0
 IsAtMost n None = ⊤

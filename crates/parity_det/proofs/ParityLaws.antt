@@ -53,7 +53,7 @@ form_few a b made is form = record {
 }
 
 pub parity_has_few_sets : ParityHasFewSets
-parity_has_few_sets a made m = (form_parity m.pruned made m.is, form_few (buchi a) m.pruned made m.is_pruned m.is)
+parity_has_few_sets a made m = (form_parity m.0 made m.2, form_few (buchi a) m.0 made m.1 m.2)
 
 -- ---- there is one
 
@@ -64,8 +64,8 @@ forms_same b made other f g =
 
 determinisations_same : (a made other : Automaton) → IsDeterminisation a made → IsDeterminisation a other → made ≡ other
 determinisations_same a made other m o =
-    let same : m.pruned ≡ o.pruned = pruned_is_determined a m.pruned o.pruned m.is_pruned o.is_pruned in
-    forms_same m.pruned made other m.is (subst (λ b. IsTreeForm b other) (sym same) o.is)
+    let same : m.0 ≡ o.0 = pruned_is_determined a m.0 o.0 m.1 o.1 in
+    forms_same m.0 made other m.2 (subst (λ b. IsTreeForm b other) (sym same) o.2)
 
 pub parity_is_determined : ParityIsDetermined
 parity_is_determined a made other m o = determinisations_same (buchi a) made other m o
@@ -86,8 +86,8 @@ form_excludes b made f form meets = ends_or_meets (List Node) (tree_rules b) (st
 
 pub determinisation_excludes : (a made : Automaton) (f : Fault) → IsDeterminisation a made → MeetsTreeLimit a f → ⊥
 determinisation_excludes a made f m meets =
-    let same : meets.pruned ≡ m.pruned = pruned_is_determined a meets.pruned m.pruned meets.is_pruned m.is_pruned in
-    form_excludes m.pruned made f m.is (subst (λ b. MeetsFirst b f) same meets.meets)
+    let same : meets.0 ≡ m.0 = pruned_is_determined a meets.0 m.0 meets.1 m.1 in
+    form_excludes m.0 made f m.2 (subst (λ b. MeetsFirst b f) same meets.2)
 
 abbrev limit_of : Fault → Turn (List Node) → Fault
 limit_of d (Running s) = d
@@ -96,8 +96,8 @@ limit_of d (LimitMet f) = f
 
 limits_same : (a : Automaton) (f g : Fault) → MeetsTreeLimit a f → MeetsTreeLimit a g → f ≡ g
 limits_same a f g x y =
-    let same : y.pruned ≡ x.pruned = pruned_is_determined a y.pruned x.pruned y.is_pruned x.is_pruned in
-    let e = has_one_outcome (List Node) (tree_rules x.pruned) (begin (start_tree x.pruned)) (LimitMet f) (LimitMet g) tt tt x.meets (subst (λ b. MeetsFirst b g) same y.meets) in
+    let same : y.0 ≡ x.0 = pruned_is_determined a y.0 x.0 y.1 x.1 in
+    let e = has_one_outcome (List Node) (tree_rules x.0) (begin (start_tree x.0)) (LimitMet f) (LimitMet g) tt tt x.2 (subst (λ b. MeetsFirst b g) same y.2) in
     ap (limit_of f) e
 
 pub determinisation_is_determined : DeterminisationIsDetermined
@@ -110,19 +110,19 @@ determinisation_is_determined b = record {
 within_parity : (a : Automaton) → buchi_states a ≤ MOST_BUCHI_STATES → (NeedsTooManyTerms a.formula → ⊥) → ((f : Fault) → MeetsParityLimit a f → ⊥) → IsWithinParity a
 within_parity a few terms none fault.Terms p = terms p
 within_parity a few terms none fault.BuchiStates p = (let many = p.1 in omega (arith, few, many))
-within_parity a few terms none fault.Trees p = none limit.States p.1
-within_parity a few terms none fault.Nodes p = none limit.StepFailed p.1
-within_parity a few terms none fault.Classes p = none limit.Classes p.1
+within_parity a few terms none fault.Trees p = none limit.States p
+within_parity a few terms none fault.Nodes p = none limit.StepFailed p
+within_parity a few terms none fault.Classes p = none limit.Classes p
 within_parity a few terms none fault.Memory p = p
 
 pub made_within : (a made : Automaton) → IsParityAutomatonOf a made → buchi_states a ≤ MOST_BUCHI_STATES → (NeedsTooManyTerms a.formula → ⊥) → IsWithinParity a
-made_within a made m few terms = within_parity a few terms (λ f meets. determinisation_excludes (buchi a) made f m meets.meets)
+made_within a made m few terms = within_parity a few terms (λ f meets. determinisation_excludes (buchi a) made f m meets.2)
 
 one_meets : (a : Automaton) (f g : Fault) → MeetsParityLimit a f → MeetsParityLimit a g → f ≡ g
-one_meets a f g x y = limits_same (buchi a) f g x.meets y.meets
+one_meets a f g x y = limits_same (buchi a) f g x.2 y.2
 
 few_many : (a : Automaton) (f : Fault) {P : Type 0} → MeetsParityLimit a f → MOST_BUCHI_STATES < buchi_states a → P
-few_many a f meets many = (let few = meets.few in absurd (omega (arith, few, many)))
+few_many a f meets many = (let few = meets.1 in absurd (omega (arith, few, many)))
 
 one_passes : (a : Automaton) (f g : CompFault) → PassesParity f a → PassesParity g a → f ≡ g
 one_passes a fault.Terms fault.Terms p q = refl
@@ -132,23 +132,23 @@ one_passes a fault.Terms fault.Nodes p q = absurd (q.0 p)
 one_passes a fault.Terms fault.Classes p q = absurd (q.0 p)
 one_passes a fault.BuchiStates fault.Terms p q = absurd (p.0 q)
 one_passes a fault.BuchiStates fault.BuchiStates p q = refl
-one_passes a fault.BuchiStates fault.Trees p q = few_many a limit.States q.1 p.1
-one_passes a fault.BuchiStates fault.Nodes p q = few_many a limit.StepFailed q.1 p.1
-one_passes a fault.BuchiStates fault.Classes p q = few_many a limit.Classes q.1 p.1
+one_passes a fault.BuchiStates fault.Trees p q = few_many a limit.States q p.1
+one_passes a fault.BuchiStates fault.Nodes p q = few_many a limit.StepFailed q p.1
+one_passes a fault.BuchiStates fault.Classes p q = few_many a limit.Classes q p.1
 one_passes a fault.Trees fault.Terms p q = absurd (p.0 q)
-one_passes a fault.Trees fault.BuchiStates p q = few_many a limit.States p.1 q.1
+one_passes a fault.Trees fault.BuchiStates p q = few_many a limit.States p q.1
 one_passes a fault.Trees fault.Trees p q = refl
-one_passes a fault.Trees fault.Nodes p q = (let e = one_meets a limit.States limit.StepFailed p.1 q.1 in absurd cc)
-one_passes a fault.Trees fault.Classes p q = (let e = one_meets a limit.States limit.Classes p.1 q.1 in absurd cc)
+one_passes a fault.Trees fault.Nodes p q = (let e = one_meets a limit.States limit.StepFailed p q in absurd cc)
+one_passes a fault.Trees fault.Classes p q = (let e = one_meets a limit.States limit.Classes p q in absurd cc)
 one_passes a fault.Nodes fault.Terms p q = absurd (p.0 q)
-one_passes a fault.Nodes fault.BuchiStates p q = few_many a limit.StepFailed p.1 q.1
-one_passes a fault.Nodes fault.Trees p q = (let e = one_meets a limit.StepFailed limit.States p.1 q.1 in absurd cc)
+one_passes a fault.Nodes fault.BuchiStates p q = few_many a limit.StepFailed p q.1
+one_passes a fault.Nodes fault.Trees p q = (let e = one_meets a limit.StepFailed limit.States p q in absurd cc)
 one_passes a fault.Nodes fault.Nodes p q = refl
-one_passes a fault.Nodes fault.Classes p q = (let e = one_meets a limit.StepFailed limit.Classes p.1 q.1 in absurd cc)
+one_passes a fault.Nodes fault.Classes p q = (let e = one_meets a limit.StepFailed limit.Classes p q in absurd cc)
 one_passes a fault.Classes fault.Terms p q = absurd (p.0 q)
-one_passes a fault.Classes fault.BuchiStates p q = few_many a limit.Classes p.1 q.1
-one_passes a fault.Classes fault.Trees p q = (let e = one_meets a limit.Classes limit.States p.1 q.1 in absurd cc)
-one_passes a fault.Classes fault.Nodes p q = (let e = one_meets a limit.Classes limit.StepFailed p.1 q.1 in absurd cc)
+one_passes a fault.Classes fault.BuchiStates p q = few_many a limit.Classes p q.1
+one_passes a fault.Classes fault.Trees p q = (let e = one_meets a limit.Classes limit.States p q in absurd cc)
+one_passes a fault.Classes fault.Nodes p q = (let e = one_meets a limit.Classes limit.StepFailed p q in absurd cc)
 one_passes a fault.Classes fault.Classes p q = refl
 one_passes a fault.Memory g p q = absurd p
 one_passes a f fault.Memory p q = absurd q

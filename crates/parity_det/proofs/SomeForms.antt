@@ -26,15 +26,15 @@ module _ (a : Automaton) (within : IsWithinParity a) where
   ]
 
   meets_none : (f : Fault) → (f ≡ limit.Memory → ⊥) → MeetsTreeLimit (buchi a) f → ⊥
-  meets_none limit.Classes other meets = within fault.Classes (within fault.Terms, record { few = few_states; meets = meets })
-  meets_none limit.StepFailed other meets = within fault.Nodes (within fault.Terms, record { few = few_states; meets = meets })
-  meets_none limit.States other meets = within fault.Trees (within fault.Terms, record { few = few_states; meets = meets })
+  meets_none limit.Classes other meets = within fault.Classes (within fault.Terms, few_states, meets)
+  meets_none limit.StepFailed other meets = within fault.Nodes (within fault.Terms, few_states, meets)
+  meets_none limit.States other meets = within fault.Trees (within fault.Terms, few_states, meets)
   meets_none limit.Memory other meets = other refl
 
   pruned_has_form : ((made : Automaton) → IsParityAutomatonOf a made → ⊥) → (pruned : Automaton) → IsPruned (buchi a) pruned → HasOutcome (tree_rules pruned) (start_tree pruned) → ⊥
   pruned_has_form none pruned is (has_end trees transitions ends) =
-      none (parity_on trees transitions pruned) (record { pruned = pruned; is_pruned = is; is = record { trees = trees; transitions = transitions; explored = ends; is = refl } })
-  pruned_has_form none pruned is (has_limit f other meets) = meets_none f other (record { pruned = pruned; is_pruned = is; meets = meets })
+      none (parity_on trees transitions pruned) (pruned, is, record { trees = trees; transitions = transitions; explored = ends; is = refl })
+  pruned_has_form none pruned is (has_limit f other meets) = meets_none f other (pruned, is, meets)
 
 pub parity_exists : ParityExists
 parity_exists a within none = pruned_exists (buchi a) (λ pruned is. pruned_has_form a within none pruned is (has_some_outcome (List Node) (tree_rules pruned) (start_tree pruned)))

@@ -27,9 +27,9 @@ pub record IsComplementAutomaton (a made : Automaton) : Type 0 where
 abbrev pub PassesParity : CompFault → Automaton → Type 0
 PassesParity fault.Terms a = NeedsTooManyTerms a.formula
 PassesParity fault.BuchiStates a = (NeedsTooManyTerms a.formula → ⊥) × (MOST_BUCHI_STATES < buchi_states a)
-PassesParity fault.Trees a = (NeedsTooManyTerms a.formula → ⊥) × MeetsParityLimit a limit.States
-PassesParity fault.Nodes a = (NeedsTooManyTerms a.formula → ⊥) × MeetsParityLimit a limit.StepFailed
-PassesParity fault.Classes a = (NeedsTooManyTerms a.formula → ⊥) × MeetsParityLimit a limit.Classes
+PassesParity fault.Trees a = MeetsParityLimit a limit.States
+PassesParity fault.Nodes a = MeetsParityLimit a limit.StepFailed
+PassesParity fault.Classes a = MeetsParityLimit a limit.Classes
 PassesParity fault.Memory a = ⊥
 
 -- the construction of the parity automaton of a passes no limit

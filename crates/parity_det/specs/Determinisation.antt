@@ -6,7 +6,7 @@ use Rattle.aut_base.specs.Automaton.{Automaton, LabelledEdge}
 use Rattle.aut_base.specs.Valuation.{truth_on}
 use Rattle.aut_base.specs.declared.limit.TheConstants.{MOST_BUCHI_STATES, MOST_CLASSES, MOST_NODES, MOST_TREES}
 use Rattle.aut_ops.specs.Pruning.{IsPruned}
-use Rattle.degeneralise.specs.Buchi.{buchi, buchi_states}
+use Rattle.degeneralise.specs.Buchi.{NeedsTooManyTerms, buchi, buchi_states}
 use Rattle.exploration.specs.TransitionFunctions.{StepFailed, Successor, NoSuccessor, StepOutcome, TransitionFunction}
 use Rattle.exploration.specs.Turns.{Transition, Comes, EndsWith, LimitMet, Rules, begin}
 use Rattle.exploration.specs.declared.fault.Fault.{Fault}
@@ -75,25 +75,20 @@ pub record IsTreeForm (b made : Automaton) : Type 0 where
   pub is : made ≡ parity_on trees transitions b
 
 -- The automaton made is b determinised: that of the trees of b, pruned.
-pub record IsDeterminisation (b made : Automaton) : Type 0 where
-  pub pruned : Automaton
-  pub is_pruned : IsPruned b pruned
-  pub is : IsTreeForm pruned made
+abbrev pub IsDeterminisation : Automaton → Automaton → Type 0
+IsDeterminisation b made = (pruned : Automaton) × IsPruned b pruned × IsTreeForm pruned made
 
 -- The automaton made is the parity automaton of a: its Büchi form determinised. Law: there is at most one.
 abbrev pub IsParityAutomatonOf : Automaton → Automaton → Type 0
 IsParityAutomatonOf a made = IsDeterminisation (buchi a) made
 
 -- determinisation of b meets this limit first
-pub record MeetsTreeLimit (b : Automaton) (f : Fault) : Type 0 where
-  pub pruned : Automaton
-  pub is_pruned : IsPruned b pruned
-  pub meets : Comes (tree_rules pruned) (begin (start_tree pruned)) (LimitMet f)
+abbrev pub MeetsTreeLimit : Automaton → Fault → Type 0
+MeetsTreeLimit b f = (pruned : Automaton) × IsPruned b pruned × Comes (tree_rules pruned) (begin (start_tree pruned)) (LimitMet f)
 
--- the Büchi form has no more states than it may, and its determinisation meets this limit first
-pub record MeetsParityLimit (a : Automaton) (f : Fault) : Type 0 where
-  pub few : buchi_states a ≤ MOST_BUCHI_STATES
-  pub meets : MeetsTreeLimit (buchi a) f
+-- the Büchi form is within its limits, and its determinisation meets this limit first
+abbrev pub MeetsParityLimit : Automaton → Fault → Type 0
+MeetsParityLimit a f = (NeedsTooManyTerms a.formula → ⊥) × (buchi_states a ≤ MOST_BUCHI_STATES) × MeetsTreeLimit (buchi a) f
 
 -- An automaton has one parity automaton.
 abbrev pub ParityIsDetermined : Type 0

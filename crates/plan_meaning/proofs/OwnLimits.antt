@@ -8,11 +8,11 @@ use Rattle.aut_base.specs.declared.limit.Limit.TheVariants as limit
 use Rattle.filter_plan.specs.declared.plan.Form.{Form}
 use Rattle.filter_plan.specs.declared.plan.Form.TheVariants as form
 use Rattle.plan_meaning.specs.Changes as change
-use Rattle.plan_meaning.specs.Changes.{Change, PassesBuchi, PassesForm, PassesIn, PassesMonitor, limits_of_change, limits_of_form}
+use Rattle.plan_meaning.specs.Changes.{Change, PassesForm, PassesIn, PassesMonitor, limits_of_change, limits_of_form}
 use Rattle.plan_meaning.specs.Filters as filter
 use Rattle.plan_meaning.specs.Filters.{Filter, PassesLimitOf, limits_of_filter}
 use Rattle.plan_meaning.specs.Laws.{PassTheirOwn}
-use Rattle.plan_meaning.specs.Limits.{PassesOfBoth, PassesOfEither, PassesOfEquivalence, PassesOfInclusion, PassesOfWord, PassesParityLimit}
+use Rattle.plan_meaning.specs.Limits.{PassesBuchi, PassesOfBoth, PassesOfEither, PassesOfEquivalence, PassesOfInclusion, PassesOfWord, PassesParityLimit}
 use Rattle.plan_meaning.specs.Limits.{limits_of_inclusion, limits_of_parity, limits_of_product}
 use Rattle.word_syntax.specs.Grammar.{WordPattern}
 
@@ -42,7 +42,7 @@ of_parity _ a h = absurd h
 
 of_inclusion : (which : Limit) (a b : Automaton) → PassesOfInclusion which a b → Contains limits_of_inclusion which
 of_inclusion which a b (inl h) = Contains-append_left limits_of_parity limits_of_product which (of_parity which b h.1)
-of_inclusion which a b (inr h) = Contains-append_right limits_of_parity limits_of_product which (of_both which a h.1.co h.1.passes)
+of_inclusion which a b (inr h) = Contains-append_right limits_of_parity limits_of_product which (of_both which a h.1.0 h.1.2)
 
 of_equivalence : (which : Limit) (a b : Automaton) → PassesOfEquivalence which a b → Contains limits_of_inclusion which
 of_equivalence which a b (inl h) = of_inclusion which a b h

@@ -1,5 +1,5 @@
 -- What a plan makes of an automaton: operations, at most one form, and completion, one after the other.
-use Rattle.std.specs.Prelude.{◌≡◌, ◌⊎◌, ◌<◌, ℕ, true, List, [], ◌∷◌, ◌++◌, length, Option, Some, None, Result, Ok, Err}
+use Rattle.std.specs.Prelude.{◌≡◌, ◌⊎◌, ◌<◌, ℕ, true, List, [], ◌∷◌, ◌++◌, length, Option, Result, Ok, Err}
 use Rattle.std.specs.Bool.{then_some}
 use Rattle.std.specs.Option.{option_map}
 use Rattle.std.specs.Result.{result_map_both}
@@ -17,9 +17,9 @@ use Rattle.aut_ops.specs.Completion.{completed}
 use Rattle.aut_ops.specs.Products.{IsUnionProductOf, IsProductOf}
 use Rattle.aut_ops.specs.Sums.{summed}
 use Rattle.aut_ops.specs.Trimming.{IsTrimmed}
-use Rattle.degeneralise.specs.Buchi.{NeedsTooManyTerms, buchi, buchi_states}
-use Rattle.aut_base.specs.declared.limit.TheConstants.{MOST_BUCHI_STATES}
+use Rattle.degeneralise.specs.Buchi.{NeedsTooManyTerms, buchi}
 use Rattle.exploration.specs.declared.fault.Fault.TheVariants as explored
+use Rattle.filter_plan.specs.Words.{has_form}
 use Rattle.filter_plan.specs.declared.plan.Form.{Form}
 use Rattle.filter_plan.specs.declared.plan.Form.TheVariants as form
 use Rattle.filter_plan.specs.declared.plan.Hidden.{Hidden}
@@ -28,7 +28,7 @@ use Rattle.fin_removal.specs.Copies.{HasTooManyTerms, without_fin}
 use Rattle.monitor_form.specs.Subsets.{IsMonitorAutomaton, MeetsLimit}
 use Rattle.parity_det.specs.Complements.{IsComplementAutomaton}
 use Rattle.parity_det.specs.Determinisation.{IsParityAutomatonOf}
-use Rattle.plan_meaning.specs.Limits.{PassesOfBoth, PassesOfEither, PassesOfSum, PassesParityLimit, PassesUnlessDeterministic, limits_of_parity, limits_of_product}
+use Rattle.plan_meaning.specs.Limits.{HaveManyNames, PassesBuchi, PassesOfBoth, PassesOfEither, PassesParityLimit, PassesUnlessDeterministic, limits_of_parity, limits_of_product}
 use Rattle.plan_meaning.specs.Operands.{operand_at, place_of_product, place_of_product_or, place_of_sum}
 use Rattle.plan_meaning.specs.Standing.{those_standing}
 use Rattle.plan_meaning.specs.declared.fault.PlanFault.{PlanFault}
@@ -47,17 +47,13 @@ pub data Change : Type 0 where
 
 -- ---- one change
 
--- the automaton with its condition in disjunctive normal form
-abbrev pub in_disjunctive_form : Automaton → Automaton
-in_disjunctive_form a = record a { formula = of_terms (terms a.formula) }
-
 abbrev pub IsMadeInForm : Form → Automaton → Automaton → Type 0
 IsMadeInForm form.AsIs a made = ⊥
 IsMadeInForm form.Deterministic a made = (core.IsDeterministic a × (made ≡ a)) ⊎ ((core.IsDeterministic a → ⊥) × IsParityAutomatonOf a made)
 IsMadeInForm form.Parity a made = IsParityAutomatonOf a made
 IsMadeInForm form.Buchi a made = made ≡ buchi a
 IsMadeInForm form.RemoveFin a made = made ≡ without_fin a
-IsMadeInForm form.Dnf a made = made ≡ in_disjunctive_form a
+IsMadeInForm form.Dnf a made = made ≡ record a { formula = of_terms (terms a.formula) }
 IsMadeInForm form.Monitor a made = IsMonitorAutomaton a made
 
 -- what the change makes of an automaton, exactly
@@ -71,44 +67,29 @@ Makes Complement a made = IsComplementAutomaton a made
 Makes (Bring f) a made = IsMadeInForm f a made
 Makes Complete a made = made ≡ completed a
 
--- the limit is the first that a count of the change passes
-abbrev pub PassesBuchi : Limit → Automaton → Type 0
-PassesBuchi limit.Terms a = NeedsTooManyTerms a.formula
-PassesBuchi limit.BuchiStates a = (NeedsTooManyTerms a.formula → ⊥) × (MOST_BUCHI_STATES < buchi_states a)
-PassesBuchi _ a = ⊥
-
-abbrev pub PassesWithoutFin : Limit → Automaton → Type 0
-PassesWithoutFin which a = (which ≡ limit.Terms) × (has_fin a.formula ≡ true) × HasTooManyTerms a
-
-abbrev pub PassesDnf : Limit → Automaton → Type 0
-PassesDnf which a = (which ≡ limit.Terms) × HasTooManyTerms a
-
--- for a monitor: the limits of the Büchi form, and then the first limit that its subset construction meets
+-- a monitor: the limits of the Büchi form, and then the first limit that its subset construction meets
 abbrev pub PassesMonitor : Limit → Automaton → Type 0
-PassesMonitor limit.Terms a = PassesBuchi limit.Terms a
-PassesMonitor limit.BuchiStates a = PassesBuchi limit.BuchiStates a
 PassesMonitor limit.Classes a = (NeedsTooManyTerms a.formula → ⊥) × MeetsLimit a explored.Classes
 PassesMonitor limit.Subsets a = (NeedsTooManyTerms a.formula → ⊥) × MeetsLimit a explored.States
-PassesMonitor _ a = ⊥
+PassesMonitor which a = PassesBuchi which a
 
+-- the limit is the first that a count of the change passes; hiding, trimming and completion count nothing
 abbrev pub PassesForm : Limit → Form → Automaton → Type 0
 PassesForm which form.AsIs a = ⊥
 PassesForm which form.Deterministic a = PassesUnlessDeterministic which a
 PassesForm which form.Parity a = PassesParityLimit which a
 PassesForm which form.Buchi a = PassesBuchi which a
-PassesForm which form.RemoveFin a = PassesWithoutFin which a
-PassesForm which form.Dnf a = PassesDnf which a
+PassesForm which form.RemoveFin a = (which ≡ limit.Terms) × (has_fin a.formula ≡ true) × HasTooManyTerms a
+PassesForm which form.Dnf a = (which ≡ limit.Terms) × HasTooManyTerms a
 PassesForm which form.Monitor a = PassesMonitor which a
 
 abbrev pub PassesIn : Limit → Change → Automaton → Type 0
 PassesIn which (Product b) a = PassesOfBoth which a b
 PassesIn which (ProductOr b) a = PassesOfEither which a b
-PassesIn which (Sum b) a = PassesOfSum which a b
-PassesIn which (RemoveAp h) a = ⊥
-PassesIn which Trim a = ⊥
+PassesIn which (Sum b) a = (which ≡ limit.Names) × HaveManyNames a b
 PassesIn which Complement a = PassesUnlessDeterministic which a
 PassesIn which (Bring f) a = PassesForm which f a
-PassesIn which Complete a = ⊥
+PassesIn which _ a = ⊥
 
 -- the limits that a change may pass: it passes none of the others
 abbrev pub limits_of_form : Form → List Limit
@@ -132,11 +113,6 @@ limits_of_change Complete = []
 
 -- ---- the changes of a plan
 
--- the change into the form, if one is asked for
-abbrev pub form_change : Form → Option Change
-form_change form.AsIs = None
-form_change f = Some (Bring f)
-
 -- the operations in the order in which they are made, each if its option is given,
 abbrev pub operation_options : Plan → List Automaton → List (Option Change)
 operation_options p ops = option_map Product (operand_at p.product (place_of_product p) ops)
@@ -147,12 +123,9 @@ operation_options p ops = option_map Product (operand_at p.product (place_of_pro
     ∷ then_some p.complement Complement
     ∷ []
 
--- and after them the form and completion
-abbrev pub change_options : Plan → List Automaton → List (Option Change)
-change_options p ops = operation_options p ops ++ (form_change p.form ∷ then_some p.complete Complete ∷ [])
-
+-- and after them the form, unless it is left as it is, and completion
 abbrev pub changes_of : Plan → List Automaton → List Change
-changes_of p ops = those_standing (change_options p ops)
+changes_of p ops = those_standing (operation_options p ops ++ (then_some (has_form p.form) (Bring p.form) ∷ then_some p.complete Complete ∷ []))
 
 -- ---- all of them
 
@@ -197,13 +170,8 @@ pub record SomePrefix (says : List NameSet → List NameSet → Type 0) (u v : L
 -- what a form makes of a language: a monitor its safety closure, the words each of whose prefixes is a prefix of some word
 -- of it, and any other form the language itself
 abbrev pub said_in_form : Form → Language → Language
-said_in_form form.AsIs says u v = says u v
-said_in_form form.Deterministic says u v = says u v
-said_in_form form.Parity says u v = says u v
-said_in_form form.Buchi says u v = says u v
-said_in_form form.RemoveFin says u v = says u v
-said_in_form form.Dnf says u v = says u v
 said_in_form form.Monitor says u v = (n : ℕ) → SomePrefix says u v n
+said_in_form _ says u v = says u v
 
 -- what a change makes of a language: the intersection with that of the operand, the union with it, the language with a name
 -- hidden, its complement, what the form makes of it, or the language itself

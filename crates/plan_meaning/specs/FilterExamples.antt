@@ -3,7 +3,6 @@ use Rattle.std.specs.Prelude.{◌≡◌, ℕ, true, false, [], ◌∷◌, None, 
 use Rattle.aut_base.specs.Automaton.{Automaton}
 use Rattle.aut_base.specs.Examples.{a, again, alternating, either_way, ever_after, name_a, never, off_again, so_often}
 use Rattle.aut_base.specs.Label.{LabelTree}
-use Rattle.filter_plan.specs.Spans.{range}
 use Rattle.filter_plan.specs.declared.plan.Form.TheVariants as form
 use Rattle.filter_plan.specs.declared.plan.Output.TheVariants as output
 use Rattle.filter_plan.specs.declared.plan.Plan.{Plan}
@@ -26,13 +25,13 @@ any_word = record { names = []; stem = []; cycle = LabelTree.True ∷ [] }
 
 -- the numbers that the options write as `n`, `n..` and `..n`
 abbrev pub just : ℕ → Range
-just n = range n (Some n)
+just n = record { low = n; high = Some n }
 
 abbrev pub at_least : ℕ → Range
-at_least n = range n None
+at_least n = record { low = n; high = None }
 
 abbrev pub at_most : ℕ → Range
-at_most n = range 0 (Some n)
+at_most n = record { low = 0; high = Some n }
 
 -- the plan of no options
 abbrev pub plain : Plan
@@ -142,7 +141,7 @@ pub record OneFilter : Type 0 where
   pub not_sets : ¬ Holds (Sets (at_most 1)) never
   pub names : Holds (Names (at_most 1)) again
   pub not_names : ¬ Holds (Names (just 0)) again
-  pub no_number : ¬ Holds (States (range 2 (Some 1))) again
+  pub no_number : ¬ Holds (States (record { low = 2; high = Some 1 })) again
 
 -- ---- all filters of a plan
 

@@ -1,19 +1,22 @@
 -- What the filters of a plan ask of an automaton, and the verdict on it.
-use Rattle.std.specs.Prelude.{◌≡◌, Bool, true, false, List, [], ◌∷◌, ◌++◌, length, Option, Result, Ok, Err}
+use Rattle.std.specs.Prelude.{◌≡◌, Bool, true, false, MatchBool, List, [], ◌∷◌, length, Option, Result, Ok, Err}
 use Rattle.std.specs.Bool.{then_some}
 use Rattle.std.specs.List.{AllByRecursion}
 use Rattle.std.specs.Option.{option_map}
 use Rattle.aut_base.specs.Automaton.{Automaton}
 use Rattle.aut_base.specs.CanonicalLabel.{canonical}
+use Rattle.aut_base.specs.Lists.{FirstIn}
 use Rattle.aut_base.specs.declared.limit.Limit.{Limit}
 use Rattle.aut_base.specs.declared.limit.Limit.TheVariants as limit
+use Rattle.aut_base.specs.declared.limit.TheConstants.{MOST_PAIRS}
 use Rattle.aut_core.specs.Deterministic as core
 use Rattle.aut_core.specs.OtherNames.{AcceptTheSame}
+use Rattle.aut_ops.specs.Products.{HasMorePairs}
 use Rattle.filter_plan.specs.Spans.{IsInRange}
 use Rattle.filter_plan.specs.declared.plan.Plan.{Plan}
 use Rattle.filter_plan.specs.declared.range.Range.{Range}
 use Rattle.lasso_emptiness.specs.Emptiness.{AcceptsNothing}
-use Rattle.plan_meaning.specs.Limits.{IsIncluded, PassesOfBoth, PassesOfEquivalence, PassesOfInclusion, PassesOfSquare, PassesOfWord, limits_of_inclusion, limits_of_product}
+use Rattle.plan_meaning.specs.Limits.{IsIncluded, PassesOfBoth, PassesOfEquivalence, PassesOfInclusion, PassesOfWord, limits_of_inclusion, limits_of_product}
 use Rattle.plan_meaning.specs.Operands.{operand_at, place_of_equivalent_to, place_of_included_in, place_of_intersect}
 use Rattle.plan_meaning.specs.Standing.{those_standing}
 use Rattle.plan_meaning.specs.declared.fault.PlanFault.{PlanFault}
@@ -55,21 +58,16 @@ Holds (Edges r) a = IsInRange r (length a.edges)
 Holds (Sets r) a = IsInRange r a.sets
 Holds (Names r) a = IsInRange r (length a.names)
 
--- the limit is the first that a count of the filter passes, on the automaton with canonical labels
+-- the limit is the first that a count of the filter passes, on the automaton with canonical labels; the filters that aren't
+-- listed count nothing
 abbrev pub PassesLimitOf : Limit → Filter → Automaton → Type 0
 PassesLimitOf which (AcceptsWord p) a = PassesOfWord which (canonical a) p
 PassesLimitOf which (RejectsWord p) a = PassesOfWord which (canonical a) p
 PassesLimitOf which (Intersects b) a = PassesOfBoth which (canonical a) b
 PassesLimitOf which (IncludedIn b) a = PassesOfInclusion which (canonical a) b
 PassesLimitOf which (EquivalentTo b) a = PassesOfEquivalence which (canonical a) b
-PassesLimitOf which IsEmpty a = ⊥
-PassesLimitOf which IsDeterministic a = ⊥
-PassesLimitOf which IsComplete a = ⊥
-PassesLimitOf which IsUnambiguous a = PassesOfSquare which (canonical a)
-PassesLimitOf which (States r) a = ⊥
-PassesLimitOf which (Edges r) a = ⊥
-PassesLimitOf which (Sets r) a = ⊥
-PassesLimitOf which (Names r) a = ⊥
+PassesLimitOf which IsUnambiguous a = (which ≡ limit.Pairs) × HasMorePairs MOST_PAIRS (canonical a) (canonical a)
+PassesLimitOf which _ a = ⊥
 
 -- the limits that a filter may pass: it passes none of the others
 abbrev pub limits_of_filter : Filter → List Limit
@@ -124,45 +122,23 @@ abbrev pub AllHold : List Filter → Automaton → Type 0
 AllHold fs a = AllByRecursion (λ f. HoldsWithin f a) fs
 
 -- A filter doesn't hold, and all before it do: it is the last that is examined.
-pub record FailsAtFilter (fs : List Filter) (a : Automaton) : Type 0 where
-  pub before : List Filter
-  pub filter : Filter
-  pub after : List Filter
-  pub all : fs ≡ before ++ filter ∷ after
-  pub held : AllHold before a
-  pub fails : LacksWithin filter a
+abbrev pub FailsAtFilter : List Filter → Automaton → Type 0
+FailsAtFilter fs a = (f : Filter) × FirstIn (λ g. HoldsWithin g a) fs f × LacksWithin f a
 
--- A filter passes a limit, and all before it hold.
-pub record PassesAt (which : Limit) (fs : List Filter) (a : Automaton) : Type 0 where
-  pub before : List Filter
-  pub filter : Filter
-  pub after : List Filter
-  pub all : fs ≡ before ++ filter ∷ after
-  pub held : AllHold before a
-  pub passes : PassesLimitOf which filter a
+-- A filter passes a limit before a verdict is reached: all before it hold.
+abbrev pub PassesAt : Limit → List Filter → Automaton → Type 0
+PassesAt which fs a = (f : Filter) × FirstIn (λ g. HoldsWithin g a) fs f × PassesLimitOf which f a
 
 -- An automaton is kept where all filters hold, and dropped where one doesn't; the other way round where the plan inverts.
-abbrev pub IsKeptBy : Bool → List Filter → Automaton → Type 0
-IsKeptBy false fs a = AllHold fs a
-IsKeptBy true fs a = FailsAtFilter fs a
-
-abbrev pub IsDroppedBy : Bool → List Filter → Automaton → Type 0
-IsDroppedBy false fs a = FailsAtFilter fs a
-IsDroppedBy true fs a = AllHold fs a
-
 abbrev pub IsKept : Plan → List Automaton → Automaton → Type 0
-IsKept p ops a = IsKeptBy p.invert (filters p ops) a
+IsKept p ops a = MatchBool p.invert (FailsAtFilter (filters p ops) a) (AllHold (filters p ops) a)
 
 abbrev pub IsDropped : Plan → List Automaton → Automaton → Type 0
-IsDropped p ops a = IsDroppedBy p.invert (filters p ops) a
-
--- a filter passes a limit before a verdict is reached
-abbrev pub IsOverFilters : Limit → Plan → List Automaton → Automaton → Type 0
-IsOverFilters which p ops a = PassesAt which (filters p ops) a
+IsDropped p ops a = MatchBool p.invert (AllHold (filters p ops) a) (FailsAtFilter (filters p ops) a)
 
 -- what each answer of `judge` means
 abbrev pub Judged : Result Bool PlanFault → Plan → List Automaton → Automaton → Type 0
 Judged (Ok true) p ops a = IsKept p ops a
 Judged (Ok false) p ops a = IsDropped p ops a
-Judged (Err (fault.Limit which)) p ops a = IsOverFilters which p ops a
+Judged (Err (fault.Limit which)) p ops a = PassesAt which (filters p ops) a
 Judged (Err fault.Memory) p ops a = Unit {0}

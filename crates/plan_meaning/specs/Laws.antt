@@ -5,7 +5,7 @@ use Rattle.aut_base.specs.Automaton.{Automaton}
 use Rattle.aut_base.specs.declared.limit.Limit.{Limit}
 use Rattle.filter_plan.specs.declared.plan.Plan.{Plan}
 use Rattle.plan_meaning.specs.Changes.{Change, MakesAll, PassesIn, StopsIn, changes_of, limits_of_change}
-use Rattle.plan_meaning.specs.Filters.{Filter, IsDropped, IsKept, IsOverFilters, PassesLimitOf, limits_of_filter}
+use Rattle.plan_meaning.specs.Filters.{Filter, IsDropped, IsKept, PassesAt, PassesLimitOf, filters, limits_of_filter}
 use Rattle.plan_meaning.specs.Limits.{PassesOfInclusion, limits_of_inclusion}
 
 -- the verdict on an automaton
@@ -17,7 +17,7 @@ pub data Verdict : Type 0 where
 abbrev pub IsVerdict : Verdict → Plan → List Automaton → Automaton → Type 0
 IsVerdict Kept p ops a = IsKept p ops a
 IsVerdict Dropped p ops a = IsDropped p ops a
-IsVerdict (Over which) p ops a = IsOverFilters which p ops a
+IsVerdict (Over which) p ops a = PassesAt which (filters p ops) a
 
 -- There is at most one verdict,
 abbrev pub VerdictIsOne : Type 0

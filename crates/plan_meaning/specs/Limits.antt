@@ -7,14 +7,15 @@ use Rattle.aut_base.specs.CanonicalLabel.{canonical}
 use Rattle.aut_base.specs.Word.{NameSet}
 use Rattle.aut_base.specs.declared.limit.Limit.{Limit}
 use Rattle.aut_base.specs.declared.limit.Limit.TheVariants as limit
-use Rattle.aut_base.specs.declared.limit.TheConstants.{MOST_NAMES, MOST_PAIRS}
+use Rattle.aut_base.specs.declared.limit.TheConstants.{MOST_BUCHI_STATES, MOST_NAMES, MOST_PAIRS}
 use Rattle.aut_core.specs.Deterministic as core
 use Rattle.aut_core.specs.OtherNames.{joined_names}
 use Rattle.aut_ops.specs.Completion.{completed}
 use Rattle.aut_ops.specs.Products.{HasMorePairs, over_both}
-use Rattle.parity_det.specs.Complements as det
+use Rattle.degeneralise.specs.Buchi.{NeedsTooManyTerms, buchi_states}
+use Rattle.exploration.specs.declared.fault.Fault.TheVariants as explored
 use Rattle.parity_det.specs.Complements.{IsComplementAutomaton}
-use Rattle.parity_det.specs.declared.fault.CompFault.TheVariants as comp
+use Rattle.parity_det.specs.Determinisation.{MeetsParityLimit}
 use Rattle.word_syntax.specs.Grammar.{WordPattern}
 use Rattle.word_syntax.specs.Matching.{word_automaton}
 
@@ -50,28 +51,24 @@ PassesOfEither limit.Names a b = HaveManyNames a b
 PassesOfEither limit.Pairs a b = HaveFewNames a b × HasMorePairs MOST_PAIRS (over_both a b (completed a)) (over_both a b (completed b))
 PassesOfEither _ a b = ⊥
 
--- a sum of two automata: their names joined
-abbrev pub PassesOfSum : Limit → Automaton → Automaton → Type 0
-PassesOfSum which a b = (which ≡ limit.Names) × HaveManyNames a b
-
--- the square of an automaton: the pairs of it with itself that are reached
-abbrev pub PassesOfSquare : Limit → Automaton → Type 0
-PassesOfSquare which a = (which ≡ limit.Pairs) × HasMorePairs MOST_PAIRS a a
-
 -- a product with the automaton of a pattern: the names of the pattern come first
 abbrev pub PassesOfWord : Limit → Automaton → WordPattern → Type 0
 PassesOfWord which a p =
     ((which ≡ limit.Names) × (MOST_NAMES < length p.names))
     ⊎ ((length p.names ≤ MOST_NAMES) × PassesOfBoth which a (canonical (word_automaton p)))
 
+-- a Büchi form: the terms of its condition, and then its states
+abbrev pub PassesBuchi : Limit → Automaton → Type 0
+PassesBuchi limit.Terms a = NeedsTooManyTerms a.formula
+PassesBuchi limit.BuchiStates a = (NeedsTooManyTerms a.formula → ⊥) × (MOST_BUCHI_STATES < buchi_states a)
+PassesBuchi _ a = ⊥
+
 -- a parity automaton: the limits of the Büchi form, and then the first limit that its determinisation meets
 abbrev pub PassesParityLimit : Limit → Automaton → Type 0
-PassesParityLimit limit.Terms a = det.PassesParity comp.Terms a
-PassesParityLimit limit.BuchiStates a = det.PassesParity comp.BuchiStates a
-PassesParityLimit limit.Trees a = det.PassesParity comp.Trees a
-PassesParityLimit limit.Nodes a = det.PassesParity comp.Nodes a
-PassesParityLimit limit.Classes a = det.PassesParity comp.Classes a
-PassesParityLimit _ a = ⊥
+PassesParityLimit limit.Trees a = MeetsParityLimit a explored.States
+PassesParityLimit limit.Nodes a = MeetsParityLimit a explored.StepFailed
+PassesParityLimit limit.Classes a = MeetsParityLimit a explored.Classes
+PassesParityLimit which a = PassesBuchi which a
 
 -- a complement or a deterministic form: the same where the automaton isn't deterministic, else none
 abbrev pub PassesUnlessDeterministic : Limit → Automaton → Type 0
@@ -84,10 +81,8 @@ abbrev pub IsIncluded : Automaton → Automaton → Type 0
 IsIncluded a b = (u v : List NameSet) → Accepts a u v → Accepts b u v
 
 -- a product of the one with the complement of the other
-pub record PassesWithComplement (which : Limit) (a b : Automaton) : Type 0 where
-  pub co : Automaton
-  pub is : IsComplementAutomaton b co
-  pub passes : PassesOfBoth which a co
+abbrev pub PassesWithComplement : Limit → Automaton → Automaton → Type 0
+PassesWithComplement which a b = (co : Automaton) × IsComplementAutomaton b co × PassesOfBoth which a co
 
 -- whether the one is included in the other: the complement of the other, then its product with the one
 abbrev pub PassesOfInclusion : Limit → Automaton → Automaton → Type 0

@@ -1,6 +1,6 @@
 -- What holds of a run of a plan holds for an equal plan, wherever its patterns are stored.
 use Rattle.std.proofs.Common.{◌≡◌, ◌∙◌, ◌⊎◌, ℕ, Bool, true, false, List, [], ◌∷◌, Option, Some, None, ap, inl, inr, refl, subst, sym}
-use Rattle.std.proofs.Common.{drop}
+use Rattle.std.proofs.Common.{MatchBool, drop}
 use Rattle.std.specs.Option.{option_map}
 use Rattle.aut_base.specs.CanonicalLabel.{canonical}
 use Rattle.aut_base.specs.Automaton.{Automaton}
@@ -27,7 +27,7 @@ use Rattle.filter_plan.specs.declared.plan.Plan.{Plan}
 use Rattle.hoa_parser.specs.Raw.{Written}
 use Rattle.hoa_reader.specs.Described.{described}
 use Rattle.hoa_reader.specs.Elaborating.{PassesLimit}
-use Rattle.plan_meaning.specs.Filters.{AcceptsWord, Filter, IsDropped, IsDroppedBy, IsKept, IsKeptBy, IsOverFilters, PassesAt, RejectsWord, filter_options, filters}
+use Rattle.plan_meaning.specs.Filters.{AcceptsWord, AllHold, FailsAtFilter, Filter, IsDropped, IsKept, PassesAt, RejectsWord, filter_options, filters}
 use Rattle.plan_meaning.specs.Promises.{HasFewSetsUnder}
 use Rattle.plan_meaning.specs.Standing.{those_standing}
 use Rattle.word_syntax.specs.Grammar.{WordPattern}
@@ -90,16 +90,16 @@ module _ (q : Plan) (first second : Option Pattern) (same_first : option_map wor
       λ i. those_standing (a i ∷ b i ∷ drop 2 (filter_options q ops))
 
   kept : (ops : List Automaton) (a : Automaton) → IsKept r ops a → IsKept q ops a
-  kept ops a h = subst (λ (fs : List Filter). IsKeptBy q.invert fs a) (same_filters ops) h
+  kept ops a h = subst (λ (fs : List Filter). MatchBool q.invert (FailsAtFilter fs a) (AllHold fs a)) (same_filters ops) h
 
   dropped : (ops : List Automaton) (a : Automaton) → IsDropped r ops a → IsDropped q ops a
-  dropped ops a h = subst (λ (fs : List Filter). IsDroppedBy q.invert fs a) (same_filters ops) h
+  dropped ops a h = subst (λ (fs : List Filter). MatchBool q.invert (AllHold fs a) (FailsAtFilter fs a)) (same_filters ops) h
 
   made : (ops : List Automaton) (w : Written) (m : Automaton) → IsResult r ops w m → IsResult q ops w m
   made ops w m h = record { makes = h.makes; promises = h.promises; few_sets = λ is. few (h.few_sets is); accepts = h.accepts }
     where
       few : HasFewSetsUnder r ops (canonical (described w)) m → HasFewSetsUnder q ops (canonical (described w)) m
-      few h = record { before = h.before; makes = h.makes; few = h.few }
+      few h = h
 
   printed : (o : Output) (ops : List Automaton) (w : Written) (text : List ℕ) → IsPrinted o r ops w text → IsPrinted o q ops w text
   printed Hoa ops w text h = record { made = h.made; is_made = made ops w h.made h.is_made; same = h.same; reads_as = h.reads_as }
@@ -129,7 +129,7 @@ module _ (q : Plan) (first second : Option Pattern) (same_first : option_map wor
   over : (ops : List Automaton) (which : Limit) (w : Written) → IsOverLimit which r ops w → IsOverLimit which q ops w
   over ops which w h = record { valid = h.valid; within = h.within; over = either h.over }
     where
-      either : IsOverFilters which r ops (described w) ⊎ IsOverPrinting which r ops w → IsOverFilters which q ops (described w) ⊎ IsOverPrinting which q ops w
+      either : PassesAt which (filters r ops) (described w) ⊎ IsOverPrinting which r ops w → PassesAt which (filters q ops) (described w) ⊎ IsOverPrinting which q ops w
       either (inl f) = inl (subst (λ (fs : List Filter). PassesAt which fs (described w)) (same_filters ops) f)
       either (inr c) = inr (record { kept = kept ops (described w) c.kept; prints = c.prints; stops = stops_printing q.output ops which _ c.stops })
 

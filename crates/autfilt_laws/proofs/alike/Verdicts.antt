@@ -22,7 +22,7 @@ use Rattle.hoa_parser.specs.Raw.{Written}
 use Rattle.hoa_reader.specs.Described.{described}
 use Rattle.hoa_writer.specs.CanonicalText.{canonical_text}
 use Rattle.plan_meaning.specs.Changes.{changes_of}
-use Rattle.plan_meaning.specs.Filters.{IsDropped, IsKept, IsOverFilters}
+use Rattle.plan_meaning.specs.Filters.{IsDropped, IsKept, PassesAt, filters}
 use Rattle.plan_meaning.specs.Laws.{ChangesAreDetermined, OneLimitOfInclusion, VerdictIsOne}
 use Rattle.plan_meaning.specs.Laws as verdict
 use Rattle.plan_meaning.specs.Limits.{PassesOfInclusion}
@@ -49,10 +49,10 @@ kept_or_dropped one plan ops w v same k d =
     let kept = subst (λ (x : Written). IsKept plan ops (described x)) same k in
     kept_is_dropped (one.verdict plan ops (described v) verdict.Kept verdict.Dropped kept d)
 
-kept_or_over : AreOne → (which : Limit) (plan : Plan) (ops : List Automaton) (a : Automaton) → IsKept plan ops a → IsOverFilters which plan ops a → ⊥
+kept_or_over : AreOne → (which : Limit) (plan : Plan) (ops : List Automaton) (a : Automaton) → IsKept plan ops a → PassesAt which (filters plan ops) a → ⊥
 kept_or_over one which plan ops a k o = kept_is_over which (one.verdict plan ops a verdict.Kept (verdict.Over which) k o)
 
-dropped_or_over : AreOne → (which : Limit) (plan : Plan) (ops : List Automaton) (a : Automaton) → IsDropped plan ops a → IsOverFilters which plan ops a → ⊥
+dropped_or_over : AreOne → (which : Limit) (plan : Plan) (ops : List Automaton) (a : Automaton) → IsDropped plan ops a → PassesAt which (filters plan ops) a → ⊥
 dropped_or_over one which plan ops a k o = dropped_is_over which (one.verdict plan ops a verdict.Dropped (verdict.Over which) k o)
 
 -- ---- the text
@@ -124,14 +124,14 @@ due_or_over one which p ops w text d o = printed_or_over one p.output which p op
 pub kept_is_within : AreOne → (which : Limit) (p : Plan) (ops : List Automaton) (w : Written) (text : List ℕ) → IsKept p ops (described w) → IsDue p ops w text → IsOverLimit which p ops w → ⊥
 kept_is_within one which p ops w text k d o = go o.over
   where
-    go : IsOverFilters which p ops (described w) ⊎ IsOverPrinting which p ops w → ⊥
+    go : PassesAt which (filters p ops) (described w) ⊎ IsOverPrinting which p ops w → ⊥
     go (inl f) = kept_or_over one which p ops (described w) k f
     go (inr c) = due_or_over one which p ops w text d c
 
 pub dropped_is_within : AreOne → (which : Limit) (p : Plan) (ops : List Automaton) (w : Written) → IsDropped p ops (described w) → IsOverLimit which p ops w → ⊥
 dropped_is_within one which p ops w d o = go o.over
   where
-    go : IsOverFilters which p ops (described w) ⊎ IsOverPrinting which p ops w → ⊥
+    go : PassesAt which (filters p ops) (described w) ⊎ IsOverPrinting which p ops w → ⊥
     go (inl f) = dropped_or_over one which p ops (described w) d f
     go (inr c) = kept_or_dropped one p ops w w refl c.kept d
 
@@ -153,7 +153,7 @@ one_over one p ops which other w a b = go a.over b.over
     over_is : verdict.Over which ≡ verdict.Over other → which ≡ other
     over_is e = cc
 
-    go : IsOverFilters which p ops (described w) ⊎ IsOverPrinting which p ops w → IsOverFilters other p ops (described w) ⊎ IsOverPrinting other p ops w
+    go : PassesAt which (filters p ops) (described w) ⊎ IsOverPrinting which p ops w → PassesAt other (filters p ops) (described w) ⊎ IsOverPrinting other p ops w
         → which ≡ other
     go (inl x) (inl y) = over_is (one.verdict p ops (described w) (verdict.Over which) (verdict.Over other) x y)
     go (inl x) (inr y) = absurd (kept_or_over one which p ops (described w) y.kept x)

@@ -79,19 +79,19 @@ record IsParityForm (a made : Automaton) : Type 0 where
 
 parity_form : (a made : Automaton) → IsWellFormed a → IsParityAutomatonOf a made → IsParityForm a made
 parity_form a made formed m =
-    let l = left_of a m.pruned formed m.is_pruned in
-    let form = m.is in
-    let shape = form_parity m.pruned made form in
-    let own = form_accepts m.pruned made l.formed (pruned_formula (buchi a) m.pruned m.is_pruned refl) form in
+    let l = left_of a m.0 formed m.1 in
+    let form = m.2 in
+    let shape = form_parity m.0 made form in
+    let own = form_accepts m.0 made l.formed (pruned_formula (buchi a) m.0 m.1 refl) form in
     let some : 1 ≤ MOST_TREES = omega arith in
-    let trees = few_explored (tree_rules m.pruned) (start_tree m.pruned) form.trees form.transitions some form.explored in
-    let nodes = few_nodes m.pruned form.trees form.transitions (explored_trees m.pruned form.trees form.transitions form.explored) in
+    let trees = few_explored (tree_rules m.0) (start_tree m.0) form.trees form.transitions some form.explored in
+    let nodes = few_nodes m.0 form.trees form.transitions (explored_trees m.0 form.trees form.transitions form.explored) in
     let sets = ap (λ (b : Automaton). b.sets) form.is in
     record {
       form = record {
-        formed = tree_form_formed m.pruned made l.formed form;
+        formed = tree_form_formed m.0 made l.formed form;
         names = ap (λ (b : Automaton). b.names) form.is ∙ l.names;
-        accepts = same_through made m.pruned a own (same_through m.pruned (buchi a) a l.kept l.same);
+        accepts = same_through made m.0 a own (same_through m.0 (buchi a) a l.kept l.same);
         deterministic = shape.deterministic;
         complete = shape.complete;
       };

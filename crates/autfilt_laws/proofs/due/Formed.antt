@@ -9,7 +9,7 @@ use Rattle.std.specs.Cmp.Lexicographic.{pointwise}
 use Rattle.std.specs.List.Sorted.{IsNonDecreasing}
 use Rattle.std.specs.Prelude.{if◌then◌else◌, nat_eq, not}
 use Rattle.acc_forms.specs.Atoms.{has_fin}
-use Rattle.acc_forms.specs.Terms.{terms}
+use Rattle.acc_forms.specs.Terms.{of_terms, terms}
 use Rattle.ap_project.specs.Hiding.{hidden, hidden_label, names_without}
 use Rattle.ap_project.specs.declared.hide.Hide.{Hide}
 use Rattle.aut_base.proofs.canonical.CanonicalBelow.{label_of_below}
@@ -43,7 +43,6 @@ use Rattle.parity_det.proofs.Widths.{parity_below}
 use Rattle.parity_det.specs.Determinisation.{IsTreeForm, class_moves, parity_edge, parity_on, start_tree, tree_classes, tree_moves, width}
 use Rattle.parity_laws.specs.Determinised.{tree_at}
 use Rattle.plan_meaning.proofs.changes.DisjunctiveForm.{terms_below}
-use Rattle.plan_meaning.specs.Changes.{in_disjunctive_form}
 use Rattle.safra_laws.proofs.parity.Least.{priorities_are_below}
 use Rattle.safra_trees.specs.Same.{same_nodes}
 use Rattle.safra_trees.specs.Trees.{Node}
@@ -91,14 +90,14 @@ hidden_formed how name a formed = by_cases (is_among a.names name)
 
 -- ---- forms of the condition
 
-pub disjunctive_formed : (a : Automaton) → IsWellFormed a → IsWellFormed (in_disjunctive_form a)
+pub disjunctive_formed : (a : Automaton) → IsWellFormed a → IsWellFormed (record a { formula = of_terms (terms a.formula) })
 disjunctive_formed a formed = record {
   names_differ = formed.names_differ;
   starts_differ = formed.starts_differ;
   starts = formed.starts;
   in_order = formed.in_order;
-  edges = All-weaker (IsEdgeOf a) (IsEdgeOf (in_disjunctive_form a)) (λ e is. record { from = is.from; to = is.to; label = is.label; marks = is.marks; marks_rise = is.marks_rise }) a.edges
-      formed.edges;
+  edges = All-weaker (IsEdgeOf a) (IsEdgeOf (record a { formula = of_terms (terms a.formula) }))
+      (λ e is. record { from = is.from; to = is.to; label = is.label; marks = is.marks; marks_rise = is.marks_rise }) a.edges formed.edges;
   formula = of_terms_holds (SetsBelow a.sets) (below_parts a.sets) (terms a.formula) (terms_below a.sets a.formula formed.formula);
 }
 

@@ -3,6 +3,7 @@ use Rattle.std.proofs.Common.{◌≡◌, ◌∙◌, ◌≤◌, ℕ, Bool, true, 
 use Rattle.std.proofs.lemmas.Bool.{cases_Bool}
 use Rattle.std.specs.Prelude.{if◌then◌else◌}
 use Rattle.acc_forms.specs.Atoms.{has_fin}
+use Rattle.acc_forms.specs.Terms.{of_terms, terms}
 use Rattle.ap_project.proofs.HiddenAutomata.{hidden_accepts, sets_hidden, states_hidden}
 use Rattle.ap_project.proofs.OtherNames.{fewer}
 use Rattle.ap_project.specs.Hiding.{AcceptsHidden, hidden, hidden_label, names_without}
@@ -28,7 +29,7 @@ use Rattle.fin_removal.specs.Copies.{HasTooManyTerms, copied}
 use Rattle.plan_meaning.proofs.changes.DisjunctiveForm.{disjunctive_accepts}
 use Rattle.plan_meaning.proofs.changes.Shapings.{buchi_made, complete_made, copies_made, dnf_made, fin_itself, fin_room, trim_made, trim_within}
 use Rattle.plan_meaning.proofs.changes.Stepping.{hidden_made}
-use Rattle.plan_meaning.specs.Changes.{Bring, Complete, MakesWithin, RemoveAp, Trim, in_disjunctive_form}
+use Rattle.plan_meaning.specs.Changes.{Bring, Complete, MakesWithin, RemoveAp, Trim}
 use Rattle.plan_meaning.specs.inner.Stepping.{HasRoom, IsOfComplementSize, IsOfSumSize}
 
 -- ---- before the form
@@ -108,7 +109,7 @@ fin_step a made f m = elim (cases_Bool (has_fin a.formula)) [
 
 pub dnf_step : (a made : Automaton) → IsFine IsOfComplementSize a → MakesWithin (Bring form.Dnf) a made → Step (Bring form.Dnf) a made
 dnf_step a made f m =
-    let is : made ≡ in_disjunctive_form a = m.makes in
+    let is : made ≡ record a { formula = of_terms (terms a.formula) } = m.makes in
     let whole = itself_fine a f in
     record {
       is = dnf_made a made (λ many. m.within limit.Terms (refl, many)) is (subst (λ (z : Automaton). AcceptTheSame z a) (sym is) (disjunctive_accepts a));

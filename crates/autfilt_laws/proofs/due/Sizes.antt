@@ -13,8 +13,8 @@ use Rattle.aut_ops.specs.Products.{HasMorePairs, IsProduct}
 use Rattle.degeneralise.specs.Buchi.{NeedsTooManyTerms, buchi_states}
 use Rattle.parity_det.specs.Complements.{IsWithinParity}
 use Rattle.parity_det.specs.declared.fault.CompFault.TheVariants as comp
-use Rattle.plan_meaning.specs.Changes.{Change, PassesBuchi}
-use Rattle.plan_meaning.specs.Limits.{HaveFewNames, HaveManyNames, PassesParityLimit}
+use Rattle.plan_meaning.specs.Changes.{Change}
+use Rattle.plan_meaning.specs.Limits.{HaveFewNames, HaveManyNames, PassesBuchi, PassesParityLimit}
 use Rattle.plan_meaning.specs.Operands.{IsOfReadSize}
 use Rattle.plan_meaning.specs.inner.Stepping.{IsMadeAsPromised, IsOfSizeBehind}
 

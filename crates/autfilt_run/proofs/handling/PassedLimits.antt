@@ -26,7 +26,7 @@ use Rattle.plan_meaning.proofs.OwnLimits.{only_own_limits}
 use Rattle.plan_meaning.specs.Changes as change
 use Rattle.plan_meaning.specs.Changes.{Change, StopsIn, changes_of, limits_of_change, limits_of_form}
 use Rattle.plan_meaning.specs.Filters as filter
-use Rattle.plan_meaning.specs.Filters.{Filter, IsOverFilters, limits_of_filter}
+use Rattle.plan_meaning.specs.Filters.{Filter, PassesAt, filters, limits_of_filter}
 use Rattle.plan_meaning.specs.Limits.{PassesOfInclusion, limits_of_inclusion}
 use Rattle.plan_meaning.specs.Operands.{refuted_operand}
 
@@ -104,8 +104,8 @@ printing_pass which (Refute file) p ops a h = refuted_pass which (refuted_operan
 pub plan_passes : (which : Limit) (p : Plan) (ops : List Automaton) (w : Written) → IsOverLimit which p ops w → IsOfWhole which
 plan_passes which p ops w h = by_cases h.over
   where
-    by_cases : IsOverFilters which p ops (described w) ⊎ IsOverPrinting which p ops w → IsOfWhole which
-    by_cases (inl f) = one_of (limits_of_filter f.filter) which (of_filter f.filter) (only_own_limits.filter f.filter which (described w) f.passes)
+    by_cases : PassesAt which (filters p ops) (described w) ⊎ IsOverPrinting which p ops w → IsOfWhole which
+    by_cases (inl f) = one_of (limits_of_filter f.0) which (of_filter f.0) (only_own_limits.filter f.0 which (described w) f.2)
     by_cases (inr c) = printing_pass which p.output p ops _ c.stops
 
 pub both_ways : (which : Limit) (p : Plan) (ops : List Automaton) (w : Written) → PassesLimit which w ⊎ IsOverLimit which p ops w → IsOfWhole which

@@ -20,10 +20,10 @@ use Rattle.parity_det.proofs.ParityLaws.{complement_is_determined, parity_exclud
 use Rattle.parity_det.specs.Complements as det
 use Rattle.parity_det.specs.declared.fault.CompFault.{CompFault}
 use Rattle.parity_det.specs.declared.fault.CompFault.TheVariants as comp
-use Rattle.plan_meaning.specs.Changes.{Bring, Change, Complement, Complete, IsMadeInForm, Makes, MakesAll, MakesWithin, PassesBuchi}
-use Rattle.plan_meaning.specs.Changes.{PassesForm, PassesIn, PassesMonitor, Product, ProductOr, RemoveAp, StopsIn, Sum, Trim}
+use Rattle.plan_meaning.specs.Changes.{Bring, Change, Complement, Complete, IsMadeInForm, Makes, MakesAll, MakesWithin, PassesForm, PassesIn}
+use Rattle.plan_meaning.specs.Changes.{PassesMonitor, Product, ProductOr, RemoveAp, StopsIn, Sum, Trim}
 use Rattle.plan_meaning.specs.Laws.{ChangesAreDetermined}
-use Rattle.plan_meaning.specs.Limits.{HaveFewNames, HaveManyNames, PassesOfBoth, PassesOfEither, PassesParityLimit}
+use Rattle.plan_meaning.specs.Limits.{HaveFewNames, HaveManyNames, PassesBuchi, PassesOfBoth, PassesOfEither, PassesParityLimit}
 
 -- ---- one change
 

@@ -14,7 +14,6 @@ use Rattle.aut_base.specs.Word.{NameSet}
 use Rattle.aut_core.specs.SymbolicAutomata.{SymbolicAutomaton, IsWellFormedSymbolic, automaton_of}
 use Rattle.aut_core.specs.OtherNames.{AcceptTheSame}
 use Rattle.fin_removal.proofs.Conditions.{below_parts, of_terms_holds}
-use Rattle.plan_meaning.specs.Changes.{in_disjunctive_form}
 
 -- ---- its terms have the same sets
 
@@ -61,9 +60,9 @@ accepts_under f a holds u v r = accepts_wider a (record a { formula = f }) refl 
 met_alike : (f : FormulaTree) (cycle : List (List ℕ)) → met cycle (of_terms (terms f)) ≡ met cycle f
 met_alike f cycle = met-of_terms cycle (terms f) ∙ sym (met-terms cycle f)
 
-pub disjunctive_accepts : (a : Automaton) → AcceptTheSame (in_disjunctive_form a) a
+pub disjunctive_accepts : (a : Automaton) → AcceptTheSame (record a { formula = of_terms (terms a.formula) }) a
 disjunctive_accepts a u v = (
-  accepts_under a.formula (in_disjunctive_form a) (λ cycle h. sym (met_alike a.formula cycle) ∙ h) u v,
+  accepts_under a.formula (record a { formula = of_terms (terms a.formula) }) (λ cycle h. sym (met_alike a.formula cycle) ∙ h) u v,
   accepts_under (of_terms (terms a.formula)) a (λ cycle h. met_alike a.formula cycle ∙ h) u v,
 )
 
@@ -77,5 +76,5 @@ disjuncts_below c core f ts listed joined =
     subst (SetsBelow c.sets) (sym (of_own c f ts listed joined)) (of_terms_holds (SetsBelow c.sets) (below_parts c.sets) (terms c.formula) (terms_below c.sets c.formula core.parts.formula))
 
 pub same_disjuncts : (c made : SymbolicAutomaton) (f : FormulaTree) (ts : List (List Literal)) → ts ≡ terms c.formula → f ≡ of_terms ts → made ≡ record c { formula = f }
-    → automaton_of made ≡ in_disjunctive_form (automaton_of c)
+    → automaton_of made ≡ record (automaton_of c) { formula = of_terms (terms c.formula) }
 same_disjuncts c made f ts listed joined same = (λ i. automaton_of (same i)) ∙ (λ i. record (automaton_of c) { formula = of_own c f ts listed joined i })

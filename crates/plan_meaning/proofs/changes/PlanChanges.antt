@@ -1,14 +1,15 @@
 -- The changes that a plan can have, and that an automaton which was read can go through them.
-use Rattle.std.proofs.Common.{◌≡◌, Bool, true, false, ℕ, List, [], ◌∷◌, Contains, Option, Some, None, IfSome, arith, refl, slice_get}
+use Rattle.std.proofs.Common.{◌≡◌, Bool, true, false, ℕ, List, [], ◌∷◌, ◌++◌, Contains, Option, Some, None, IfSome, arith, refl, slice_get}
 use Rattle.std.specs.Bool.{then_some}
 use Rattle.std.specs.List.{AllByRecursion}
 use Rattle.std.specs.Option.{option_map}
 use Rattle.aut_base.proofs.lists.Members.{placed_there}
 use Rattle.aut_base.specs.Automaton.{Automaton}
+use Rattle.filter_plan.specs.Words.{has_form}
 use Rattle.filter_plan.specs.declared.plan.Form.{Form}
 use Rattle.filter_plan.specs.declared.plan.Form.TheVariants as form
 use Rattle.filter_plan.specs.declared.plan.Plan.{Plan}
-use Rattle.plan_meaning.specs.Changes.{Bring, Change, Complement, Complete, Product, ProductOr, RemoveAp, Sum, Trim, change_options, changes_of, form_change}
+use Rattle.plan_meaning.specs.Changes.{Bring, Change, Complement, Complete, Product, ProductOr, RemoveAp, Sum, Trim, changes_of, operation_options}
 use Rattle.plan_meaning.specs.Operands.{IsOfReadSize, operand_at, place_of_product, place_of_product_or, place_of_sum}
 use Rattle.plan_meaning.specs.Standing.{those_standing}
 use Rattle.plan_meaning.specs.inner.Stepping.{HasRoom, IsOfComplementSize, IsOfLastSize, IsOfProductOrSize, IsOfProductSize, IsOfSizeBefore, IsOfSizeBehind, IsOfSizeFor, IsOfSumSize, IsPossible}
@@ -46,7 +47,7 @@ of_flag : (P : Change → Type 0) (c : Change) (asked : Bool) → P c → IfAske
 of_flag P c false holds = record { holds = tt }
 of_flag P c true holds = record { holds = holds }
 
-of_form : (P : Change → Type 0) (f : Form) → ((g : Form) → (g ≡ form.AsIs → ⊥) → P (Bring g)) → IfAsked P (form_change f)
+of_form : (P : Change → Type 0) (f : Form) → ((g : Form) → (g ≡ form.AsIs → ⊥) → P (Bring g)) → IfAsked P (then_some (has_form f) (Bring f))
 of_form P form.AsIs holds = record { holds = tt }
 of_form P form.Deterministic holds = record { holds = holds form.Deterministic (λ e. cc) }
 of_form P form.Parity holds = record { holds = holds form.Parity (λ e. cc) }
@@ -56,6 +57,9 @@ of_form P form.Dnf holds = record { holds = holds form.Dnf (λ e. cc) }
 of_form P form.Monitor holds = record { holds = holds form.Monitor (λ e. cc) }
 
 -- ---- and of all changes of a plan
+
+abbrev pub options : Plan → List Automaton → List (Option Change)
+options p ops = operation_options p ops ++ (then_some (has_form p.form) (Bring p.form) ∷ then_some p.complete Complete ∷ [])
 
 record All (P : Change → Type 0) (os : List (Option Change)) : Type 0 where
   all : AllByRecursion P (those_standing os)
@@ -73,7 +77,7 @@ each_of_plan p ops = each.all
     P : Change → Type 0
     P = IsOfPlan ops
 
-    each : All P (change_options p ops)
+    each : All P (options p ops)
     each =
         more P _ _ (of_operand P Product p.product (place_of_product p) ops (λ b there. there))
         (more P _ _ (of_operand P ProductOr p.product_or (place_of_product_or p) ops (λ b there. there))
@@ -136,7 +140,7 @@ at_sizes c possible = record { possible = possible; before = λ a h. h; behind =
 pub sizes_of_plan : (p : Plan) (ops : List Automaton) → ((b : Automaton) → Contains ops b → IsOfReadSize b) → (a : Automaton) → IsOfReadSize a → IsOfSizeFor (changes_of p ops) a
 sizes_of_plan p ops read = all.ready
   where
-    all : AreReady IsOfReadSize (change_options p ops)
+    all : AreReady IsOfReadSize (options p ops)
     all =
         led IsOfReadSize IsOfProductSize _ _ (of_operand _ Product p.product (place_of_product p) ops (λ b there. at_sizes (Product b) (read b there))) product_of_read
         (led IsOfProductSize IsOfProductOrSize _ _ (of_operand _ ProductOr p.product_or (place_of_product_or p) ops (λ b there. at_sizes (ProductOr b) (read b there))) product_or_of_product

@@ -11,11 +11,12 @@ use Rattle.aut_core.specs.Deterministic.{IsComplete, IsDeterministic}
 use Rattle.aut_ops.specs.Completion.{completed, is_met_unmarked, lacks_nothing, with_sink}
 use Rattle.fin_removal.proofs.CopiedWhole.{copied_no_fin}
 use Rattle.fin_removal.specs.Copies.{copied, without_fin}
+use Rattle.filter_plan.specs.Words.{has_form}
 use Rattle.filter_plan.specs.declared.plan.Form.{Form}
 use Rattle.filter_plan.specs.declared.plan.Form.TheVariants as form
 use Rattle.filter_plan.specs.declared.plan.Plan.{Plan}
 use Rattle.monitor_form.specs.Subsets.{IsMonitorAutomaton}
-use Rattle.plan_meaning.specs.Changes.{Bring, Change, Complete, IsMadeInForm, MakesAll, changes_of, form_change, operation_options}
+use Rattle.plan_meaning.specs.Changes.{Bring, Change, Complete, IsMadeInForm, MakesAll, changes_of, operation_options}
 use Rattle.degeneralise.specs.Buchi.{buchi}
 use Rattle.parity_det.proofs.ParityLaws.{parity_has_few_sets}
 use Rattle.parity_det.specs.Promises.{HasFewSets, IsParityMinOdd}
@@ -127,6 +128,10 @@ keeps form.Monitor true a made is (Completed same deterministic stays) = (determ
 
 -- ---- the changes of a plan
 
+-- the form and completion, which come behind the operations
+abbrev last_options : Form → Bool → List (Option Change)
+last_options f complete = then_some (has_form f) (Bring f) ∷ then_some complete Complete ∷ []
+
 -- some automaton that the first changes make, and of which the rest make the result
 behind : (os rest : List (Option Change)) (a made : Automaton) → MakesAsPromised (those_standing (os ++ rest)) a made → (b : Automaton) × MakesAsPromised (those_standing rest) b made
 behind [] rest a made h = (a, h)
@@ -149,13 +154,13 @@ last_made true a made h =
       λ on. subst IsComplete (sym same) h.2.0,
     )
 
-formed : (p : Plan) (a made : Automaton) → MakesAsPromised (those_standing (form_change p.form ∷ then_some p.complete Complete ∷ [])) a made → KeepsPromises p made
+formed : (p : Plan) (a made : Automaton) → MakesAsPromised (those_standing (last_options p.form p.complete)) a made → KeepsPromises p made
 formed p a made h = by_cases p.form h
   where
     end : (f : Form) (b : Automaton) → IsOfForm f b → MakesAsPromised (those_standing (then_some p.complete Complete ∷ [])) b made → KeepsForm f p.complete made × (p.complete ≡ true → IsComplete made)
     end f b is k = let last = last_made p.complete b made k in (keeps f p.complete b made is last.0, last.1)
 
-    by_cases : (f : Form) → MakesAsPromised (those_standing (form_change f ∷ then_some p.complete Complete ∷ [])) a made → KeepsForm f p.complete made × (p.complete ≡ true → IsComplete made)
+    by_cases : (f : Form) → MakesAsPromised (those_standing (last_options f p.complete)) a made → KeepsForm f p.complete made × (p.complete ≡ true → IsComplete made)
     by_cases form.AsIs k = end form.AsIs a tt k
     by_cases form.Deterministic k = end form.Deterministic k.0 (of_form form.Deterministic a k.0 k.1.makes k.2) k.3
     by_cases form.Parity k = end form.Parity k.0 (of_form form.Parity a k.0 k.1.makes k.2) k.3
@@ -166,7 +171,7 @@ formed p a made h = by_cases p.form h
 
 pub promises_kept : (p : Plan) (ops : List Automaton) (a made : Automaton) → MakesAsPromised (changes_of p ops) a made → KeepsPromises p made
 promises_kept p ops a made h =
-    let shaped = behind (operation_options p ops) (form_change p.form ∷ then_some p.complete Complete ∷ []) a made h in
+    let shaped = behind (operation_options p ops) (last_options p.form p.complete) a made h in
     formed p shaped.0 made shaped.1
 
 -- ---- the sets of a parity automaton
@@ -183,9 +188,8 @@ parity_few complete b made h = subst (HasFewSets (buchi b)) (sym (left complete 
 
 pub few_sets_kept : (p : Plan) (ops : List Automaton) (a made : Automaton) → MakesAsPromised (changes_of p ops) a made → p.form ≡ form.Parity → HasFewSetsUnder p ops a made
 few_sets_kept p ops a made h is =
-    let shaped = between (operation_options p ops) (form_change p.form ∷ then_some p.complete Complete ∷ []) a made h in
-    record {
-      before = shaped.0;
-      makes = shaped.1;
-      few = parity_few p.complete shaped.0 made (subst (λ (f : Form). MakesAsPromised (those_standing (form_change f ∷ then_some p.complete Complete ∷ [])) shaped.0 made) is shaped.2);
-    }
+    let shaped = between (operation_options p ops) (last_options p.form p.complete) a made h in (
+      shaped.0,
+      shaped.1,
+      parity_few p.complete shaped.0 made (subst (λ (f : Form). MakesAsPromised (those_standing (last_options f p.complete)) shaped.0 made) is shaped.2),
+    )

@@ -4,7 +4,7 @@ use Rattle.std.proofs.lemmas.Bool.{false≢true}
 use Rattle.std.proofs.lemmas.Nat.{mul-le}
 use Rattle.aut_base.specs.declared.limit.TheConstants.{MOST_BUCHI_STATES, MOST_TERMS}
 use Rattle.acc_forms.specs.Atoms.{has_fin}
-use Rattle.acc_forms.specs.Terms.{count, terms}
+use Rattle.acc_forms.specs.Terms.{count, of_terms, terms}
 use Rattle.aut_base.specs.Automaton.{Automaton, IsWellFormed}
 use Rattle.aut_base.specs.declared.limit.Limit.{Limit}
 use Rattle.aut_base.specs.declared.limit.Limit.TheVariants as limit
@@ -19,7 +19,7 @@ use Rattle.fin_removal.proofs.TermCopies.{sets_within, terms_within}
 use Rattle.fin_removal.specs.Copies.{HasTooManyTerms, copied}
 use Rattle.filter_plan.specs.declared.plan.Form.TheVariants as form
 use Rattle.plan_meaning.proofs.changes.Stepping.{changed_once}
-use Rattle.plan_meaning.specs.Changes.{Bring, Complete, PassesForm, Trim, in_disjunctive_form}
+use Rattle.plan_meaning.specs.Changes.{Bring, Complete, PassesForm, Trim}
 use Rattle.plan_meaning.specs.inner.Stepping.{HasRoom, IsMadeAsPromised, IsOfComplementSize, IsOfSumSize}
 
 -- ---- trimming
@@ -70,7 +70,7 @@ buchi_made a made terms few is accepts = changed_once (Bring form.Buchi) a made 
 
 -- ---- the disjunctive form
 
-pub dnf_made : (a made : Automaton) → (HasTooManyTerms a → ⊥) → made ≡ in_disjunctive_form a → AcceptTheSame made a → IsMadeAsPromised (Bring form.Dnf ∷ []) a made
+pub dnf_made : (a made : Automaton) → (HasTooManyTerms a → ⊥) → made ≡ record a { formula = of_terms (terms a.formula) } → AcceptTheSame made a → IsMadeAsPromised (Bring form.Dnf ∷ []) a made
 dnf_made a made few is accepts = changed_once (Bring form.Dnf) a made (λ which h. few h.1) is tt accepts
 
 -- ---- completion

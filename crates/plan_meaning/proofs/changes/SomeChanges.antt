@@ -3,6 +3,7 @@ use Rattle.std.proofs.Common.{◌≡◌, ◌≤◌, List, [], ◌∷◌, inl, in
 use Rattle.std.proofs.lemmas.Bool.{cases_lt}
 use Rattle.std.specs.List.{AllByRecursion}
 use Rattle.acc_forms.specs.Joined.{conj, disj}
+use Rattle.acc_forms.specs.Terms.{of_terms, terms}
 use Rattle.ap_project.specs.Hiding.{hidden}
 use Rattle.aut_base.specs.Automaton.{Automaton}
 use Rattle.aut_base.specs.declared.limit.Limit.{Limit}
@@ -26,7 +27,7 @@ use Rattle.fin_removal.specs.Copies.{without_fin}
 use Rattle.parity_det.specs.Complements.{IsWithinParity}
 use Rattle.parity_det.specs.declared.fault.CompFault.TheVariants as comp
 use Rattle.plan_meaning.specs.Changes.{Bring, Change, Complement, Complete, IsMadeInForm, Makes, MakesAll, MakesWithin, PassesForm, PassesIn}
-use Rattle.plan_meaning.specs.Changes.{Product, ProductOr, RemoveAp, StopsIn, Sum, Trim, changes_of, in_disjunctive_form}
+use Rattle.plan_meaning.specs.Changes.{Product, ProductOr, RemoveAp, StopsIn, Sum, Trim, changes_of}
 use Rattle.plan_meaning.specs.Limits.{HaveFewNames, HaveManyNames, PassesParityLimit}
 
 -- ---- one change
@@ -59,7 +60,7 @@ some_form form.Deterministic a asked within none =
 some_form form.Parity a asked within none = parity_exists a (within_parity a within) none
 some_form form.Buchi a asked within none = none (buchi a) refl
 some_form form.RemoveFin a asked within none = none (without_fin a) refl
-some_form form.Dnf a asked within none = none (in_disjunctive_form a) refl
+some_form form.Dnf a asked within none = none (record a { formula = of_terms (terms a.formula) }) refl
 some_form form.Monitor a asked within none =
     monitor_exists a (few_states a within) (λ meets. within limit.Classes (within limit.Terms, meets)) (λ meets. within limit.Subsets (within limit.Terms, meets)) none
 

@@ -1,5 +1,5 @@
 -- A filter holds of an automaton exactly where it holds of that with canonical labels, and passes the same limits.
-use Rattle.std.proofs.Common.{◌≡◌, ℕ, ◌<◌, Bool, true, false, List, [], ◌∷◌, length, Result, Ok, Err, get_or, sym, ap, ◌∙◌, subst, arith}
+use Rattle.std.proofs.Common.{◌≡◌, ℕ, ◌<◌, Bool, true, false, MatchBool, List, [], ◌∷◌, length, Result, Ok, Err, get_or, sym, ap, ◌∙◌, subst, arith}
 use Rattle.std.proofs.lemmas.List.{get_or-map, length-map}
 use Rattle.std.proofs.lemmas.List.Elements.{Contains-get_or}
 use Rattle.aut_base.proofs.canonical.CanonicalAutomata.{canonical-twice, canonical_accepts_the_same, labels_below}
@@ -7,17 +7,20 @@ use Rattle.aut_base.proofs.lists.Members.{from_map, there_map}
 use Rattle.aut_base.specs.Automaton.{Automaton, IsWellFormed, LabelledEdge}
 use Rattle.aut_base.specs.CanonicalLabel.{canonical}
 use Rattle.aut_base.specs.LabelLaws.{LabelsBelow}
+use Rattle.aut_base.specs.Lists.{FirstIn}
 use Rattle.aut_base.specs.Word.{NameSet}
 use Rattle.aut_core.specs.Deterministic as core
 use Rattle.aut_core.specs.Deterministic.{HasSuccessor, is_met}
 use Rattle.aut_base.specs.declared.limit.Limit.{Limit}
+use Rattle.aut_base.specs.declared.limit.Limit.TheVariants as limit
+use Rattle.aut_base.specs.declared.limit.TheConstants.{MOST_PAIRS}
+use Rattle.aut_ops.specs.Products.{HasMorePairs}
 use Rattle.filter_plan.specs.declared.plan.Plan.{Plan}
 use Rattle.plan_meaning.proofs.filters.CanonicalEdges.{same_met, settled}
 use Rattle.plan_meaning.proofs.filters.CanonicalRuns.{unambiguous_one, unambiguous_other}
 use Rattle.plan_meaning.specs.Filters.{AcceptsWord, AllHold, Edges, EquivalentTo, FailsAtFilter, Filter, Holds, HoldsWithin, IncludedIn, Intersects}
-use Rattle.plan_meaning.specs.Filters.{IsComplete, IsDeterministic, IsDroppedBy, IsEmpty, IsKeptBy, IsUnambiguous, Judged, LacksWithin, Names, PassesLimitOf}
-use Rattle.plan_meaning.specs.Filters.{PassesAt, RejectsWord, Sets, States, filters}
-use Rattle.plan_meaning.specs.Limits.{PassesOfBoth, PassesOfEquivalence, PassesOfInclusion, PassesOfSquare, PassesOfWord}
+use Rattle.plan_meaning.specs.Filters.{IsComplete, IsDeterministic, IsEmpty, IsUnambiguous, Judged, LacksWithin, Names, PassesAt, PassesLimitOf, RejectsWord, Sets, States, filters}
+use Rattle.plan_meaning.specs.Limits.{PassesOfBoth, PassesOfEquivalence, PassesOfInclusion, PassesOfWord}
 use Rattle.plan_meaning.specs.declared.fault.PlanFault.{PlanFault}
 use Rattle.plan_meaning.specs.declared.fault.PlanFault.TheVariants as fault
 use Rattle.word_syntax.specs.Grammar.{WordPattern}
@@ -127,7 +130,7 @@ passes_one which (RejectsWord p) a h = subst (λ (x : Automaton). PassesOfWord w
 passes_one which (IncludedIn b) a h = subst (λ (x : Automaton). PassesOfInclusion which x b) (canonical-twice a) h
 passes_one which (EquivalentTo b) a h = subst (λ (x : Automaton). PassesOfEquivalence which x b) (canonical-twice a) h
 passes_one which (Intersects b) a h = subst (λ (x : Automaton). PassesOfBoth which x b) (canonical-twice a) h
-passes_one which IsUnambiguous a h = subst (PassesOfSquare which) (canonical-twice a) h
+passes_one which IsUnambiguous a h = subst (λ (x : Automaton). (which ≡ limit.Pairs) × HasMorePairs MOST_PAIRS x x) (canonical-twice a) h
 passes_one which _ a h = absurd h
 
 passes_other : (which : Limit) (f : Filter) (a : Automaton) → PassesLimitOf which f a → PassesLimitOf which f (canonical a)
@@ -136,7 +139,7 @@ passes_other which (RejectsWord p) a h = subst (λ (x : Automaton). PassesOfWord
 passes_other which (IncludedIn b) a h = subst (λ (x : Automaton). PassesOfInclusion which x b) (sym (canonical-twice a)) h
 passes_other which (EquivalentTo b) a h = subst (λ (x : Automaton). PassesOfEquivalence which x b) (sym (canonical-twice a)) h
 passes_other which (Intersects b) a h = subst (λ (x : Automaton). PassesOfBoth which x b) (sym (canonical-twice a)) h
-passes_other which IsUnambiguous a h = subst (PassesOfSquare which) (sym (canonical-twice a)) h
+passes_other which IsUnambiguous a h = subst (λ (x : Automaton). (which ≡ limit.Pairs) × HasMorePairs MOST_PAIRS x x) (sym (canonical-twice a)) h
 passes_other which _ a h = absurd h
 
 holds_within : (f : Filter) (a : Automaton) → LabelsBelow a → HoldsWithin f (canonical a) → HoldsWithin f a
@@ -151,18 +154,23 @@ all_hold : (fs : List Filter) (a : Automaton) → LabelsBelow a → AllHold fs (
 all_hold [] a below h = tt
 all_hold (f ∷ fs) a below h = (holds_within f a below h.0, all_hold fs a below h.1)
 
+first_at : (fs : List Filter) (f : Filter) (a : Automaton) → LabelsBelow a → FirstIn (λ g. HoldsWithin g (canonical a)) fs f → FirstIn (λ g. HoldsWithin g a) fs f
+first_at fs f a below h = record { before = h.before; after = h.after; all = h.all; earlier = all_hold h.before a below h.earlier }
+
 fails_at : (fs : List Filter) (a : Automaton) → LabelsBelow a → FailsAtFilter fs (canonical a) → FailsAtFilter fs a
-fails_at fs a below h = record { before = h.before; filter = h.filter; after = h.after; all = h.all; held = all_hold h.before a below h.held; fails = lacks_within h.filter a below h.fails }
+fails_at fs a below h = (h.0, first_at fs h.0 a below h.1, lacks_within h.0 a below h.2)
 
 passes_at : (which : Limit) (fs : List Filter) (a : Automaton) → LabelsBelow a → PassesAt which fs (canonical a) → PassesAt which fs a
-passes_at which fs a below h = record { before = h.before; filter = h.filter; after = h.after; all = h.all; held = all_hold h.before a below h.held; passes = passes_one which h.filter a h.passes }
+passes_at which fs a below h = (h.0, first_at fs h.0 a below h.1, passes_one which h.0 a h.2)
 
 -- kept, or dropped, whether the plan inverts or not
-kept_by : (inverts : Bool) (fs : List Filter) (a : Automaton) → LabelsBelow a → IsKeptBy inverts fs (canonical a) → IsKeptBy inverts fs a
+kept_by : (inverts : Bool) (fs : List Filter) (a : Automaton) → LabelsBelow a → MatchBool inverts (FailsAtFilter fs (canonical a)) (AllHold fs (canonical a))
+    → MatchBool inverts (FailsAtFilter fs a) (AllHold fs a)
 kept_by false fs a below h = all_hold fs a below h
 kept_by true fs a below h = fails_at fs a below h
 
-dropped_by : (inverts : Bool) (fs : List Filter) (a : Automaton) → LabelsBelow a → IsDroppedBy inverts fs (canonical a) → IsDroppedBy inverts fs a
+dropped_by : (inverts : Bool) (fs : List Filter) (a : Automaton) → LabelsBelow a → MatchBool inverts (AllHold fs (canonical a)) (FailsAtFilter fs (canonical a))
+    → MatchBool inverts (AllHold fs a) (FailsAtFilter fs a)
 dropped_by false fs a below h = fails_at fs a below h
 dropped_by true fs a below h = all_hold fs a below h
 

@@ -270,7 +270,7 @@ holds f x within h = record { within = within; holds = h }
 -- where the first filters hold and the next doesn't
 fails_behind : (before : List Filter) (f : Filter) (after : List Filter) (x : Automaton) → AllHold before x → ((which : Limit) → PassesLimitOf which f x → ⊥) → (Holds f x → ⊥)
     → FailsAtFilter (before ++ f ∷ after) x
-fails_behind before f after x held within fails = record { before = before; filter = f; after = after; all = refl; held = held; fails = record { within = within; fails = fails } }
+fails_behind before f after x held within fails = (f, record { before = before; after = after; all = refl; earlier = held }, record { within = within; fails = fails })
 
 no_end : (before : List Filter) (f : Filter) (after : List Filter) → [] ≡ before ++ f ∷ after → ⊥
 no_end [] f after is = let lengths = ap length is in absurd (omega (arith, lengths))
@@ -291,7 +291,7 @@ rest_of [] = []
 rest_of (f ∷ fs) = fs
 
 never_fails : FailsAtFilter (IsEmpty ∷ []) never → ⊥
-never_fails h = go h.before h.filter h.after h.all h.fails.fails
+never_fails h = go h.1.before h.0 h.1.after h.1.all h.2.fails
   where
     go : (before : List Filter) (f : Filter) (after : List Filter) → IsEmpty ∷ [] ≡ before ++ f ∷ after → (Holds f never → ⊥) → ⊥
     go [] f after is fails = fails (subst (λ g. Holds g never) (ap first_of is) one_filter.empty)
@@ -312,7 +312,7 @@ verdicts : Verdicts
 verdicts = record {
   kept_by_none = λ x. tt;
   dropped_by_none = λ x. tt;
-  not_kept_by_none = λ x h. no_end h.before h.filter h.after h.all;
+  not_kept_by_none = λ x h. no_end h.1.before h.0 h.1.after h.1.all;
   kept = never_holds;
   not_dropped = never_fails;
   dropped = again_fails;

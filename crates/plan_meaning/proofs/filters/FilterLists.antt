@@ -3,8 +3,9 @@ use Rattle.std.proofs.Common.{◌≡◌, ◌<◌, ◌+◌, ℕ, Bool, true, fals
 use Rattle.std.specs.Result.{IsErrAnd}
 use Rattle.aut_base.proofs.Outcomes.{hands_on}
 use Rattle.aut_base.specs.Automaton.{Automaton}
+use Rattle.aut_base.specs.Lists.{FirstIn}
 use Rattle.plan_meaning.proofs.StandingLists.{standing_up_to_next, parted}
-use Rattle.plan_meaning.specs.Filters.{AllHold, Filter}
+use Rattle.plan_meaning.specs.Filters.{AllHold, Filter, HoldsWithin}
 use Rattle.plan_meaning.specs.declared.fault.PlanFault.{PlanFault}
 use Rattle.plan_meaning.specs.declared.fault.PlanFault.TheVariants as fault
 use Rattle.plan_meaning.specs.declared.judging.filter.Filter as coded
@@ -19,13 +20,14 @@ module _ (xs : List (Option coded.Filter)) (i : ℕ) (d o : Option coded.Filter)
   pub goes_on : AllHold (asked_for (o ∷ [])) a → AllHold (asked_for (take (i + 1) xs)) a
   goes_on this = subst (λ (fs : List Filter). AllHold fs a) (sym (standing_up_to_next filter_of xs i d o lt is)) (hold_both (asked_for (take i xs)) (asked_for (o ∷ [])) a held this)
 
+  first : (f : coded.Filter) → o ≡ Some f → FirstIn (λ g. HoldsWithin g a) (asked_for xs) (filter_of f)
+  first f some = record { before = asked_for (take i xs); after = asked_for (drop (i + 1) xs); all = parted filter_of xs i d o lt is f some; earlier = held }
+
   -- this filter is the last that is examined
   pub ends : (f : coded.Filter) (r : Result Bool PlanFault) → o ≡ Some f → (r ≡ Ok true → ⊥) → ExaminesFilter r (filter_of f) a → JudgesWithin r (asked_for xs) a
   ends f (Ok true) some not_true this = absurd (not_true refl)
-  ends f (Ok false) some not_true this = record
-      { before = asked_for (take i xs); filter = filter_of f; after = asked_for (drop (i + 1) xs); all = parted filter_of xs i d o lt is f some; held = held; fails = this }
-  ends f (Err (fault.Limit which)) some not_true this =
-      record { before = asked_for (take i xs); filter = filter_of f; after = asked_for (drop (i + 1) xs); all = parted filter_of xs i d o lt is f some; held = held; passes = this }
+  ends f (Ok false) some not_true this = (filter_of f, first f some, this)
+  ends f (Err (fault.Limit which)) some not_true this = (filter_of f, first f some, this)
   ends f (Err fault.Memory) some not_true this = tt
 
 -- a fault that is passed on

@@ -1,13 +1,14 @@
 -- There is one verdict on an automaton, and some verdict.
-use Rattle.std.proofs.Common.{◌≡◌, ◌⊎◌, Bool, true, false, List, [], ◌∷◌, ◌++◌, arith, inl, inr, refl, subst, sym, ◌∙◌}
+use Rattle.std.proofs.Common.{◌≡◌, ◌⊎◌, Bool, true, false, MatchBool, List, [], ◌∷◌, ◌++◌, arith, inl, inr, refl, subst, sym, ◌∙◌}
 use Rattle.aut_base.specs.Automaton.{Automaton}
 use Rattle.aut_base.specs.CanonicalLabel.{canonical}
+use Rattle.aut_base.specs.Lists.{FirstIn}
 use Rattle.aut_base.specs.declared.limit.Limit.{Limit}
 use Rattle.aut_base.specs.declared.limit.Limit.TheVariants as limit
 use Rattle.parity_det.proofs.ParityLaws.{complement_is_determined}
 use Rattle.plan_meaning.proofs.changes.ChangeLaws.{of_parity, one_of_parity}
-use Rattle.plan_meaning.specs.Filters.{AcceptsWord, AllHold, EquivalentTo, FailsAtFilter, Filter, HoldsWithin, IncludedIn, Intersects, IsDroppedBy}
-use Rattle.plan_meaning.specs.Filters.{IsKeptBy, IsUnambiguous, LacksWithin, PassesLimitOf, PassesAt, RejectsWord, filters}
+use Rattle.plan_meaning.specs.Filters.{AcceptsWord, AllHold, EquivalentTo, FailsAtFilter, Filter, HoldsWithin, IncludedIn, Intersects, IsUnambiguous, LacksWithin, PassesAt}
+use Rattle.plan_meaning.specs.Filters.{PassesLimitOf, RejectsWord, filters}
 use Rattle.plan_meaning.specs.Laws.{Dropped, Kept, OneLimitOfInclusion, VerdictIsOne, Over, AVerdictExists}
 use Rattle.plan_meaning.specs.Limits.{HaveFewNames, HaveManyNames, PassesOfBoth, PassesOfEquivalence, PassesOfWord}
 use Rattle.word_syntax.specs.Grammar.{WordPattern}
@@ -45,8 +46,8 @@ one_of_inclusion which other a b (inl x) (inl y) = one_of_parity which other b (
 one_of_inclusion which other a b (inl x) (inr y) = absurd (y.0 which x)
 one_of_inclusion which other a b (inr x) (inl y) = absurd (x.0 other y)
 one_of_inclusion which other a b (inr x) (inr y) =
-    let same : y.1.co ≡ x.1.co = complement_is_determined b y.1.co x.1.co y.1.is x.1.is in
-    one_of_both which other a x.1.co x.1.passes (subst (PassesOfBoth other a) same y.1.passes)
+    let same : y.1.0 ≡ x.1.0 = complement_is_determined b y.1.0 x.1.0 y.1.1 x.1.1 in
+    one_of_both which other a x.1.0 x.1.2 (subst (PassesOfBoth other a) same y.1.2)
 
 one_of_equivalence : (which other : Limit) (a b : Automaton) → PassesOfEquivalence which a b → PassesOfEquivalence other a b → which ≡ other
 one_of_equivalence which other a b (inl x) (inl y) = one_of_inclusion which other a b x y
@@ -74,11 +75,14 @@ ends_in : (So : Filter → Type 0) (before : List Filter) (f : Filter) (after : 
 ends_in So [] f after a held so = inl so
 ends_in So (g ∷ before) f after a held so = inr (held.0, ends_in So before f after a held.1 so)
 
+ends_at : (So : Filter → Type 0) (fs : List Filter) (f : Filter) (a : Automaton) → FirstIn (λ g. HoldsWithin g a) fs f → So f → EndsIn So fs a
+ends_at So fs f a h so = subst (λ (gs : List Filter). EndsIn So gs a) (sym h.all) (ends_in So h.before f h.after a h.earlier so)
+
 fails_in : (fs : List Filter) (a : Automaton) → FailsAtFilter fs a → EndsIn (λ f. LacksWithin f a) fs a
-fails_in fs a h = subst (λ (gs : List Filter). EndsIn (λ f. LacksWithin f a) gs a) (sym h.all) (ends_in (λ f. LacksWithin f a) h.before h.filter h.after a h.held h.fails)
+fails_in fs a h = ends_at (λ f. LacksWithin f a) fs h.0 a h.1 h.2
 
 passes_in : (which : Limit) (fs : List Filter) (a : Automaton) → PassesAt which fs a → EndsIn (λ f. PassesLimitOf which f a) fs a
-passes_in which fs a h = subst (λ (gs : List Filter). EndsIn (λ f. PassesLimitOf which f a) gs a) (sym h.all) (ends_in (λ f. PassesLimitOf which f a) h.before h.filter h.after a h.held h.passes)
+passes_in which fs a h = ends_at (λ f. PassesLimitOf which f a) fs h.0 a h.1 h.2
 
 -- where all filters hold, none has the property
 no_end : (So : Filter → Type 0) (fs : List Filter) (a : Automaton) → ((f : Filter) → HoldsWithin f a → So f → ⊥) → AllHold fs a → EndsIn So fs a → ⊥
@@ -119,15 +123,21 @@ module _ (fs : List Filter) (a : Automaton) where
 
   -- ---- one verdict
 
-  kept_or_dropped : (inverts : Bool) → IsKeptBy inverts fs a → IsDroppedBy inverts fs a → ⊥
+  abbrev IsKeptIf : Bool → Type 0
+  IsKeptIf inverts = MatchBool inverts (FailsAtFilter fs a) (AllHold fs a)
+
+  abbrev IsDroppedIf : Bool → Type 0
+  IsDroppedIf inverts = MatchBool inverts (AllHold fs a) (FailsAtFilter fs a)
+
+  kept_or_dropped : (inverts : Bool) → IsKeptIf inverts → IsDroppedIf inverts → ⊥
   kept_or_dropped false h k = all_or_fails h k
   kept_or_dropped true h k = all_or_fails k h
 
-  kept_or_over : (inverts : Bool) (which : Limit) → IsKeptBy inverts fs a → PassesAt which fs a → ⊥
+  kept_or_over : (inverts : Bool) (which : Limit) → IsKeptIf inverts → PassesAt which fs a → ⊥
   kept_or_over false which h k = all_or_passes which h k
   kept_or_over true which h k = fails_or_passes which h k
 
-  dropped_or_over : (inverts : Bool) (which : Limit) → IsDroppedBy inverts fs a → PassesAt which fs a → ⊥
+  dropped_or_over : (inverts : Bool) (which : Limit) → IsDroppedIf inverts → PassesAt which fs a → ⊥
   dropped_or_over false which h k = fails_or_passes which h k
   dropped_or_over true which h k = all_or_passes which h k
 
@@ -148,22 +158,22 @@ verdict_is_one p ops a (Over which) (Over other) h k = let same : which ≡ othe
 settled : (f : Filter) (a : Automaton) → (HoldsWithin f a → ⊥) → (LacksWithin f a → ⊥) → ((which : Limit) → PassesLimitOf which f a → ⊥) → ⊥
 settled f a holds lacks within = lacks (record { within = within; fails = λ h. holds (record { within = within; holds = h }) })
 
--- a failing list of filters fails after one more filter that holds
-fails_behind : (f : Filter) (fs : List Filter) (a : Automaton) → HoldsWithin f a → FailsAtFilter fs a → FailsAtFilter (f ∷ fs) a
-fails_behind f fs a holds h = record { before = f ∷ h.before; filter = h.filter; after = h.after; all = (λ i. f ∷ h.all i); held = (holds, h.held); fails = h.fails }
+-- the first filter of a list is that of the list behind one more filter that holds
+first_behind : (g f : Filter) (fs : List Filter) (a : Automaton) → HoldsWithin g a → FirstIn (λ x. HoldsWithin x a) fs f → FirstIn (λ x. HoldsWithin x a) (g ∷ fs) f
+first_behind g f fs a holds h = record { before = g ∷ h.before; after = h.after; all = (λ i. g ∷ h.all i); earlier = (holds, h.earlier) }
 
-passes_behind : (which : Limit) (f : Filter) (fs : List Filter) (a : Automaton) → HoldsWithin f a → PassesAt which fs a → PassesAt which (f ∷ fs) a
-passes_behind which f fs a holds h = record { before = f ∷ h.before; filter = h.filter; after = h.after; all = (λ i. f ∷ h.all i); held = (holds, h.held); passes = h.passes }
+at_first : (f : Filter) (fs : List Filter) (a : Automaton) → FirstIn (λ x. HoldsWithin x a) (f ∷ fs) f
+at_first f fs a = record { before = []; after = fs; all = refl; earlier = tt }
 
 some_end : (fs : List Filter) (a : Automaton) → (AllHold fs a → ⊥) → (FailsAtFilter fs a → ⊥) → ((which : Limit) → PassesAt which fs a → ⊥) → ⊥
 some_end [] a all fails passes = all tt
 some_end (f ∷ fs) a all fails passes =
     settled f a
-    (λ holds. some_end fs a (λ h. all (holds, h)) (λ h. fails (fails_behind f fs a holds h)) (λ which h. passes which (passes_behind which f fs a holds h)))
-    (λ lacks. fails (record { before = []; filter = f; after = fs; all = refl; held = tt; fails = lacks }))
-    (λ which passed. passes which (record { before = []; filter = f; after = fs; all = refl; held = tt; passes = passed }))
+    (λ holds. some_end fs a (λ h. all (holds, h)) (λ h. fails (h.0, first_behind f h.0 fs a holds h.1, h.2)) (λ which h. passes which (h.0, first_behind f h.0 fs a holds h.1, h.2)))
+    (λ lacks. fails (f, at_first f fs a, lacks))
+    (λ which passed. passes which (f, at_first f fs a, passed))
 
-some_by : (inverts : Bool) (fs : List Filter) (a : Automaton) → (IsKeptBy inverts fs a → ⊥) → (IsDroppedBy inverts fs a → ⊥) → ((which : Limit) → PassesAt which fs a → ⊥) → ⊥
+some_by : (inverts : Bool) (fs : List Filter) (a : Automaton) → (IsKeptIf fs a inverts → ⊥) → (IsDroppedIf fs a inverts → ⊥) → ((which : Limit) → PassesAt which fs a → ⊥) → ⊥
 some_by false fs a kept dropped over = some_end fs a kept dropped over
 some_by true fs a kept dropped over = some_end fs a dropped kept over
 

@@ -1,9 +1,11 @@
 //! The changes of a plan, as a list, and one of them made.
 
 ghost use Rattle.std.specs.Prelude.{◌≡◌, [], ◌∷◌, IfOk, map};
+ghost use Rattle.std.specs.Bool.{then_some};
 ghost use Rattle.std.specs.Option.{option_map};
 ghost use Rattle.aut_core.specs.SymbolicAutomata.{automaton_of};
-ghost use Rattle.plan_meaning.specs.Changes.{changes_of, form_change};
+ghost use Rattle.filter_plan.specs.Words.{has_form};
+ghost use Rattle.plan_meaning.specs.Changes.{Bring, changes_of};
 ghost use Rattle.plan_meaning.specs.Operands.{AreOperands};
 ghost use Rattle.plan_meaning.specs.inner.Stepping.{IsOfSizeBefore, IsOfSizeBehind, IsPossible, StepsChanges, change_of, changes_asked};
 
@@ -49,7 +51,7 @@ pub(crate) fn changes<'a>(plan: &'a Plan, operands: &'a Automata) -> [Option<Cha
 
 /// The change into a form, where one is asked for.
 fn form_change<'a>(form: Form) -> Option<Change<'a>>
-    ensures { option_map change_of result ≡ form_change form }
+    ensures { option_map change_of result ≡ then_some (has_form form) (Bring form) }
 {
     match form {
         Form::AsIs => None,

@@ -12,7 +12,7 @@ returns-clause-accepts c =
     c.tree_form.ensures.shape
 
 pub returns-clause-shape : goal.returns-clause-shape
-returns-clause-shape c = IfOk-weaker c.tree_form.result _ _ (λ made form. record { pruned = automaton_of c.in_ok-pruned.pruned; is_pruned = c.in_ok-pruned.ensures.shape; is = form })
+returns-clause-shape c = IfOk-weaker c.tree_form.result _ _ (λ made form. (automaton_of c.in_ok-pruned.pruned, c.in_ok-pruned.ensures.shape, form))
     c.tree_form.ensures.shape
 
 pub returns-clause-parity : goal.returns-clause-parity
@@ -26,13 +26,13 @@ pub returns-clause-within : goal.returns-clause-within
 returns-clause-within c =
     let b = automaton_of c.args.b.now in
     on_ok_from c.tree_form.result _ _ (λ made form f. determinisation_excludes b (automaton_of made) f
-    (record { pruned = automaton_of c.in_ok-pruned.pruned; is_pruned = c.in_ok-pruned.ensures.shape; is = form })) c.tree_form.ensures.shape
+    (automaton_of c.in_ok-pruned.pruned, c.in_ok-pruned.ensures.shape, form)) c.tree_form.ensures.shape
 
 pub returns-clause-only_trees : goal.returns-clause-only_trees
-returns-clause-only_trees c = λ e. record { pruned = automaton_of c.in_ok-pruned.pruned; is_pruned = c.in_ok-pruned.ensures.shape; meets = c.tree_form.ensures.trees e }
+returns-clause-only_trees c = λ e. (automaton_of c.in_ok-pruned.pruned, c.in_ok-pruned.ensures.shape, c.tree_form.ensures.trees e)
 
 pub returns-clause-only_nodes : goal.returns-clause-only_nodes
-returns-clause-only_nodes c = λ e. record { pruned = automaton_of c.in_ok-pruned.pruned; is_pruned = c.in_ok-pruned.ensures.shape; meets = c.tree_form.ensures.nodes e }
+returns-clause-only_nodes c = λ e. (automaton_of c.in_ok-pruned.pruned, c.in_ok-pruned.ensures.shape, c.tree_form.ensures.nodes e)
 
 pub returns-clause-only_classes : goal.returns-clause-only_classes
-returns-clause-only_classes c = λ e. record { pruned = automaton_of c.in_ok-pruned.pruned; is_pruned = c.in_ok-pruned.ensures.shape; meets = c.tree_form.ensures.classes e }
+returns-clause-only_classes c = λ e. (automaton_of c.in_ok-pruned.pruned, c.in_ok-pruned.ensures.shape, c.tree_form.ensures.classes e)

@@ -1,7 +1,8 @@
 use Rattle.std.proofs.Common.{[], ◌∷◌, map, refl}
 use Rattle.aut_core.specs.SymbolicAutomata.{automaton_of}
 use Rattle.plan_meaning.proofs.StandingLists.{by_flag, by_option, same_standing}
-use Rattle.plan_meaning.specs.Changes.{Product, ProductOr, RemoveAp, Sum, change_options}
+use Rattle.plan_meaning.proofs.changes.PlanChanges.{options}
+use Rattle.plan_meaning.specs.Changes.{Product, ProductOr, RemoveAp, Sum}
 use Rattle.plan_meaning.specs.declared.changing.list.Change.TheVariants as code
 use Rattle.plan_meaning.specs.inner.Stepping.{change_of}
 use Rattle.plan_meaning.proofs.changing.list.changes.Goals as goal
@@ -19,5 +20,5 @@ returns c =
     let complement = by_flag change_of p.complement code.Complement c.then_some-2.result c.then_some-2.ensures in
     let complete = by_flag change_of p.complete code.Complete c.then_some-3.result c.then_some-3.ensures in
     same_standing change_of (c.map.result ∷ c.map-2.result ∷ c.map-3.result ∷ c.map-4.result ∷ c.then_some.result ∷ c.then_some-2.result ∷ c.form_change.result
-    ∷ c.then_some-3.result ∷ []) (change_options p (map automaton_of c.args.operands.now))
+    ∷ c.then_some-3.result ∷ []) (options p (map automaton_of c.args.operands.now))
     (λ i. product i ∷ product_or i ∷ sum i ∷ remove_ap i ∷ trim i ∷ complement i ∷ c.form_change.ensures i ∷ complete i ∷ [])
