@@ -42,7 +42,7 @@ of_parity _ a h = absurd h
 
 of_inclusion : (which : Limit) (a b : Automaton) → PassesOfInclusion which a b → Contains limits_of_inclusion which
 of_inclusion which a b (inl h) = Contains-append_left limits_of_parity limits_of_product which (of_parity which b h.1)
-of_inclusion which a b (inr h) = Contains-append_right limits_of_parity limits_of_product which (of_both which a h.1.0 h.1.2)
+of_inclusion which a b (inr h) = Contains-append_right limits_of_parity limits_of_product which (of_both which a h.1.co h.1.passes)
 
 of_equivalence : (which : Limit) (a b : Automaton) → PassesOfEquivalence which a b → Contains limits_of_inclusion which
 of_equivalence which a b (inl h) = of_inclusion which a b h

@@ -28,7 +28,7 @@ use Rattle.fin_removal.specs.Copies.{HasTooManyTerms, without_fin}
 use Rattle.monitor_form.specs.Subsets.{IsMonitorAutomaton, MeetsLimit}
 use Rattle.parity_det.specs.Complements.{IsComplementAutomaton}
 use Rattle.parity_det.specs.Determinisation.{IsParityAutomatonOf}
-use Rattle.plan_meaning.specs.Limits.{HaveManyNames, PassesBuchi, PassesOfBoth, PassesOfEither, PassesParityLimit, PassesUnlessDeterministic, limits_of_parity, limits_of_product}
+use Rattle.plan_meaning.specs.Limits.{PassesBuchi, PassesOfBoth, PassesOfEither, PassesOfSum, PassesParityLimit, PassesUnlessDeterministic, limits_of_parity, limits_of_product}
 use Rattle.plan_meaning.specs.Operands.{operand_at, place_of_product, place_of_product_or, place_of_sum}
 use Rattle.plan_meaning.specs.Standing.{those_standing}
 use Rattle.plan_meaning.specs.declared.fault.PlanFault.{PlanFault}
@@ -73,7 +73,7 @@ PassesMonitor limit.Classes a = (NeedsTooManyTerms a.formula → ⊥) × MeetsLi
 PassesMonitor limit.Subsets a = (NeedsTooManyTerms a.formula → ⊥) × MeetsLimit a explored.States
 PassesMonitor which a = PassesBuchi which a
 
--- the limit is the first that a count of the change passes; hiding, trimming and completion count nothing
+-- the limit is the first that a count of the change passes
 abbrev pub PassesForm : Limit → Form → Automaton → Type 0
 PassesForm which form.AsIs a = ⊥
 PassesForm which form.Deterministic a = PassesUnlessDeterministic which a
@@ -86,10 +86,12 @@ PassesForm which form.Monitor a = PassesMonitor which a
 abbrev pub PassesIn : Limit → Change → Automaton → Type 0
 PassesIn which (Product b) a = PassesOfBoth which a b
 PassesIn which (ProductOr b) a = PassesOfEither which a b
-PassesIn which (Sum b) a = (which ≡ limit.Names) × HaveManyNames a b
+PassesIn which (Sum b) a = PassesOfSum which a b
+PassesIn which (RemoveAp h) a = ⊥
+PassesIn which Trim a = ⊥
 PassesIn which Complement a = PassesUnlessDeterministic which a
 PassesIn which (Bring f) a = PassesForm which f a
-PassesIn which _ a = ⊥
+PassesIn which Complete a = ⊥
 
 -- the limits that a change may pass: it passes none of the others
 abbrev pub limits_of_form : Form → List Limit
@@ -170,8 +172,13 @@ pub record SomePrefix (says : List NameSet → List NameSet → Type 0) (u v : L
 -- what a form makes of a language: a monitor its safety closure, the words each of whose prefixes is a prefix of some word
 -- of it, and any other form the language itself
 abbrev pub said_in_form : Form → Language → Language
+said_in_form form.AsIs says u v = says u v
+said_in_form form.Deterministic says u v = says u v
+said_in_form form.Parity says u v = says u v
+said_in_form form.Buchi says u v = says u v
+said_in_form form.RemoveFin says u v = says u v
+said_in_form form.Dnf says u v = says u v
 said_in_form form.Monitor says u v = (n : ℕ) → SomePrefix says u v n
-said_in_form _ says u v = says u v
 
 -- what a change makes of a language: the intersection with that of the operand, the union with it, the language with a name
 -- hidden, its complement, what the form makes of it, or the language itself

@@ -51,6 +51,14 @@ PassesOfEither limit.Names a b = HaveManyNames a b
 PassesOfEither limit.Pairs a b = HaveFewNames a b × HasMorePairs MOST_PAIRS (over_both a b (completed a)) (over_both a b (completed b))
 PassesOfEither _ a b = ⊥
 
+-- a sum of two automata: their names joined
+abbrev pub PassesOfSum : Limit → Automaton → Automaton → Type 0
+PassesOfSum which a b = (which ≡ limit.Names) × HaveManyNames a b
+
+-- the square of an automaton: the pairs of it with itself that are reached
+abbrev pub PassesOfSquare : Limit → Automaton → Type 0
+PassesOfSquare which a = (which ≡ limit.Pairs) × HasMorePairs MOST_PAIRS a a
+
 -- a product with the automaton of a pattern: the names of the pattern come first
 abbrev pub PassesOfWord : Limit → Automaton → WordPattern → Type 0
 PassesOfWord which a p =
@@ -81,8 +89,10 @@ abbrev pub IsIncluded : Automaton → Automaton → Type 0
 IsIncluded a b = (u v : List NameSet) → Accepts a u v → Accepts b u v
 
 -- a product of the one with the complement of the other
-abbrev pub PassesWithComplement : Limit → Automaton → Automaton → Type 0
-PassesWithComplement which a b = (co : Automaton) × IsComplementAutomaton b co × PassesOfBoth which a co
+pub record PassesWithComplement (which : Limit) (a b : Automaton) : Type 0 where
+  pub co : Automaton
+  pub is : IsComplementAutomaton b co
+  pub passes : PassesOfBoth which a co
 
 -- whether the one is included in the other: the complement of the other, then its product with the one
 abbrev pub PassesOfInclusion : Limit → Automaton → Automaton → Type 0

@@ -53,18 +53,22 @@ abbrev pub OrHasSinkSet : Form → Bool → Automaton → Type 0
 OrHasSinkSet f false made = IsOfForm f made
 OrHasSinkSet f true made = IsOfForm f made ⊎ HasSinkSet f made
 
--- Completion adds no set under a Büchi condition, nor where the form is complete, and it keeps an automaton deterministic. So
--- the forms that aren't listed are kept.
+-- Completion adds no set under a Büchi condition, nor where the form is complete. It keeps an automaton deterministic.
 abbrev pub KeepsForm : Form → Bool → Automaton → Type 0
+KeepsForm form.AsIs complete made = Unit {0}
+KeepsForm form.Deterministic complete made = IsDeterministic made
+KeepsForm form.Parity complete made = IsParityMinOdd made
+KeepsForm form.Buchi complete made = IsBuchi made
 KeepsForm form.RemoveFin complete made = OrHasSinkSet form.RemoveFin complete made
 KeepsForm form.Dnf complete made = OrHasSinkSet form.Dnf complete made
 KeepsForm form.Monitor complete made = IsDeterministic made × OrHasSinkSet form.Monitor complete made
-KeepsForm f complete made = IsOfForm f made
 
 abbrev pub KeepsPromises : Plan → Automaton → Type 0
 KeepsPromises p made = KeepsForm p.form p.complete made × (p.complete ≡ true → IsComplete made)
 
 -- A parity automaton has 2N + 1 sets, where N is at least 1, and at most the greater of 1 and the number of useful states of the
 -- Büchi form of what the operations make, which come before the form.
-abbrev pub HasFewSetsUnder : Plan → List Automaton → Automaton → Automaton → Type 0
-HasFewSetsUnder p ops a made = (before : Automaton) × MakesAll (those_standing (operation_options p ops)) a before × HasFewSets (buchi before) made
+pub record HasFewSetsUnder (p : Plan) (ops : List Automaton) (a made : Automaton) : Type 0 where
+  pub before : Automaton
+  pub makes : MakesAll (those_standing (operation_options p ops)) a before
+  pub few : HasFewSets (buchi before) made

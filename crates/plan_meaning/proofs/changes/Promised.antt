@@ -188,8 +188,9 @@ parity_few complete b made h = subst (HasFewSets (buchi b)) (sym (left complete 
 
 pub few_sets_kept : (p : Plan) (ops : List Automaton) (a made : Automaton) → MakesAsPromised (changes_of p ops) a made → p.form ≡ form.Parity → HasFewSetsUnder p ops a made
 few_sets_kept p ops a made h is =
-    let shaped = between (operation_options p ops) (last_options p.form p.complete) a made h in (
-      shaped.0,
-      shaped.1,
-      parity_few p.complete shaped.0 made (subst (λ (f : Form). MakesAsPromised (those_standing (last_options f p.complete)) shaped.0 made) is shaped.2),
-    )
+    let shaped = between (operation_options p ops) (last_options p.form p.complete) a made h in
+    record {
+      before = shaped.0;
+      makes = shaped.1;
+      few = parity_few p.complete shaped.0 made (subst (λ (f : Form). MakesAsPromised (those_standing (last_options f p.complete)) shaped.0 made) is shaped.2);
+    }

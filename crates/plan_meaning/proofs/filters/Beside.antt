@@ -38,8 +38,8 @@ module _ (a b co : Automaton) (kept : IsKeptComplement b co) where
   inclusion_within : HaveFewNames a co → (HavePairs a co → ⊥) → (which : Limit) → PassesOfInclusion which a b → ⊥
   inclusion_within few pairs which (inl h) = kept.within which h
   inclusion_within few pairs which (inr h) =
-      let same : h.1.0 ≡ co = complement_is_determined b h.1.0 co h.1.1 kept.shape in
-      none_of_both which a co few pairs (subst (PassesOfBoth which a) same h.1.2)
+      let same : h.1.co ≡ co = complement_is_determined b h.1.co co h.1.is kept.shape in
+      none_of_both which a co few pairs (subst (PassesOfBoth which a) same h.1.passes)
 
   refutes : (w : Lasso) → IsWordOfBoth a co w → Refutes a b w
   refutes w word =

@@ -46,8 +46,8 @@ one_of_inclusion which other a b (inl x) (inl y) = one_of_parity which other b (
 one_of_inclusion which other a b (inl x) (inr y) = absurd (y.0 which x)
 one_of_inclusion which other a b (inr x) (inl y) = absurd (x.0 other y)
 one_of_inclusion which other a b (inr x) (inr y) =
-    let same : y.1.0 ≡ x.1.0 = complement_is_determined b y.1.0 x.1.0 y.1.1 x.1.1 in
-    one_of_both which other a x.1.0 x.1.2 (subst (PassesOfBoth other a) same y.1.2)
+    let same : y.1.co ≡ x.1.co = complement_is_determined b y.1.co x.1.co y.1.is x.1.is in
+    one_of_both which other a x.1.co x.1.passes (subst (PassesOfBoth other a) same y.1.passes)
 
 one_of_equivalence : (which other : Limit) (a b : Automaton) → PassesOfEquivalence which a b → PassesOfEquivalence other a b → which ≡ other
 one_of_equivalence which other a b (inl x) (inl y) = one_of_inclusion which other a b x y
