@@ -99,7 +99,7 @@ module _ (q : Plan) (first second : Option Pattern) (same_first : option_map wor
   made ops w m h = record { makes = h.makes; promises = h.promises; few_sets = λ is. few (h.few_sets is); accepts = h.accepts }
     where
       few : HasFewSetsUnder r ops (canonical (described w)) m → HasFewSetsUnder q ops (canonical (described w)) m
-      few h = h
+      few h = record { before = h.before; makes = h.makes; few = h.few }
 
   printed : (o : Output) (ops : List Automaton) (w : Written) (text : List ℕ) → IsPrinted o r ops w text → IsPrinted o q ops w text
   printed Hoa ops w text h = record { made = h.made; is_made = made ops w h.made h.is_made; same = h.same; reads_as = h.reads_as }
