@@ -22,8 +22,9 @@ use Rattle.safra_laws.specs.Rounds.{next_tree}
 use Rattle.safra_trees.proofs.list_step.Pruned.{has_parts, new_holds, old_holds, pruned_length, pruned_parts}
 use Rattle.safra_trees.proofs.list_step.Ranks.{rank_back}
 use Rattle.safra_trees.specs.Step as step
-use Rattle.safra_trees.specs.Step.{grown, pruned, rank}
-use Rattle.safra_trees.specs.Trees.{Node, has, holds, root_states}
+use Rattle.safra_trees.specs.Step.{grown, pruned}
+use Rattle.safra_trees.specs.inner.Names.{has, rank}
+use Rattle.safra_trees.specs.Trees.{Node, holds, root_states}
 use Rattle.safra_trees.specs.declared.moves.Move as moves
 
 -- each state that a tree holds after a step is the target of some move
