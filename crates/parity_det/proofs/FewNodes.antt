@@ -6,7 +6,8 @@ use Rattle.aut_base.proofs.lists.Members.{any_found, first_there, from_filter, f
 use Rattle.aut_base.specs.Automaton.{Automaton, LabelledEdge}
 use Rattle.aut_base.specs.Valuation.{truth_on}
 use Rattle.aut_core.specs.Surveys.{edges_from}
-use Rattle.aut_ops.specs.Satisfiable.{is_flagged, is_kept_edge}
+use Rattle.aut_ops.specs.Satisfiable.{is_flagged}
+use Rattle.aut_ops.specs.inner.Parts.{is_kept_edge}
 use Rattle.aut_ops.specs.Pruning.{IsPruned}
 use Rattle.exploration.specs.Reached.{IsExplored, LeadsTo}
 use Rattle.exploration.specs.Turns.{Transition}
