@@ -14,12 +14,8 @@ pub record IsReachedFrom {X : Type 0} (starts : List X) (next : X → List X) (y
   pub path : List X
   pub leads : LeadsBy next start path y
 
--- the items in the order of their first occurrence, each once
-abbrev pub once : {X : Type 0} → (X → X → Bool) → List X → List X
-once same xs = fold (with_new same) [] xs
-
 -- The list of what is reached in breadth-first order: the starts, and then the successors of each item of the list in turn,
 -- each once, at its first occurrence, and nothing that isn't reached. Law: there is at most one such list.
 pub record IsBreadthFirst {X : Type 0} (same : X → X → Bool) (starts : List X) (next : X → List X) (list : List X) : Type 0 where
-  pub in_turn : list ≡ once same (starts ++ flat_map next list)
+  pub in_turn : list ≡ fold (with_new same) [] (starts ++ flat_map next list)
   pub reached : All (IsReachedFrom starts next) list

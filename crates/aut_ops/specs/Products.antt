@@ -26,21 +26,13 @@ joint_edge names sets d e =
     if is_never names (both_labels names d.label e.label) then []
     else record { from = (d.from, e.from); label = both_labels names d.label e.label; to = (d.to, e.to); marks = d.marks ++ map (λ mark. mark + sets) e.marks } ∷ []
 
--- the product edges of each of the first with each of the second, in the order of the first's
-abbrev pub joint_rows : ℕ → ℕ → List LabelledEdge → List LabelledEdge → List JointEdge
-joint_rows names sets ds es = flat_map (λ d. flat_map (joint_edge names sets d) es) ds
-
--- the edges that leave a pair of states
+-- the edges that leave a pair of states: each of the first's with each of the second's, in the order of the first's
 abbrev pub joint_edges : Automaton → Automaton → ℕ × ℕ → List JointEdge
-joint_edges a b pair = joint_rows (length a.names) a.sets (edges_from pair.0 a.edges) (edges_from pair.1 b.edges)
+joint_edges a b pair = flat_map (λ d. flat_map (joint_edge (length a.names) a.sets d) (edges_from pair.1 b.edges)) (edges_from pair.0 a.edges)
 
--- each of the first with each of the second, in the order of the first
-abbrev pub all_pairs : List ℕ → List ℕ → List (ℕ × ℕ)
-all_pairs ps qs = flat_map (λ p. map (λ q. (p, q)) qs) ps
-
--- the pairs of starts
+-- the pairs of starts, in the order of the first's
 abbrev pub start_pairs : Automaton → Automaton → List (ℕ × ℕ)
-start_pairs a b = all_pairs a.starts b.starts
+start_pairs a b = flat_map (λ p. map (λ q. (p, q)) b.starts) a.starts
 
 -- the pairs to which the edges of a pair lead
 abbrev pub next_pairs : Automaton → Automaton → ℕ × ℕ → List (ℕ × ℕ)

@@ -11,26 +11,18 @@ is_satisfiable n e = not (is_never n e.label)
 abbrev pub satisfiable_edges : Automaton → List LabelledEdge
 satisfiable_edges a = filter (is_satisfiable (length a.names)) a.edges
 
--- an edge as an arc
-abbrev pub arc_of : LabelledEdge → ℕ × ℕ
-arc_of e = (e.from, e.to)
-
 -- the graph of the edges with satisfiable labels
 abbrev pub passable_arcs : Automaton → List (ℕ × ℕ)
-passable_arcs a = map arc_of (satisfiable_edges a)
+passable_arcs a = map (λ e. (e.from, e.to)) (satisfiable_edges a)
 
 -- the flag of the state is set
 abbrev pub is_flagged : List Bool → ℕ → Bool
 is_flagged flags q = slice_index_or flags q false
-
--- the label of the edge is satisfiable, and both of its states are flagged
-abbrev pub is_kept_edge : ℕ → List Bool → LabelledEdge → Bool
-is_kept_edge n flags e = is_satisfiable n e && (is_flagged flags e.from && is_flagged flags e.to)
 
 -- The automaton with nothing but its flagged starts and its edges with satisfiable labels between flagged states. The states
 -- keep their numbers.
 abbrev pub between : List Bool → Automaton → Automaton
 between flags a = record a {
   starts = filter (is_flagged flags) a.starts;
-  edges = filter (is_kept_edge (length a.names) flags) a.edges;
+  edges = filter (λ e. is_satisfiable (length a.names) e && (is_flagged flags e.from && is_flagged flags e.to)) a.edges;
 }

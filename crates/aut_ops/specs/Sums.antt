@@ -8,7 +8,7 @@ use Rattle.aut_core.specs.OtherNames.{joined_names, over_names}
 
 -- the edge with the numbers of its states and sets raised, also in the set `fresh`
 abbrev pub moved_edge : ℕ → ℕ → ℕ → LabelledEdge → LabelledEdge
-moved_edge states sets fresh e = record { from = e.from + states; label = e.label; to = e.to + states; marks = map (λ mark. mark + sets) e.marks ++ fresh ∷ [] }
+moved_edge states sets fresh e = record e { from = e.from + states; to = e.to + states; marks = map (λ mark. mark + sets) e.marks ++ fresh ∷ [] }
 
 -- The first automaton followed by the second, both over the same names. Each edge of the second is in a fresh set, so that the
 -- condition can tell the runs apart: `Fin` of that set and the first's condition, or `Inf` of it and the second's.

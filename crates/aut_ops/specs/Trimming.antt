@@ -9,15 +9,12 @@ use Rattle.graph_walk.specs.Reach.{AreReachFlags}
 abbrev pub flagged_before : List Bool → ℕ → ℕ
 flagged_before flags q = length (filter (λ flag. flag) (take q flags))
 
-abbrev pub renumbered_edge : List Bool → LabelledEdge → LabelledEdge
-renumbered_edge flags e = record { from = flagged_before flags e.from; label = e.label; to = flagged_before flags e.to; marks = e.marks }
-
 -- the flagged states, numbered from 0 in their order
 abbrev pub renumbered : List Bool → Automaton → Automaton
 renumbered flags a = record a {
   starts = map (flagged_before flags) a.starts;
   states = flagged_before flags a.states;
-  edges = map (renumbered_edge flags) a.edges;
+  edges = map (λ (e : LabelledEdge). record e { from = flagged_before flags e.from; to = flagged_before flags e.to }) a.edges;
 }
 
 -- The automaton `made` is `a` with nothing but its reached states, renumbered. A state is reached where a path of edges with

@@ -3,4 +3,5 @@ pub mod Faults
 pub mod Joins
 pub mod Linked
 pub mod Pairings
+pub mod Parts
 pub mod Renumbering

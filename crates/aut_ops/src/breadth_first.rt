@@ -2,8 +2,8 @@
 
 ghost use Rattle.std.specs.Prelude.{◌≡◌, ◌+◌, ◌<◌, ◌≤◌, ◌^◌, ◌++◌, ℕ, List, [], IfOk, IsErrOf, OnOk, flat_map, length, map};
 ghost use Rattle.aut_core.specs.SymbolicAutomata.{automaton_of};
-ghost use Rattle.aut_ops.specs.BreadthFirst.{once};
-ghost use Rattle.aut_ops.specs.Products.{ArePairs, HasMorePairs, all_pairs, joint_edges, same_pair, start_pairs};
+ghost use Rattle.aut_ops.specs.inner.Parts.{all_pairs, once};
+ghost use Rattle.aut_ops.specs.Products.{ArePairs, HasMorePairs, joint_edges, same_pair, start_pairs};
 ghost use Rattle.aut_ops.specs.declared.fault.ExploreFault.{ExploreFault};
 ghost use Rattle.aut_base.specs.declared.limit.TheConstants.{MOST_PAIRS};
 ghost use Rattle.aut_ops.specs.inner.Pairings.{AreBeyond, AreJointEdges, ArePairsListed, ArePlacesOfPairs};

@@ -6,8 +6,8 @@ ghost use Rattle.aut_base.specs.Formula.{formula_tree};
 ghost use Rattle.aut_core.specs.SymbolicAutomata.{automaton_of, edge_of};
 ghost use Rattle.aut_core.specs.Deterministic.{IsComplete, IsDeterministic};
 ghost use Rattle.aut_core.specs.OtherNames.{AcceptTheSame};
-ghost use Rattle.aut_ops.specs.Completion.{completed, filled_edges, gap_edges, sink_marks, with_sink};
-ghost use Rattle.aut_ops.specs.Labels.{no_label};
+ghost use Rattle.aut_ops.specs.Completion.{completed, with_sink};
+ghost use Rattle.aut_ops.specs.inner.Parts.{filled_edges, no_label, row_gap, sink_marks};
 ghost use Rattle.aut_core.specs.Links.{StandFor};
 ghost use Rattle.label_guards.specs.Store.{Has, Keeps, label_in};
 
@@ -157,7 +157,7 @@ fn fill_state(
     requires row { All (λ l. Has guards.old l.guard) row.now }
     ensures keeps { Keeps guards.old guards.new }
     ensures filled { OnOk result (StandFor guards.new links.new
-        (map (edge_of guards.old) links.old ++ (map (edge_of guards.old) row.now ++ gap_edges guards.old.names state sink (map (edge_of guards.old) row.now)))) }
+        (map (edge_of guards.old) links.old ++ (map (edge_of guards.old) row.now ++ row_gap guards.old.names state sink (map (edge_of guards.old) row.now)))) }
 {
     let gap = gap_of(guards, row)?;
     push_links(links, row)?;

@@ -20,7 +20,8 @@ use Rattle.fin_removal.proofs.CopiedPaths.{IsElsewhere, IsMain, copies_of, from_
 use Rattle.fin_removal.proofs.CopiedWhole.{copied_well_formed}
 use Rattle.fin_removal.proofs.CopyNumbers.{Owns}
 use Rattle.fin_removal.proofs.TermMet.{each_passed, passes_each}
-use Rattle.fin_removal.specs.Copies.{CopyOfTerm as TermCopy, copied, owned, owned_sets, state_in}
+use Rattle.fin_removal.specs.Copies.{CopyOfTerm as TermCopy, copied, owned, owned_sets}
+use Rattle.fin_removal.proofs.Parts.{state_in}
 use Rattle.fin_removal.specs.Meeting.{meets, literal_places}
 use Rattle.degeneralise.specs.Buchi.{Watch, with_counters, levels, watch_of}
 use Rattle.degeneralise.proofs.GeneralisedLaw.{begins}

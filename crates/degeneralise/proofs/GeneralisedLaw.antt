@@ -19,7 +19,8 @@ use Rattle.acc_forms.specs.declared.literal.Literal.TheVariants.{Inf}
 use Rattle.fin_removal.proofs.CopiedEdges.{edge_bounds}
 use Rattle.fin_removal.proofs.TermMet.{each_passed, passes_each}
 use Rattle.fin_removal.specs.Meeting.{meets}
-use Rattle.degeneralise.specs.Buchi.{Watch, inf_literals, is_generalised_buchi, is_inf_atom, with_counters, levels, watch_of}
+use Rattle.degeneralise.specs.Buchi.{Watch, inf_literals, is_generalised_buchi, with_counters, levels, watch_of}
+use Rattle.degeneralise.specs.inner.Parts.{is_inf_atom}
 use Rattle.degeneralise.proofs.LevelledLaw.{PassesAll, levelled_accepts_the_same}
 use Rattle.degeneralise.proofs.WatchLists.{watch_first}
 

@@ -8,7 +8,8 @@ use Rattle.aut_core.specs.SymbolicAutomata.{AreSymbolicParts, SymbolicAutomaton,
 use Rattle.aut_core.specs.Surveys.{edges_from}
 use Rattle.aut_core.specs.declared.link.Link.{Link}
 use Rattle.label_guards.specs.Store.{Has, Store}
-use Rattle.degeneralise.specs.Buchi.{Watch, level_edges, with_counters, levels, state_at}
+use Rattle.degeneralise.specs.Buchi.{Watch, level_edges, with_counters, levels}
+use Rattle.degeneralise.specs.inner.Parts.{state_at}
 use Rattle.degeneralise.proofs.LevelledWhole.{levelled_well_formed}
 use Rattle.aut_base.specs.Formula.{FormulaTree}
 

@@ -12,7 +12,8 @@ use Rattle.aut_base.specs.Marks.{is_in}
 use Rattle.aut_base.specs.Word.{NameSet}
 use Rattle.acc_forms.specs.declared.literal.Literal.{Literal}
 use Rattle.fin_removal.proofs.CopiedEdges.{edge_bounds}
-use Rattle.degeneralise.specs.Buchi.{Watch, edge_at_level, level_after, with_counters, levels, marks_at_level, state_at}
+use Rattle.degeneralise.specs.Buchi.{Watch, edge_at_level, level_after, with_counters, levels, marks_at_level}
+use Rattle.degeneralise.specs.inner.Parts.{state_at}
 use Rattle.degeneralise.proofs.LevelledEdges.{comes_from, has_level}
 use Rattle.degeneralise.proofs.Turns.{marked, turn, turn_below}
 

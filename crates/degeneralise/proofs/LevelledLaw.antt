@@ -19,7 +19,8 @@ use Rattle.acc_forms.specs.declared.literal.Literal.{Literal}
 use Rattle.fin_removal.proofs.CopiedLaw.{gone_on}
 use Rattle.fin_removal.proofs.TermMet.{Passes}
 use Rattle.fin_removal.specs.Meeting.{meets_at, literal_places}
-use Rattle.degeneralise.specs.Buchi.{Watch, level_after, with_counters, levels, state_at}
+use Rattle.degeneralise.specs.Buchi.{Watch, level_after, with_counters, levels}
+use Rattle.degeneralise.specs.inner.Parts.{state_at}
 use Rattle.degeneralise.proofs.LevelWalks.{HasRoom, end_below, end_is_turn, end_level, end_then, marked_waits, marks_are_marked, some_level, waits_along, walk, walk_path, walked}
 use Rattle.aut_base.proofs.numbers.Pigeonhole.{pigeons}
 use Rattle.degeneralise.proofs.Turns.{all_passed, marked, met_on, rises, turn, turn_below, turn_then}

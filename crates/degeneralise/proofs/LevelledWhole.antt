@@ -9,7 +9,8 @@ use Rattle.aut_base.proofs.order.Rising.{Rises, rises_at, rises_pieces, rises_wi
 use Rattle.aut_base.specs.Automaton.{Automaton, IsEdgeOf, IsWellFormed, LabelledEdge}
 use Rattle.aut_core.specs.Surveys.{edges_from}
 use Rattle.fin_removal.proofs.CopiedEdges.{edge_bounds}
-use Rattle.degeneralise.specs.Buchi.{Watch, edge_at_level, level_after, level_edges, with_counters, levels, marks_at_level, meets_level, state_at}
+use Rattle.degeneralise.specs.Buchi.{Watch, edge_at_level, level_after, level_edges, with_counters, levels, marks_at_level, meets_level}
+use Rattle.degeneralise.specs.inner.Parts.{state_at}
 use Rattle.degeneralise.proofs.LevelWalks.{some_level}
 use Rattle.degeneralise.proofs.LevelledEdges.{comes_from}
 use Rattle.degeneralise.proofs.Turns.{turn_below}

@@ -6,7 +6,8 @@ use Rattle.std.proofs.lemmas.Nat.{div-mul-add}
 use Rattle.std.proofs.lemmas.Option.{slice_get-map}
 use Rattle.acc_forms.specs.declared.literal.Literal.{Literal}
 use Rattle.aut_base.proofs.lists.Members.{each_there}
-use Rattle.fin_removal.specs.Copies.{CopyOfTerm as TermCopy, copies_from, owned, owned_sets, sets_of, state_in, term_copies}
+use Rattle.fin_removal.specs.Copies.{CopyOfTerm as TermCopy, copies_from, owned, owned_sets, sets_of, term_copies}
+use Rattle.fin_removal.proofs.Parts.{state_in}
 use Rattle.degeneralise.specs.Buchi.{Watch, levels, most_levels, watch_of}
 
 -- the greatest number is no less than any

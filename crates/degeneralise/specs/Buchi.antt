@@ -1,7 +1,7 @@
 -- The Büchi form of an automaton, by degeneralisation with a counter at each state, its level. A run waits on a level for
 -- an edge that meets the level's literal, moves on to the next level, and from the last one back to the first. That last
 -- step carries the mark.
-use Rattle.std.specs.Prelude.{◌≡◌, ℕ, ◌+◌, ◌*◌, ◌/◌, ◌<◌, ◌==◌, max, Bool, true, false, if◌then◌else◌, Option, None, Some, List, [], ◌∷◌, length, map, flat_map, slice_get}
+use Rattle.std.specs.Prelude.{◌≡◌, ℕ, ◌+◌, ◌*◌, ◌/◌, ◌<◌, ◌==◌, max, Bool, false, not, if◌then◌else◌, Option, None, Some, List, [], ◌∷◌, length, map, flat_map, slice_get}
 use Rattle.std.specs.List.{fold, list_all, range_with_len}
 use Rattle.std.specs.Option.{option_and_then}
 use Rattle.aut_base.specs.Automaton.{Automaton, LabelledEdge}
@@ -29,25 +29,17 @@ abbrev pub meets_level : Watch → ℕ → List ℕ → Bool
 meets_level None level marks = false
 meets_level (Some literals) level marks = meets_at literals level marks
 
--- the level after an edge that meets the level's literal: the next one, and after the last one the first
-abbrev pub next_level : Watch → ℕ → ℕ
-next_level watch level = if level + 1 == levels watch then 0 else level + 1
-
--- the level after the edge
+-- the level after the edge: where it meets the level's literal the next one, and after the last one the first
 abbrev pub level_after : Watch → ℕ → List ℕ → ℕ
-level_after watch level marks = if meets_level watch level marks then next_level watch level else level
+level_after watch level marks = if meets_level watch level marks then (if level + 1 == levels watch then 0 else level + 1) else level
 
 -- the marks of an edge at this level: set 0 where it meets the literal of the last level, else none
 abbrev pub marks_at_level : Watch → ℕ → List ℕ → List ℕ
 marks_at_level watch level marks = if meets_level watch level marks then (if level + 1 == levels watch then 0 ∷ [] else []) else []
 
--- the number of this state at this level, where each state has k numbers
-abbrev pub state_at : ℕ → ℕ → ℕ → ℕ
-state_at k state level = state * k + level
-
--- the edge from its source at this level
+-- The edge from its source at this level. Where each state has k numbers, state q at a level has the number q * k + level.
 abbrev pub edge_at_level : ℕ → Watch → ℕ → LabelledEdge → LabelledEdge
-edge_at_level k watch level e = record { from = state_at k e.from level; label = e.label; to = state_at k e.to (level_after watch level e.marks); marks = marks_at_level watch level e.marks }
+edge_at_level k watch level e = record e { from = e.from * k + level; to = e.to * k + level_after watch level e.marks; marks = marks_at_level watch level e.marks }
 
 -- the edges that leave the levels of one state
 abbrev pub level_edges : ℕ → List LabelledEdge → Watch → List LabelledEdge
@@ -57,24 +49,21 @@ level_edges k edges watch = flat_map (λ level. map (edge_at_level k watch level
 abbrev pub with_counters : ℕ → (ℕ → Watch) → Automaton → Automaton
 with_counters k watch a = record {
   names = a.names;
-  starts = map (λ start. state_at k start 0) a.starts;
+  starts = map (λ start. start * k) a.starts;
   states = a.states * k;
   edges = flat_map (λ state. level_edges k (edges_from state a.edges) (watch state)) (range_with_len 0 a.states);
   sets = 1;
   formula = FormulaTree.Inf 0 false;
 }
 
+-- the literal of an Inf, and none of any other condition
 abbrev pub inf_literals : FormulaTree → List Literal
 inf_literals (FormulaTree.Inf set neg) = Inf set neg ∷ []
 inf_literals f = []
 
-abbrev pub is_inf_atom : FormulaTree → Bool
-is_inf_atom (FormulaTree.Inf set neg) = true
-is_inf_atom f = false
-
--- A generalised Büchi condition: `t`, an Inf, or an And of Infs alone. The literals of its parts are what a run waits for.
+-- A generalised Büchi condition: `t`, an Inf, or an And of Infs alone, so that each of its parts has a literal for a run to wait for.
 abbrev pub is_generalised_buchi : FormulaTree → Bool
-is_generalised_buchi f = list_all is_inf_atom (conjuncts f)
+is_generalised_buchi f = list_all (λ part. not (length (inf_literals part) == 0)) (conjuncts f)
 
 -- What the states of each copy wait for. Under a generalised Büchi condition there is one copy, the automaton itself, else
 -- the main copy waits for nothing, and each of the others for its sets.

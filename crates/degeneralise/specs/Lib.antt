@@ -1,2 +1,3 @@
 pub mod Buchi
 pub mod Faults
+pub mod inner

@@ -5,7 +5,8 @@ ghost use Rattle.std.specs.List.{list_all};
 ghost use Rattle.acc_forms.specs.Joined.{conjuncts};
 ghost use Rattle.acc_forms.specs.declared.literal.Literal.TheVariants.{Inf};
 ghost use Rattle.aut_base.specs.Formula.{formula_list, formula_tree};
-ghost use Rattle.degeneralise.specs.Buchi.{inf_literals, is_generalised_buchi, is_inf_atom};
+ghost use Rattle.degeneralise.specs.Buchi.{inf_literals, is_generalised_buchi};
+ghost use Rattle.degeneralise.specs.inner.Parts.{is_inf_atom};
 
 use acc_forms::{Literal, Literals};
 use aut_base::{Formula, Formulas, Memory};

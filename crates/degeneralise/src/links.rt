@@ -7,7 +7,8 @@ ghost use Rattle.aut_core.specs.SymbolicAutomata.{IsLinkOf, edge_of};
 ghost use Rattle.aut_core.specs.Surveys.{edges_from};
 ghost use Rattle.label_guards.specs.Store.{Has};
 ghost use Rattle.fin_removal.specs.inner.Links.{AddsLinks};
-ghost use Rattle.degeneralise.specs.Buchi.{edge_at_level, level_after, level_edges, levels, marks_at_level, state_at, watch_of};
+ghost use Rattle.degeneralise.specs.Buchi.{edge_at_level, level_after, level_edges, levels, marks_at_level, watch_of};
+ghost use Rattle.degeneralise.specs.inner.Parts.{state_at};
 
 use crate::levels::{level_after, levels, marks_at};
 use crate::watches::{Watch, Watches, watch_of};

@@ -4,10 +4,11 @@ use Rattle.std.proofs.Common.{slice_get, subst, sym}
 use Rattle.std.proofs.lemmas.Bool.{leb-false, ltb-false, ltb-true, true≢false}
 use Rattle.exploration.proofs.Lists.{new_cases}
 use Rattle.exploration.proofs.Midways.{Held, IsHeld, Midway, all_midway, begun, held_gives, meets_ends, meets_goes}
+use Rattle.exploration.proofs.Turning.{turn}
 use Rattle.exploration.specs.TransitionFunctions.{StepFailed, Successor, NoSuccessor, StepOutcome}
 use Rattle.exploration.specs.Explorations.{IsFaultMet}
 use Rattle.exploration.specs.Reached.{AreReached, Excess, IsCaused, class_count, class_counts}
-use Rattle.exploration.specs.Turns.{Comes, Finished, Running, LimitMet, Rules, ExplorationState, Turn, after_turns, begin, go_on, has_room, stepped, turn_taken, turn, turned, with_new}
+use Rattle.exploration.specs.Turns.{Comes, Finished, Running, LimitMet, Rules, ExplorationState, Turn, after_turns, begin, go_on, has_room, stepped, turn_taken, turned, with_new}
 use Rattle.exploration.specs.declared.fault.Fault.{Fault}
 use Rattle.exploration.specs.declared.fault.Fault.TheVariants as fault
 

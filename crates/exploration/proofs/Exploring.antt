@@ -3,10 +3,10 @@ use Rattle.std.proofs.Common.{◌≡◌, ◌∙◌, ◌+◌, ◌-◌, ◌<◌, �
 use Rattle.std.proofs.lemmas.Bool.{le-leb, lt-leb}
 use Rattle.std.proofs.lemmas.Option.{same_Some, slice_get_past}
 use Rattle.exploration.proofs.Spreading.{keeps_then}
-use Rattle.exploration.proofs.Turning.{comes_then, comes_turn, turn_take}
+use Rattle.exploration.proofs.Turning.{comes_then, comes_turn, turn, turn_take}
 use Rattle.exploration.specs.Explorations.{IsFaultMet, IsSound, Spreads, transition_of, rules_of, stage_of}
 use Rattle.exploration.specs.TransitionFunctions.{AreClassHandles, KeepsSystem, TransitionFunction}
-use Rattle.exploration.specs.Turns.{Comes, Finished, EndsWith, Running, LimitMet, Rules, ExplorationState, begin, turn_taken, turn}
+use Rattle.exploration.specs.Turns.{Comes, Finished, EndsWith, Running, LimitMet, Rules, ExplorationState, begin, turn_taken}
 use Rattle.exploration.specs.declared.exploration.Edge.{Edge}
 use Rattle.exploration.specs.declared.fault.Fault.{Fault}
 use Rattle.exploration.specs.declared.fault.Fault.TheVariants as fault
@@ -29,9 +29,9 @@ module _ {X C N : Type 0} (told : X → ℕ → N → Type 0) (same : X → X �
   module _ (m' : TransitionFunction X) (f' : X → Type 0) (is' : X → ℕ → C → Type 0) (done total : ℕ) (xs : List X) (es : List (Edge C N)) (so : IsExploring m' f' is' done total xs es) where
     pub exploring_all : length xs ≤ done → EndsWith r start xs (map transition_of es)
     exploring_all all = record {
-      sum = total;
-      next = done;
-      current = so.current;
+      reached = stage_of xs es total done so.current;
+      listed = refl;
+      made = refl;
       ends = comes_turn r (begin start) (stage_of xs es total done so.current) (Finished (stage_of xs es total done so.current)) so.comes
           (so.idle ∙ ap (turn_taken r (stage_of xs es total done so.current)) (slice_get_past xs done all));
     }

@@ -6,7 +6,7 @@ use Rattle.std.specs.List.{AllZip}
 use Rattle.exploration.proofs.Midways.{Held, IsHeld, all_midway, ends_goes, ends_same, made, meets_ends, sure_whole, turned_out, whole}
 use Rattle.exploration.specs.TransitionFunctions.{StepFailed, Successor, NoSuccessor, StepOutcome}
 use Rattle.exploration.specs.Reached.{IsTransition, IsExplored, Step, class_counts, steps_before}
-use Rattle.exploration.specs.Turns.{Transition, Comes, Finished, EndsOrMeets, Running, LimitMet, Rules, ExplorationState, Turn, after_turns, begin}
+use Rattle.exploration.specs.Turns.{Transition, Comes, EndsWith, Finished, EndsOrMeets, Running, LimitMet, Rules, ExplorationState, Turn, after_turns, begin}
 use Rattle.exploration.specs.Turns.{go_on, has_room, stepped, turn_taken, turned, HasOneEnding, HasOneOutcome, HasStopped}
 use Rattle.exploration.specs.declared.fault.Fault.TheVariants as fault
 
@@ -89,7 +89,7 @@ transitions_in (LimitMet f) = []
 pub has_one_ending : (X : Type 0) → HasOneEnding X
 has_one_ending X r start states others transitions more a b =
     let e = has_one_outcome X r (begin start) _ _ tt tt a.ends b.ends in
-    (ap states_in e, ap transitions_in e)
+    (sym a.listed ∙ (ap states_in e ∙ b.listed), sym a.made ∙ (ap transitions_in e ∙ b.made))
 
 pub ends_or_meets : (X : Type 0) → EndsOrMeets X
 ends_or_meets X r start states transitions f a m = meets_ends f _ (has_one_outcome X r (begin start) _ _ tt tt m a.ends)
@@ -128,6 +128,11 @@ module _ {X : Type 0} (r : Rules X) (tells : (a b : X) → r.same a b ≡ true �
       let last = ends_from r (begin start) c.turns s c.comes in
       explored_hand s s.current (all_midway r tells itself start last.0 s last.1) last.2 last.3
 
+  pub explored_ends : (states : List X) (transitions : List Transition) → EndsWith r start states transitions → IsExplored r.same r.moves start states transitions
+  explored_ends states transitions e =
+      subst (λ (xs : List X). IsExplored r.same r.moves start xs transitions) e.listed
+      (subst (λ (ts : List Transition). IsExplored r.same r.moves start e.reached.states ts) e.made (explored e.reached e.ends))
+
   -- all states together have no more classes than the limit
   within_hand : (s : ExplorationState X) (o : Option (X × ℕ)) → Held r tells itself start s o → slice_get s.states s.next ≡ None → class_counts r.moves s.states (length s.states) ≤ r.max_classes
   within_hand s None held none =
@@ -141,3 +146,6 @@ module _ {X : Type 0} (r : Rules X) (tells : (a b : X) → r.same a b ≡ true �
   explored_within s c =
       let last = ends_from r (begin start) c.turns s c.comes in
       within_hand s s.current (all_midway r tells itself start last.0 s last.1) last.2
+
+  pub ends_within : (states : List X) (transitions : List Transition) → EndsWith r start states transitions → class_counts r.moves states (length states) ≤ r.max_classes
+  ends_within states transitions e = subst (λ (xs : List X). class_counts r.moves xs (length xs) ≤ r.max_classes) e.listed (explored_within e.reached e.ends)

@@ -10,9 +10,10 @@ use Rattle.aut_base.proofs.lists.ListTests.{zip_append}
 use Rattle.aut_base.proofs.lists.Lists.{slice_get-append_left}
 use Rattle.exploration.proofs.Lists.{Longer, longer_at, longer_back, new_longer}
 use Rattle.exploration.proofs.Places.{new_at, new_once, new_place}
+use Rattle.exploration.proofs.Turning.{turn}
 use Rattle.exploration.specs.TransitionFunctions.{StepFailed, Successor, NoSuccessor, StepOutcome, TransitionFunction}
 use Rattle.exploration.specs.Reached.{AreReached, IsTransition, IsReached, LeadsTo, Step, class_count, class_counts, step_to, steps_before, steps_below, steps_of}
-use Rattle.exploration.specs.Turns.{Finished, Running, LimitMet, Rules, ExplorationState, Turn, after_turns, begin, go_on, has_room, stepped, turn_taken, turn, turned, with_new}
+use Rattle.exploration.specs.Turns.{Finished, Running, LimitMet, Rules, ExplorationState, Turn, after_turns, begin, go_on, has_room, stepped, turn_taken, turned, with_new}
 use Rattle.exploration.specs.declared.fault.Fault.{Fault}
 use Rattle.exploration.specs.declared.fault.Fault.TheVariants as fault
 

@@ -5,10 +5,10 @@ use Rattle.std.proofs.lemmas.Bool.{leb-true, ltb-true}
 use Rattle.std.proofs.lemmas.Option.{slice_get_within}
 use Rattle.std.specs.List.{position_or_len}
 use Rattle.exploration.proofs.Lists.{new_cases}
-use Rattle.exploration.proofs.Turning.{comes_none, comes_turn}
+use Rattle.exploration.proofs.Turning.{comes_none, comes_turn, turn}
 use Rattle.exploration.specs.TransitionFunctions.{StepFailed, Successor, NoSuccessor, StepOutcome}
 use Rattle.exploration.specs.Turns.{Comes, Finished, Running, HasOutcome, HasSomeOutcome, LimitMet, Rules, ExplorationState, Turn, begin, has_end}
-use Rattle.exploration.specs.Turns.{has_limit, has_room, stepped, turn_taken, turn, turned, with_new}
+use Rattle.exploration.specs.Turns.{has_limit, has_room, stepped, turn_taken, turned, with_new}
 use Rattle.exploration.specs.declared.fault.Fault.{Fault}
 use Rattle.exploration.specs.declared.fault.Fault.TheVariants as fault
 
@@ -107,7 +107,7 @@ module _ {X : Type 0} (r : Rules X) where
     where
       over : (t : Turn X) → turn r s ≡ t → Onward s t → ((w : ExplorationState X) → still w < n → IsWithin w → Comes r (begin start) (Running w) → HasOutcome r start) → HasOutcome r start
       over (Running w) is on then = (let less = on.1 in then w (omega (arith, few, less)) on.0 (comes_turn r (begin start) s (Running w) comes is))
-      over (Finished w) is on then = has_end w.states w.transitions (record { sum = w.sum; next = w.next; current = w.current; ends = comes_turn r (begin start) s (Finished w) comes is })
+      over (Finished w) is on then = has_end w.states w.transitions (record { reached = w; ends = comes_turn r (begin start) s (Finished w) comes is; listed = refl; made = refl })
       over (LimitMet f) is on then = has_limit f on (comes_turn r (begin start) s (LimitMet f) comes is)
 
 pub has_some_outcome : (X : Type 0) → HasSomeOutcome X

@@ -3,8 +3,12 @@ use Rattle.std.proofs.Common.{◌≡◌, ◌∙◌, ◌+◌, ◌-◌, ◌<◌, �
 use Rattle.std.proofs.lemmas.Bool.{le-ltb, lt-ltb}
 use Rattle.std.specs.List.{position_or_len}
 use Rattle.exploration.specs.TransitionFunctions.{StepFailed, Successor, NoSuccessor}
-use Rattle.exploration.specs.Turns.{Comes, Running, LimitMet, Rules, ExplorationState, Turn, after_turns, go_on, has_room, stepped, turn_taken, turn, turned, with_new}
+use Rattle.exploration.specs.Turns.{Comes, Running, LimitMet, Rules, ExplorationState, Turn, after_turns, go_on, has_room, stepped, turn_taken, turned, with_new}
 use Rattle.exploration.specs.declared.fault.Fault.TheVariants as fault
+
+-- a turn of an exploration that goes on
+abbrev pub turn : {X : Type 0} → Rules X → ExplorationState X → Turn X
+turn r s = turned r s s.current
 
 pub comes_none : {X : Type 0} (r : Rules X) (s : ExplorationState X) → Comes r s (Running s)
 comes_none r s = record { turns = 0; comes = refl }

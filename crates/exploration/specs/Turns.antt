@@ -43,32 +43,28 @@ has_room same most states y = list_any (same y) states || ltb (length states) mo
 -- the turn that takes the step for a class of the current state, by the step's outcome
 abbrev pub stepped : {X : Type 0} → Rules X → ExplorationState X → X → ℕ → StepOutcome X → Turn X
 stepped r s x k (Successor y) = if has_room r.same r.max_states s.states y
-    then Running (record {
+    then Running (record s {
       states = with_new r.same s.states y;
-      sum = s.sum;
-      next = s.next;
       current = Some (x, k + 1);
       transitions = s.transitions ++ record { from = s.next - 1; class = k; to = position_or_len (r.same y) s.states } ∷ [];
     })
     else LimitMet fault.States
-stepped r s x k NoSuccessor = Running (record { states = s.states; sum = s.sum; next = s.next; current = Some (x, k + 1); transitions = s.transitions })
+stepped r s x k NoSuccessor = Running (record s { current = Some (x, k + 1) })
 stepped r s x k StepFailed = LimitMet fault.StepFailed
 
 -- the turn that expands the next state, or ends the exploration where there is none
 abbrev pub turn_taken : {X : Type 0} → Rules X → ExplorationState X → Option X → Turn X
 turn_taken r s None = Finished s
 turn_taken r s (Some x) = if leb (s.sum + r.moves.count x) r.max_classes
-    then Running (record { states = s.states; sum = s.sum + r.moves.count x; next = s.next + 1; current = Some (x, 0); transitions = s.transitions })
+    then Running (record s { sum = s.sum + r.moves.count x; next = s.next + 1; current = Some (x, 0) })
     else LimitMet fault.Classes
 
+-- the turn, by the current state
 abbrev pub turned : {X : Type 0} → Rules X → ExplorationState X → Option (X × ℕ) → Turn X
 turned r s None = turn_taken r s (slice_get s.states s.next)
 turned r s (Some current) = if ltb current.1 (r.moves.count current.0)
     then stepped r s current.0 current.1 (r.moves.step current.0 current.1)
     else turn_taken r s (slice_get s.states s.next)
-
-abbrev pub turn : {X : Type 0} → Rules X → ExplorationState X → Turn X
-turn r s = turned r s s.current
 
 -- the state at the beginning: the start is listed, and none is current
 abbrev pub begin : {X : Type 0} → X → ExplorationState X
@@ -76,7 +72,7 @@ begin start = record { states = start ∷ []; sum = 0; next = 0; current = None;
 
 -- another turn, unless the exploration has ended
 abbrev pub go_on : {X : Type 0} → Rules X → Turn X → Turn X
-go_on r (Running s) = turn r s
+go_on r (Running s) = turned r s s.current
 go_on r (Finished s) = Finished s
 go_on r (LimitMet f) = LimitMet f
 
@@ -98,10 +94,10 @@ HasStopped (LimitMet f) = Unit {0}
 
 -- the exploration from the start ends with these states and edges
 pub record EndsWith {X : Type 0} (r : Rules X) (start : X) (states : List X) (transitions : List Transition) : Type 0 where
-  pub sum : ℕ
-  pub next : ℕ
-  pub current : Option (X × ℕ)
-  pub ends : Comes r (begin start) (Finished (record { states = states; sum = sum; next = next; current = current; transitions = transitions }))
+  pub reached : ExplorationState X
+  pub ends : Comes r (begin start) (Finished reached)
+  pub listed : reached.states ≡ states
+  pub made : reached.transitions ≡ transitions
 
 -- The outcome of an exploration is determined: it ends, in one state, or meets a limit, one, and not both.
 abbrev pub HasOneOutcome : (X : Type 0) → Type 0

@@ -3,7 +3,8 @@ use Rattle.std.proofs.Common.{◌≡◌, ◌⊎◌, true, List, ◌++◌, Contai
 use Rattle.std.proofs.lemmas.List.Elements.{All-contains, Contains-append_cases, Contains-append_left, Contains-append_right}
 use Rattle.aut_base.proofs.lists.Members.{first_there, from_filter, from_flat_map, from_map, later_there, there_cases, there_filter, there_flat_map, there_map}
 use Rattle.aut_base.specs.Automaton.{Automaton, IsEdgeOf, IsWellFormed, LabelledEdge}
-use Rattle.fin_removal.specs.Copies.{allows, copy_edges, edge_in, enter, main_edges, stay}
+use Rattle.fin_removal.specs.Copies.{copy_edges, main_edges}
+use Rattle.fin_removal.proofs.Parts.{allows, edge_in, enter, stay}
 use Rattle.fin_removal.specs.declared.term_copy.TermCopy.{TermCopy}
 
 abbrev pub all_edges : Automaton → List TermCopy → List LabelledEdge

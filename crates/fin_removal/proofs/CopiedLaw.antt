@@ -18,7 +18,8 @@ use Rattle.aut_base.specs.Marks.{is_in}
 use Rattle.aut_base.specs.Runs.{LassoRun}
 use Rattle.aut_base.specs.Word.{NameSet, copies}
 use Rattle.aut_core.specs.OtherNames.{AcceptTheSame}
-use Rattle.fin_removal.specs.Copies.{allows, copied, edge_in, owned, owned_sets, state_in, stay}
+use Rattle.fin_removal.specs.Copies.{copied, owned, owned_sets}
+use Rattle.fin_removal.proofs.Parts.{allows, edge_in, state_in, stay}
 use Rattle.fin_removal.specs.Meeting.{meets_at}
 use Rattle.fin_removal.specs.declared.term_copy.TermCopy.{TermCopy}
 use Rattle.fin_removal.proofs.CopiedPaths.{IsElsewhere, IsMain, copies_of, copy_path, entered, entering_path, from_copy, from_main, main_path, not_main}

@@ -8,7 +8,8 @@ use Rattle.aut_base.specs.Label.{holds_at, truth}
 use Rattle.aut_base.specs.Word.{NameSet}
 use Rattle.acc_forms.specs.Terms.{terms}
 use Rattle.fin_removal.proofs.CopiedEdges.{Enters, Stays, Within, comes_from, edge_bounds, has_enter, has_stay, has_within}
-use Rattle.fin_removal.specs.Copies.{allows, copied, edge_in, enter, state_in, stay, term_copies}
+use Rattle.fin_removal.specs.Copies.{copied, term_copies}
+use Rattle.fin_removal.proofs.Parts.{allows, edge_in, enter, state_in, stay}
 use Rattle.fin_removal.specs.declared.term_copy.TermCopy.{TermCopy}
 use Rattle.fin_removal.proofs.CopyNumbers.{is_among, same_number}
 

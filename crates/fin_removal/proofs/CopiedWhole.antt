@@ -14,7 +14,8 @@ use Rattle.acc_forms.specs.Terms.{literal_formula, terms}
 use Rattle.acc_forms.specs.declared.literal.Literal.{Literal}
 use Rattle.acc_forms.specs.declared.literal.Literal.TheVariants.{Inf}
 use Rattle.fin_removal.proofs.CopiedEdges.{Enters, Stays, Within, comes_from, edge_bounds}
-use Rattle.fin_removal.specs.Copies.{allows, copied, copies_from, copy_edges, edge_in, enter, main_edges, marks_in, owned, owned_sets, sets_of, state_in, stay, term_copies}
+use Rattle.fin_removal.specs.Copies.{copied, copies_from, copy_edges, main_edges, marks_in, owned, owned_sets, sets_of, term_copies}
+use Rattle.fin_removal.proofs.Parts.{allows, edge_in, enter, state_in, stay}
 use Rattle.fin_removal.specs.Meeting.{meets_at, literal_places}
 use Rattle.fin_removal.specs.declared.term_copy.TermCopy.{TermCopy}
 use Rattle.fin_removal.proofs.Conditions.{HasNoFin, below_parts, no_fin_parts, of_terms_holds}

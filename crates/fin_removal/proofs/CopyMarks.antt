@@ -5,7 +5,8 @@ use Rattle.std.proofs.lemmas.List.{append-nil, map-append}
 use Rattle.std.proofs.lemmas.List.Elements.{All-append, All-nil, All-cons, All-weaker, filter-append}
 use Rattle.aut_base.proofs.lists.Lists.{range_more, take-push}
 use Rattle.aut_base.specs.Automaton.{LabelledEdge}
-use Rattle.fin_removal.specs.Copies.{allows, copy_edges, edge_in}
+use Rattle.fin_removal.specs.Copies.{copy_edges}
+use Rattle.fin_removal.proofs.Parts.{allows, edge_in}
 use Rattle.fin_removal.specs.Meeting.{meets_at}
 use Rattle.fin_removal.specs.declared.term_copy.TermCopy.{TermCopy}
 

@@ -8,5 +8,6 @@ pub mod CopyMarks
 pub mod CopyNumbers
 pub mod Fits
 pub mod LinkSteps
+pub mod Parts
 pub mod TermCopies
 pub mod TermMet

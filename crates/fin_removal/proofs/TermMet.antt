@@ -11,7 +11,8 @@ use Rattle.aut_base.specs.Marks.{is_in}
 use Rattle.acc_forms.specs.Terms.{literal_formula}
 use Rattle.acc_forms.specs.declared.literal.Literal.{Literal}
 use Rattle.acc_forms.specs.declared.literal.Literal.TheVariants.{Inf, Fin}
-use Rattle.fin_removal.specs.Copies.{allows, marks_in, owned}
+use Rattle.fin_removal.specs.Copies.{marks_in, owned}
+use Rattle.fin_removal.proofs.Parts.{allows}
 use Rattle.fin_removal.specs.Meeting.{fins, infs, is_inf, meets, meets_at, literal_places}
 use Rattle.fin_removal.specs.declared.term_copy.TermCopy.{TermCopy}
 use Rattle.fin_removal.proofs.CopyNumbers.{Owns}

@@ -1,7 +1,7 @@
 -- Removal of Fin, by a copy of the automaton for each term of its condition in disjunctive normal form. The automaton
 -- itself, without marks, is the main copy. A run moves from it into the copy of a term at any edge; that copy has only the
 -- edges that meet the term's Fin literals.
-use Rattle.std.specs.Prelude.{ℕ, ◌+◌, ◌*◌, ◌^◌, ◌<◌, ◌≤◌, Bool, false, if◌then◌else◌, List, [], ◌∷◌, ◌++◌, length, map, filter, flat_map}
+use Rattle.std.specs.Prelude.{ℕ, ◌+◌, ◌*◌, ◌^◌, ◌<◌, ◌≤◌, false, if◌then◌else◌, List, [], ◌∷◌, ◌++◌, length, map, filter, flat_map}
 use Rattle.std.specs.List.{list_all, range_with_len, sum_by}
 use Rattle.aut_base.specs.Automaton.{Automaton, LabelledEdge}
 use Rattle.aut_base.specs.declared.limit.TheConstants.{MOST_TERMS}
@@ -29,37 +29,21 @@ copies_from number first (term ∷ terms) = record { number = number; first = fi
 abbrev pub term_copies : List (List Literal) → List TermCopy
 term_copies terms = copies_from 1 0 terms
 
--- the state of the copy with this number, where each has n states
-abbrev pub state_in : ℕ → ℕ → ℕ → ℕ
-state_in n number state = number * n + state
-
--- the edge stays in the main copy, unmarked
-abbrev pub stay : LabelledEdge → LabelledEdge
-stay e = record e { marks = [] }
-
--- the edge leads from the main copy into this one, unmarked
-abbrev pub enter : ℕ → LabelledEdge → TermCopy → LabelledEdge
-enter n e copy = record { from = e.from; label = e.label; to = state_in n copy.number e.to; marks = [] }
-
--- the edge in the main copy, and then into each of the others
+-- The edge in the main copy, and then from there into each of the others, unmarked. Where each copy has n states, state q of
+-- the copy of number k has the number k * n + q.
 abbrev pub main_edges : ℕ → List TermCopy → LabelledEdge → List LabelledEdge
-main_edges n copies e = stay e ∷ map (enter n e) copies
-
--- whether the copy has an edge with these marks: whether these meet every Fin literal of its term
-abbrev pub allows : TermCopy → List ℕ → Bool
-allows copy marks = list_all (meets marks) copy.fins
+main_edges n copies e = record e { marks = [] } ∷ map (λ (copy : TermCopy). record e { to = copy.number * n + e.to; marks = [] }) copies
 
 -- The marks that an edge with these marks has in the copy: the set of each Inf literal that it meets, or the one set of a
 -- term without Inf literals.
 abbrev pub marks_in : TermCopy → List ℕ → List ℕ
 marks_in copy marks = map (λ place. copy.first + place) (filter (λ place. meets_at copy.infs place marks) (range_with_len 0 (literal_places copy.infs)))
 
-abbrev pub edge_in : ℕ → TermCopy → LabelledEdge → LabelledEdge
-edge_in n copy e = record { from = state_in n copy.number e.from; label = e.label; to = state_in n copy.number e.to; marks = marks_in copy e.marks }
-
--- the edges within a copy
+-- the edges within a copy: those that meet every Fin literal of its term
 abbrev pub copy_edges : ℕ → List LabelledEdge → TermCopy → List LabelledEdge
-copy_edges n edges copy = map (edge_in n copy) (filter (λ e. allows copy e.marks) edges)
+copy_edges n edges copy =
+    map (λ (e : LabelledEdge). record e { from = copy.number * n + e.from; to = copy.number * n + e.to; marks = marks_in copy e.marks })
+    (filter (λ e. list_all (meets e.marks) copy.fins) edges)
 
 -- Inf of each of the copy's sets
 abbrev pub owned : TermCopy → List Literal

@@ -1,17 +1,16 @@
 -- The automaton that is made of the sets and edges that were found.
 use Rattle.std.proofs.Common.{◌≡◌, ◌<◌, ℕ, All, List, [], ◌∷◌, arith, length, map, refl, subst, sym}
 use Rattle.std.specs.Cmp.Lexicographic.{pointwise}
-use Rattle.std.specs.List.{list_any, range_with_len}
+use Rattle.std.specs.List.{range_with_len}
 use Rattle.std.specs.Prelude.{⊤, nat_eq}
 use Rattle.aut_base.proofs.lists.Members.{each_there, from_filter, from_range}
-use Rattle.aut_base.specs.Automaton.{Automaton}
 use Rattle.aut_base.specs.Formula.{FormulaTree, SetsBelow}
+use Rattle.aut_base.specs.Marks.{is_in}
 use Rattle.aut_base.specs.declared.limit.TheConstants.{MOST_SUBSETS}
 use Rattle.aut_core.proofs.Growth.{keeps_none}
 use Rattle.aut_core.specs.SymbolicAutomata.{AreSymbolicParts, SymbolicAutomaton, IsWellFormedSymbolic, automaton_of}
 use Rattle.exploration.specs.Explorations.{IsSound, transition_of}
 use Rattle.exploration.specs.Reached.{IsExplored}
-use Rattle.exploration.specs.Turns.{Transition, EndsWith}
 use Rattle.exploration.specs.declared.exploration.Edge.{Edge}
 use Rattle.label_guards.specs.Store.{Keeps, Store}
 use Rattle.label_guards.specs.declared.guard.Guard.{Guard}
@@ -19,7 +18,7 @@ use Rattle.letter_classes.proofs.ClassForms.{edges_are, parts_are}
 use Rattle.letter_classes.specs.ClassForms.{form_of, link_of}
 use Rattle.letter_classes.specs.SetClasses.{FitsStore, IsClassGuard}
 use Rattle.monitor_form.specs.Monitors.{first_places}
-use Rattle.monitor_form.specs.Subsets.{IsExploredFrom, monitor_on, start_set, subset_moves, subset_rules}
+use Rattle.monitor_form.specs.Subsets.{monitor_on, start_set, subset_moves}
 
 first_place : (ss : List ℕ) → 0 < length ss → 0 ∷ [] ≡ first_places ss
 first_place [] some = absurd (omega (arith, some))
@@ -55,13 +54,7 @@ module _ (b : SymbolicAutomaton) (core : IsWellFormedSymbolic b) (s : Store) (ke
 pub start_fits : (b : SymbolicAutomaton) (s : Store) (set : List ℕ) → s ≡ b.store → set ≡ start_set (automaton_of b) → FitsStore b s set
 start_fits b s set e f = record {
   states = subst (All (λ q. q < b.states)) (sym f) (each_there (λ q. q < b.states) (start_set (automaton_of b)) (λ q there.
-      let kept = from_filter (λ p. list_any (λ t. nat_eq t p) b.starts) (range_with_len 0 b.states) q there in
+      let kept = from_filter (λ p. is_in p b.starts) (range_with_len 0 b.states) q there in
       let bounds = from_range 0 b.states q kept.0 in omega (arith, bounds.1)));
   keeps = subst (Keeps b.store) (sym e) (keeps_none b.store);
 }
-
--- where there are starts
-pub explored_from : (b : Automaton) (ss : List ℕ) (sets : List (List ℕ)) (transitions : List Transition) → 0 < length ss → EndsWith (subset_rules b) (start_set b) sets transitions
-    → IsExploredFrom b ss sets transitions
-explored_from b [] sets transitions some ends = absurd (omega (arith, some))
-explored_from b (s ∷ ss) sets transitions some ends = ends

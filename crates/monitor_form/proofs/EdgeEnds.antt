@@ -13,7 +13,8 @@ use Rattle.aut_core.specs.Surveys.{edges_from}
 use Rattle.letter_classes.specs.SetClasses.{set_edges}
 use Rattle.letter_classes.specs.Taken.{taken_of}
 use Rattle.aut_base.proofs.order.RisingLists.{kept_of_range}
-use Rattle.monitor_form.specs.Subsets.{successor_set, is_goal, start_set}
+use Rattle.monitor_form.specs.Subsets.{successor_set, start_set}
+use Rattle.monitor_form.proofs.Explored.{is_goal}
 
 abbrev end_of : LabelledEdge → ℕ
 end_of e = e.to

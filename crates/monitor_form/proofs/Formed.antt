@@ -21,11 +21,12 @@ use Rattle.label_guards.specs.ClassLeasts.{are_alike}
 use Rattle.letter_classes.proofs.ClassEdges.{all_apart, class_meets, class_of, edge_alike}
 use Rattle.letter_classes.specs.SetClasses.{set_classes, set_edges, set_labels}
 use Rattle.monitor_form.specs.Monitors.{HasEdge, IsGoal, TracksSubsets, IsMove, first_places, set_at}
-use Rattle.monitor_form.specs.Subsets.{successor_set, is_goal, monitor_edge, monitor_on, start_set, subset_step, subset_moves, subset_rules, unless_empty}
-use Rattle.exploration.proofs.Finished.{explored}
+use Rattle.monitor_form.proofs.Explored.{IsExploredFrom, explored_by, is_goal, monitor_edge}
+use Rattle.monitor_form.specs.Subsets.{successor_set, monitor_on, start_set, subset_step, subset_moves, subset_rules, unless_empty}
+use Rattle.exploration.proofs.Finished.{explored_ends}
 use Rattle.std.specs.Cmp.Lexicographic.{bytes_decides, pointwise}
 use Rattle.std.specs.Prelude.{nat_eq}
-use Rattle.monitor_form.specs.Subsets.{IsExploredFrom, IsSubsetForm}
+use Rattle.monitor_form.specs.Subsets.{IsSubsetForm}
 
 -- the set that a step gives
 
@@ -193,8 +194,7 @@ module _ (b : Automaton) (formed : IsWellFormed b) where
 
 pub explored_sets : (b : Automaton) (sets : List (List ℕ)) (transitions : List Transition) → EndsWith (subset_rules b) (start_set b) sets transitions
     → IsExplored (pointwise nat_eq) (subset_moves b) (start_set b) sets transitions
-explored_sets b sets transitions e = explored (subset_rules b) (λ x y. (bytes_decides x y).0) (λ x. (bytes_decides x x).1 refl) (start_set b)
-    (record { states = sets; sum = e.sum; next = e.next; current = e.current; transitions = transitions }) e.ends
+explored_sets b sets transitions e = explored_ends (subset_rules b) (λ x y. (bytes_decides x y).0) (λ x. (bytes_decides x x).1 refl) (start_set b) sets transitions e
 
 no_states : (b : Automaton) → b.starts ≡ [] → TracksSubsets b (monitor_on [] [] b) []
 no_states b none = record {
@@ -212,7 +212,7 @@ pub record Formed (b made : Automaton) : Type 0 where
   pub deterministic : IsDeterministic made
 
 pub formed_of : (b made : Automaton) → IsWellFormed b → IsSubsetForm b made → Formed b made
-formed_of b made formed form = by_cases b.starts refl form.explored
+formed_of b made formed form = by_cases b.starts refl (explored_by b made form)
   where
     by_cases : (ss : List ℕ) → b.starts ≡ ss → IsExploredFrom b ss form.sets form.transitions → Formed b made
     by_cases [] none are = subst (Formed b) (sym form.is) (subst (λ (xs : List (List ℕ)). Formed b (monitor_on xs form.transitions b)) (sym are.0)

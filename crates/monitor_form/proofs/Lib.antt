@@ -1,6 +1,7 @@
 pub mod Built
 pub mod Formed
 pub mod EdgeEnds
+pub mod Explored
 pub mod LivePaths
 pub mod LongPaths
 pub mod MonitorLaws

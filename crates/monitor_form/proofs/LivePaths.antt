@@ -15,7 +15,8 @@ use Rattle.aut_base.specs.Valuation.{letter_of}
 use Rattle.aut_base.specs.Word.{NameSet}
 use Rattle.aut_ops.proofs.links.Labels.{some_letter}
 use Rattle.aut_ops.specs.Labels.{is_never}
-use Rattle.aut_ops.specs.Satisfiable.{arc_of, between, is_flagged, is_satisfiable, passable_arcs, satisfiable_edges, is_kept_edge}
+use Rattle.aut_ops.specs.Satisfiable.{between, is_flagged, is_satisfiable, passable_arcs, satisfiable_edges}
+use Rattle.aut_ops.specs.inner.Parts.{arc_of, is_kept_edge}
 use Rattle.aut_ops.specs.Pruning.{AreUseful, IsMarkedOnCycle, IsUseful}
 use Rattle.graph_walk.proofs.WalkLemmas.{reach_then}
 use Rattle.graph_walk.specs.Reach.{ReachedFrom}

@@ -15,11 +15,12 @@ use Rattle.monitor_form.proofs.Formed.{formed_of}
 use Rattle.monitor_form.proofs.LivePaths.{pruned_are_live}
 use Rattle.monitor_form.proofs.Prefixed.{monitor_accepts}
 use Rattle.monitor_form.specs.Prefixes.{AcceptsPrefixes, HasPrefix}
-use Rattle.monitor_form.specs.Subsets.{IsExploredFrom, IsMonitorAutomaton, IsSubsetForm, MeetsLimit, MeetsSubsetLimit, MonitorExcludesLimits, MonitorIsDetermined, SubsetFormIsDetermined}
+use Rattle.monitor_form.specs.Subsets.{IsMonitorAutomaton, IsSubsetForm, MeetsLimit, MeetsSubsetLimit, MonitorExcludesLimits, MonitorIsDetermined, SubsetFormIsDetermined}
+use Rattle.monitor_form.proofs.Explored.{IsExploredFrom, explored_by}
 use Rattle.monitor_form.specs.Subsets.{monitor_on, start_set, subset_rules}
 
 forms_same : (b made other : Automaton) → IsSubsetForm b made → IsSubsetForm b other → made ≡ other
-forms_same b made other f g = by_cases b.starts f.explored g.explored
+forms_same b made other f g = by_cases b.starts (explored_by b made f) (explored_by b other g)
   where
     by_cases : (ss : List ℕ) → IsExploredFrom b ss f.sets f.transitions → IsExploredFrom b ss g.sets g.transitions → made ≡ other
     by_cases [] x y = f.is ∙ ((λ i. monitor_on ((x.0 ∙ sym y.0) i) ((x.1 ∙ sym y.1) i) b) ∙ sym g.is)
@@ -33,7 +34,7 @@ monitor_is_determined a made other m o =
     forms_same m.pruned made other m.is (subst (λ (b : Automaton). IsSubsetForm b other) (sym same) o.is)
 
 form_excludes : (b made : Automaton) (f : Fault) → IsSubsetForm b made → MeetsSubsetLimit b f → ⊥
-form_excludes b made f form meets = by_cases b.starts form.explored meets.some
+form_excludes b made f form meets = by_cases b.starts (explored_by b made form) meets.some
   where
     by_cases : (ss : List ℕ) → IsExploredFrom b ss form.sets form.transitions → 0 < length ss → ⊥
     by_cases [] x some = absurd (omega (arith, some))

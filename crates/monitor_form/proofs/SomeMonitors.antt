@@ -1,5 +1,5 @@
 -- Where no limit is met there is a monitor.
-use Rattle.std.proofs.Common.{◌≡◌, ◌<◌, ◌≤◌, ℕ, Bool, true, List, [], ◌∷◌, Option, Some, None, arith, inl, inr, length, refl, slice_get, subst, sym}
+use Rattle.std.proofs.Common.{◌≡◌, ◌∙◌, ◌<◌, ◌≤◌, ℕ, Bool, true, List, [], ◌∷◌, Option, Some, None, ap, arith, inl, inr, length, refl, slice_get, subst, sym}
 use Rattle.std.proofs.lemmas.Bool.{cases_Bool}
 use Rattle.std.specs.Cmp.Lexicographic.{pointwise}
 use Rattle.std.specs.Prelude.{nat_eq}
@@ -16,7 +16,7 @@ use Rattle.exploration.specs.Turns.{Comes, HasOutcome, LimitMet, begin, has_end,
 use Rattle.exploration.specs.declared.fault.Fault.{Fault}
 use Rattle.exploration.specs.declared.fault.Fault.TheVariants as limit
 use Rattle.letter_classes.specs.SetClasses.{set_classes}
-use Rattle.monitor_form.specs.Subsets.{IsExploredFrom, IsMonitorAutomaton, MeetsLimit, MonitorExists, successor_set, monitor_on, start_set, subset_step, subset_rules, unless_empty}
+use Rattle.monitor_form.specs.Subsets.{IsMonitorAutomaton, MeetsLimit, MonitorExists, successor_set, monitor_on, start_set, subset_step, subset_rules, unless_empty}
 
 numbers_same : (xs : List ℕ) → pointwise nat_eq xs xs ≡ true
 numbers_same xs = elim (cases_Bool (pointwise nat_eq xs xs)) [ inl is ↦ is | inr isnt ↦ absurd (other_text xs xs isnt refl) ]
@@ -47,12 +47,12 @@ module _ (a : Automaton) (few : buchi_states a ≤ MOST_BUCHI_STATES) (classes :
     has_form none [] starts outcome = none (monitor_on [] [] pruned) (record {
       pruned = pruned;
       is_pruned = is;
-      is = record { sets = []; transitions = []; explored = subst (λ ss. IsExploredFrom pruned ss [] []) (sym starts) (refl, refl); is = refl };
+      is = record { sets = []; transitions = []; none = λ _. (refl, refl); explored = λ some. absurd (omega (arith, some, ap (λ (xs : List ℕ). length xs) starts)); is = refl };
     })
     has_form none (s ∷ ss) starts (has_end sets transitions ends) = none (monitor_on sets transitions pruned) (record {
       pruned = pruned;
       is_pruned = is;
-      is = record { sets = sets; transitions = transitions; explored = subst (λ ss. IsExploredFrom pruned ss sets transitions) (sym starts) ends; is = refl };
+      is = record { sets = sets; transitions = transitions; none = λ no. absurd (omega (arith, ap (λ (xs : List ℕ). length xs) (sym starts ∙ no))); explored = λ _. ends; is = refl };
     })
     has_form none (s ∷ ss) starts (has_limit f other meets) = meets_none f other (subst (λ (qs : List ℕ). 0 < length qs) (sym starts) (omega arith)) meets
 

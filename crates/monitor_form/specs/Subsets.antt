@@ -2,9 +2,10 @@
 -- rising order, and its classes are those of the letters that the edges from a set don't tell apart.
 use Rattle.std.specs.Prelude.{◌≡◌, ◌≤◌, ℕ, ◌<◌, ◌==◌, ◌&&◌, Bool, List, [], ◌∷◌, Option, None, Some, filter, length, map, nat_eq, slice_get}
 use Rattle.std.specs.Cmp.Lexicographic.{pointwise}
-use Rattle.std.specs.List.{list_any, range_with_len}
-use Rattle.aut_base.specs.Automaton.{Automaton, LabelledEdge}
+use Rattle.std.specs.List.{list_any, range_with_len, slice_index_or}
+use Rattle.aut_base.specs.Automaton.{Automaton}
 use Rattle.aut_base.specs.Formula.{FormulaTree}
+use Rattle.aut_base.specs.Marks.{is_in}
 use Rattle.aut_base.specs.Valuation.{truth_on}
 use Rattle.aut_base.specs.declared.limit.TheConstants.{MOST_BUCHI_STATES, MOST_CLASSES, MOST_SUBSETS}
 use Rattle.aut_ops.specs.Pruning.{IsPruned}
@@ -15,15 +16,11 @@ use Rattle.exploration.specs.declared.fault.Fault.{Fault}
 use Rattle.exploration.specs.declared.fault.Fault.TheVariants as limit
 use Rattle.letter_classes.specs.ClassForms.{class_edge}
 use Rattle.letter_classes.specs.SetClasses.{set_classes, set_edges}
-use Rattle.monitor_form.specs.Monitors.{first_places, set_at}
-
--- some edge of the list leads to this state and passes the test `reads`
-abbrev pub is_goal : (LabelledEdge → Bool) → List LabelledEdge → ℕ → Bool
-is_goal reads es q = list_any (λ e. (e.to == q) && reads e) es
+use Rattle.monitor_form.specs.Monitors.{first_places}
 
 -- the states to which edges lead from the set at the valuation, in rising order
 abbrev pub successor_set : Automaton → List ℕ → List Bool → List ℕ
-successor_set b set v = filter (is_goal (λ e. truth_on e.label v) (set_edges b set)) (range_with_len 0 b.states)
+successor_set b set v = filter (λ q. list_any (λ e. (e.to == q) && truth_on e.label v) (set_edges b set)) (range_with_len 0 b.states)
 
 -- the set, unless it is empty
 abbrev pub unless_empty : List ℕ → StepOutcome (List ℕ)
@@ -39,37 +36,31 @@ subset_moves b = record { count = λ set. length (set_classes b set); step = λ 
 
 -- the starts, in rising order
 abbrev pub start_set : Automaton → List ℕ
-start_set b = filter (λ q. list_any (λ s. s == q) b.starts) (range_with_len 0 b.states)
+start_set b = filter (λ q. is_in q b.starts) (range_with_len 0 b.states)
 
 -- the exploration of the sets, with its limits
 abbrev pub subset_rules : Automaton → Rules (List ℕ)
 subset_rules b = record { same = pointwise nat_eq; moves = subset_moves b; max_states = MOST_SUBSETS; max_classes = MOST_CLASSES }
 
--- the edge between the indices of two sets, with the label of its class
-abbrev pub monitor_edge : Automaton → List (List ℕ) → Transition → LabelledEdge
-monitor_edge b sets = class_edge b (set_at sets) (λ place v. [])
-
--- the automaton whose states are the indices of these sets, without acceptance sets
+-- The automaton whose states are the indices of these sets, without acceptance sets. State 0 is the start, if b has any, and each edge
+-- is labelled by its class.
 abbrev pub monitor_on : List (List ℕ) → List Transition → Automaton → Automaton
 monitor_on sets transitions b = record {
   names = b.names;
   starts = first_places b.starts;
   states = length sets;
-  edges = map (monitor_edge b sets) transitions;
+  edges = map (class_edge b (λ place. slice_index_or sets place []) (λ place v. [])) transitions;
   sets = 0;
   formula = FormulaTree.True;
 }
 
--- where there are starts, the exploration ends with these sets and edges; else there are none
-abbrev pub IsExploredFrom : Automaton → List ℕ → List (List ℕ) → List Transition → Type 0
-IsExploredFrom b [] sets transitions = (sets ≡ []) × (transitions ≡ [])
-IsExploredFrom b (s ∷ ss) sets transitions = EndsWith (subset_rules b) (start_set b) sets transitions
-
--- the automaton made is the subset construction of b
+-- The automaton made is the subset construction of b. Where there are starts, the exploration ends with these sets and edges; else there
+-- are none.
 pub record IsSubsetForm (b made : Automaton) : Type 0 where
   pub sets : List (List ℕ)
   pub transitions : List Transition
-  pub explored : IsExploredFrom b b.starts sets transitions
+  pub none : b.starts ≡ [] → (sets ≡ []) × (transitions ≡ [])
+  pub explored : 0 < length b.starts → EndsWith (subset_rules b) (start_set b) sets transitions
   pub is : made ≡ monitor_on sets transitions b
 
 -- The automaton made is the monitor of a: the subset construction of its Büchi form, pruned. Law: there is at most one.

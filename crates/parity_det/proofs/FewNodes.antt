@@ -6,7 +6,8 @@ use Rattle.aut_base.proofs.lists.Members.{any_found, first_there, from_filter, f
 use Rattle.aut_base.specs.Automaton.{Automaton, LabelledEdge}
 use Rattle.aut_base.specs.Valuation.{truth_on}
 use Rattle.aut_core.specs.Surveys.{edges_from}
-use Rattle.aut_ops.specs.Satisfiable.{is_flagged, is_kept_edge}
+use Rattle.aut_ops.specs.Satisfiable.{is_flagged}
+use Rattle.aut_ops.specs.inner.Parts.{is_kept_edge}
 use Rattle.aut_ops.specs.Pruning.{IsPruned}
 use Rattle.exploration.specs.Reached.{IsExplored, LeadsTo}
 use Rattle.exploration.specs.Turns.{Transition}
@@ -22,8 +23,9 @@ use Rattle.safra_laws.specs.Rounds.{next_tree}
 use Rattle.safra_trees.proofs.list_step.Pruned.{has_parts, new_holds, old_holds, pruned_length, pruned_parts}
 use Rattle.safra_trees.proofs.list_step.Ranks.{rank_back}
 use Rattle.safra_trees.specs.Step as step
-use Rattle.safra_trees.specs.Step.{grown, pruned, rank}
-use Rattle.safra_trees.specs.Trees.{Node, has, holds, root_states}
+use Rattle.safra_trees.specs.Step.{grown, pruned}
+use Rattle.safra_trees.specs.inner.Names.{has, rank}
+use Rattle.safra_trees.specs.Trees.{Node, holds, root_states}
 use Rattle.safra_trees.specs.declared.moves.Move as moves
 
 -- each state that a tree holds after a step is the target of some move

@@ -8,7 +8,7 @@ use Rattle.aut_base.specs.Word.{NameSet}
 use Rattle.aut_base.specs.declared.limit.TheConstants.{MOST_NODES}
 use Rattle.aut_core.specs.Deterministic.{HasSuccessor, IsComplete, IsDeterministic, is_met}
 use Rattle.exploration.proofs.Edges.{transitions_rise, edge_for}
-use Rattle.exploration.proofs.Finished.{explored}
+use Rattle.exploration.proofs.Finished.{explored_ends}
 use Rattle.exploration.specs.TransitionFunctions.{StepFailed, Successor}
 use Rattle.exploration.specs.Reached.{IsExplored}
 use Rattle.exploration.specs.Turns.{Transition, EndsWith}
@@ -117,5 +117,4 @@ module _ (b : Automaton) (trees : List (List Node)) (transitions : List Transiti
 
 pub explored_trees : (b : Automaton) (trees : List (List Node)) (transitions : List Transition) → EndsWith (tree_rules b) (start_tree b) trees transitions
     → IsExplored same_nodes (tree_moves b) (start_tree b) trees transitions
-explored_trees b trees transitions e = explored (tree_rules b) (λ x y is. (same_tells x y).0 is) (λ x. (same_tells x x).1 refl) (start_tree b)
-    (record { states = trees; sum = e.sum; next = e.next; current = e.current; transitions = transitions }) e.ends
+explored_trees b trees transitions e = explored_ends (tree_rules b) (λ x y is. (same_tells x y).0 is) (λ x. (same_tells x x).1 refl) (start_tree b) trees transitions e

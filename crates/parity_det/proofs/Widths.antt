@@ -12,7 +12,8 @@ use Rattle.parity_det.proofs.Explored.{step_given}
 use Rattle.parity_det.specs.Determinisation.{start_tree, tree_classes, tree_moves, width}
 use Rattle.safra_trees.specs.Same.{same_nodes}
 use Rattle.safra_laws.proofs.invariant.FirstTree.{tree_if}
-use Rattle.safra_trees.specs.Trees.{Node, has}
+use Rattle.safra_trees.specs.Trees.{Node}
+use Rattle.safra_trees.specs.inner.Names.{has}
 
 first_few : (n : ℕ) (starts : List ℕ) (b : Bool) → length (tree_if n starts b) ≤ MOST_NODES
 first_few n starts true = omega arith

@@ -5,7 +5,8 @@ use Rattle.std.proofs.lemmas.List.{get_or_past}
 use Rattle.safra_trees.proofs.list_step.Pruned.{grown_forest, pruned_length, pruned_parts, pruned_tree}
 use Rattle.safra_trees.proofs.list_step.Ranks.{rank_back}
 use Rattle.safra_trees.specs.Step.{IsTree, grown, pruned, survives}
-use Rattle.safra_trees.specs.Trees.{Node, has, holds}
+use Rattle.safra_trees.specs.Trees.{Node, holds}
+use Rattle.safra_trees.specs.inner.Names.{has}
 use Rattle.safra_trees.specs.declared.moves.Move.{Move}
 use Rattle.safra_laws.specs.Rounds.{next_tree, tree_after}
 use Rattle.safra_laws.specs.Trees.{StepsKeepTrees}

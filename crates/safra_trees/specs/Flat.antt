@@ -2,9 +2,10 @@
 -- the deepest node that holds it.
 use Rattle.std.specs.Prelude.{◌≡◌, ◌<◌, ◌≤◌, ℕ, Bool, true, List, [], ◌∷◌, ◌++◌, All, AllPairs, cond, filter, length, map, nat_lt, not, slice_index_or}
 use Rattle.std.specs.List.{range_with_len}
+use Rattle.aut_base.specs.Marks.{is_in}
 use Rattle.aut_base.specs.declared.limit.TheConstants.{MOST_NODES}
 use Rattle.safra_trees.specs.Step.{above}
-use Rattle.safra_trees.specs.Trees.{Node, has}
+use Rattle.safra_trees.specs.Trees.{Node}
 
 -- the number of this index, 0 past the end
 abbrev pub at : List ℕ → ℕ → ℕ
@@ -12,7 +13,7 @@ at xs i = slice_index_or xs i 0
 
 -- x is y or an ancestor of it
 abbrev pub is_over : (ℕ → ℕ) → ℕ → ℕ → Bool
-is_over parent x y = has (y ∷ above parent y y) x
+is_over parent x y = is_in x (y ∷ above parent y y)
 
 -- the states whose places pass a test
 abbrev pub placed : (ℕ → Bool) → List ℕ → List ℕ → List ℕ
@@ -36,7 +37,7 @@ pub record IsStored (parents states places : List ℕ) : Type 0 where
   pub rising : AllPairs (λ a b. a < b) states
   pub each : length places ≡ length states
   pub below : All (λ x. x < length parents) places
-  pub own : (x : ℕ) → x < length parents → has places x ≡ true
+  pub own : (x : ℕ) → x < length parents → is_in x places ≡ true
 
 -- whether a state is below k, or not
 abbrev pub is_low : ℕ → ℕ → Bool

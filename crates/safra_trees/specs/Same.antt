@@ -9,11 +9,12 @@ use Rattle.aut_base.proofs.words.Texts.{other_text, same_text}
 use Rattle.safra_trees.specs.Flat.{is_high, is_low}
 use Rattle.safra_trees.specs.Trees.{Node, holds, root_states}
 
-abbrev pub same_node : Node → Node → Bool
-same_node m n = (m.parent == n.parent) && pointwise nat_eq m.states n.states
-
+-- the trees have the same nodes, in the same order
 abbrev pub same_nodes : List Node → List Node → Bool
-same_nodes = pointwise same_node
+same_nodes = pointwise (λ m n. (m.parent == n.parent) && pointwise nat_eq m.states n.states)
+
+abbrev same_node : Node → Node → Bool
+same_node m n = (m.parent == n.parent) && pointwise nat_eq m.states n.states
 
 numbers_same : (xs : List ℕ) → pointwise nat_eq xs xs ≡ true
 numbers_same xs = elim (cases_Bool (pointwise nat_eq xs xs)) [ inl is ↦ is | inr isnt ↦ absurd (other_text xs xs isnt refl) ]

@@ -55,24 +55,18 @@ covered f x = list_all (λ s. list_any (λ z. is_child f x z && retains f z s) (
 abbrev pub survives : Forest → ℕ → Bool
 survives f y = list_any (retains f y) (range_with_len 0 f.bound) && not (list_any (covered f) (ancestors f y))
 
--- the names that pass a test, and how many of them are below a name: its new name, where the test is survival
-abbrev pub names_where : (ℕ → Bool) → ℕ → List ℕ
-names_where p k = filter p (range_with_len 0 k)
-
-abbrev pub rank : (ℕ → Bool) → ℕ → ℕ
-rank p y = length (names_where p y)
-
+-- the node after the step, whose name is the number of those that survive before it; so is its parent's
 abbrev pub renamed : Forest → ℕ → Node
-renamed f y = record { parent = rank (survives f) (f.parent y); states = filter (retains f y) (range_with_len 0 f.bound) }
+renamed f y = record { parent = length (filter (survives f) (range_with_len 0 (f.parent y))); states = filter (retains f y) (range_with_len 0 f.bound) }
 
 abbrev pub pruned : Forest → List Node
-pruned f = map (renamed f) (names_where (survives f) f.size)
+pruned f = map (renamed f) (filter (survives f) (range_with_len 0 f.size))
 
 abbrev pub greens : Forest → List ℕ
-greens f = names_where (λ y. survives f y && covered f y) f.size
+greens f = filter (λ y. survives f y && covered f y) (range_with_len 0 f.size)
 
 abbrev pub reds : Forest → ℕ → List ℕ
-reds f m = names_where (λ y. not (survives f y)) m
+reds f m = filter (λ y. not (survives f y)) (range_with_len 0 m)
 
 -- a state of x that no child of it holds
 pub record Own (t : List Node) (x : ℕ) : Type 0 where

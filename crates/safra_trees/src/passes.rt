@@ -4,8 +4,7 @@ ghost use Rattle.std.specs.Prelude.{◌≡◌, ◌+◌, ◌++◌, ◌∷◌, ◌
 ghost use Rattle.std.specs.List.{list_any, range_with_len};
 ghost use Rattle.aut_base.specs.declared.limit.TheConstants.{MOST_NODES};
 ghost use Rattle.safra_trees.specs.Flat.{at, is_high, is_low};
-ghost use Rattle.safra_trees.specs.Step.{names_where, rank};
-ghost use Rattle.safra_trees.specs.Trees.{has};
+ghost use Rattle.safra_trees.specs.inner.Names.{has, names_where, rank};
 ghost use Rattle.safra_trees.specs.inner.Claims.{grown_parent};
 ghost use Rattle.safra_trees.specs.inner.Passes.{AreOwners, ends_at, flag, is_owner};
 ghost use Rattle.safra_trees.specs.Events.{least};

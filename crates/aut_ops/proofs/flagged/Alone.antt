@@ -14,8 +14,9 @@ use Rattle.aut_ops.proofs.flagged.Between.{between_formed}
 use Rattle.aut_ops.proofs.sinks.FilledStates.{links_have}
 use Rattle.aut_ops.proofs.links.Linked.{parts_for}
 use Rattle.aut_ops.proofs.flagged.Trimmed.{alone_formed}
-use Rattle.aut_ops.specs.Satisfiable.{arc_of, between, is_flagged, is_satisfiable, passable_arcs, is_kept_edge}
-use Rattle.aut_ops.specs.Trimming.{IsReachedSize, flagged_before, renumbered, renumbered_edge}
+use Rattle.aut_ops.specs.Satisfiable.{between, is_flagged, is_satisfiable, passable_arcs}
+use Rattle.aut_ops.specs.inner.Parts.{arc_of, is_kept_edge, renumbered_edge}
+use Rattle.aut_ops.specs.Trimming.{IsReachedSize, flagged_before, renumbered}
 use Rattle.aut_ops.specs.declared.reached.ReachedSize.{ReachedSize}
 use Rattle.graph_walk.specs.Reach.{AreReachFlags}
 use Rattle.aut_ops.specs.inner.Renumbering.{link_arc, link_passable, link_stays, new_link, new_number}

@@ -13,7 +13,8 @@ use Rattle.aut_core.specs.OtherNames.{AcceptTheSame}
 use Rattle.aut_ops.proofs.links.Labels.{not_never}
 use Rattle.aut_base.proofs.runs.LassoRuns.{accepts_too}
 use Rattle.aut_base.proofs.runs.OtherEdges.{accepts_wider}
-use Rattle.aut_ops.specs.Satisfiable.{arc_of, between, is_flagged, is_satisfiable, passable_arcs, satisfiable_edges, is_kept_edge}
+use Rattle.aut_ops.specs.Satisfiable.{between, is_flagged, is_satisfiable, passable_arcs, satisfiable_edges}
+use Rattle.aut_ops.specs.inner.Parts.{arc_of, is_kept_edge}
 use Rattle.graph_walk.proofs.WalkLemmas.{reach_none, reach_then}
 use Rattle.graph_walk.specs.Reach.{AreReachFlags}
 use Rattle.graph_walk.specs.Walk.{HasNodes, Reaches}

@@ -14,7 +14,8 @@ use Rattle.aut_base.proofs.runs.LassoRuns.{accepts_of, marks_of, run_of}
 use Rattle.aut_ops.proofs.flagged.Ranks.{rank_less, rank_one, rank_rises}
 use Rattle.aut_ops.proofs.following.Simulations.{Simulates, run_image}
 use Rattle.aut_ops.specs.Satisfiable.{is_flagged}
-use Rattle.aut_ops.specs.Trimming.{flagged_before, renumbered, renumbered_edge}
+use Rattle.aut_ops.specs.Trimming.{flagged_before, renumbered}
+use Rattle.aut_ops.specs.inner.Parts.{renumbered_edge}
 
 pub climbs_renumbered : (flags : List Bool) (low : ℕ) (es : List LabelledEdge) → Climbs low es → Climbs (flagged_before flags low) (map (renumbered_edge flags) es)
 climbs_renumbered flags low [] climbs = tt

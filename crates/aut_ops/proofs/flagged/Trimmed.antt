@@ -6,7 +6,8 @@ use Rattle.aut_base.specs.Automaton.{Automaton, IsWellFormed, LabelledEdge}
 use Rattle.aut_core.specs.OtherNames.{AcceptTheSame}
 use Rattle.aut_ops.proofs.flagged.Between.{between_accepts, between_formed}
 use Rattle.aut_ops.proofs.flagged.Renumbered.{AreEnds, renumbered_accepts, renumbered_formed}
-use Rattle.aut_ops.specs.Satisfiable.{between, is_flagged, is_satisfiable, passable_arcs, is_kept_edge}
+use Rattle.aut_ops.specs.Satisfiable.{between, is_flagged, is_satisfiable, passable_arcs}
+use Rattle.aut_ops.specs.inner.Parts.{is_kept_edge}
 use Rattle.aut_ops.specs.Trimming.{renumbered}
 use Rattle.graph_walk.specs.Reach.{AreReachFlags}
 

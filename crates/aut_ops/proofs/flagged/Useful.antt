@@ -16,7 +16,8 @@ use Rattle.aut_core.specs.OtherNames.{AcceptTheSame}
 use Rattle.aut_core.specs.declared.link.Link.{Link}
 use Rattle.aut_ops.proofs.flagged.Between.{between_accepts, edge_reaches, passable_there, path_reaches}
 use Rattle.aut_base.proofs.runs.LassoRuns.{marks_of}
-use Rattle.aut_ops.specs.Satisfiable.{arc_of, between, is_flagged, is_satisfiable, passable_arcs, satisfiable_edges}
+use Rattle.aut_ops.specs.Satisfiable.{between, is_flagged, is_satisfiable, passable_arcs, satisfiable_edges}
+use Rattle.aut_ops.specs.inner.Parts.{arc_of}
 use Rattle.aut_ops.specs.Pruning.{AreUseful, IsMarkedOnCycle, IsUseful}
 use Rattle.aut_ops.specs.inner.Renumbering.{both_flagged, link_closes, link_passable, new_number, reversed_arc}
 use Rattle.graph_walk.proofs.WalkLemmas.{reach_then}

@@ -15,7 +15,8 @@ use Rattle.aut_core.proofs.Made.{label_in_settled}
 use Rattle.label_guards.specs.Guards.{IsGuardOf, IsNeverMet, truth_in}
 use Rattle.label_guards.specs.Store.{Store, label_in}
 use Rattle.label_guards.specs.declared.guard.Guard.{Guard}
-use Rattle.aut_ops.specs.Labels.{both_labels, is_never, no_label}
+use Rattle.aut_ops.specs.Labels.{both_labels, is_never}
+use Rattle.aut_ops.specs.inner.Parts.{no_label}
 
 -- the truth of labels
 

@@ -18,7 +18,7 @@ use Rattle.label_guards.specs.Guards.{IsGuardOf, truth_in}
 use Rattle.label_guards.specs.Store.{Has, Keeps, Store, label_in}
 use Rattle.label_guards.specs.declared.guard.Guard.{Guard}
 use Rattle.aut_ops.proofs.links.Labels.{label_from}
-use Rattle.aut_ops.specs.Labels.{no_label}
+use Rattle.aut_ops.specs.inner.Parts.{no_label}
 
 -- whether the label of one of the edges is true
 abbrev pub some_met : List LabelledEdge → (ℕ → Bool) → Bool

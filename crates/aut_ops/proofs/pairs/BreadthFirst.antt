@@ -9,7 +9,8 @@ use Rattle.std.proofs.lemmas.List.Sums.{fold-append}
 use Rattle.std.proofs.lemmas.Grind.{flat_map-append}
 use Rattle.std.specs.Prelude.{flat_map}
 use Rattle.aut_base.proofs.lists.Members.{Tells, found_there, item_at, none_there, there_cases, there_flat_map, there_found}
-use Rattle.aut_ops.specs.BreadthFirst.{IsBreadthFirst, IsReachedFrom, LeadsBy, once}
+use Rattle.aut_ops.specs.BreadthFirst.{IsBreadthFirst, IsReachedFrom, LeadsBy}
+use Rattle.aut_ops.specs.inner.Parts.{once}
 use Rattle.exploration.proofs.Lists.{new_all, new_cases, new_longer}
 use Rattle.exploration.specs.Turns.{with_new}
 

@@ -11,7 +11,8 @@ use Rattle.aut_base.proofs.lists.Lists.{take-slice_get}
 use Rattle.aut_base.proofs.lists.Members.{Tells, each_there, item_at}
 use Rattle.aut_ops.proofs.pairs.BreadthFirst.{added, added_differ, added_each, once_differ, reached_next, reached_start}
 use Rattle.aut_ops.proofs.pairs.Places.{pair_tells}
-use Rattle.aut_ops.specs.BreadthFirst.{IsBreadthFirst, IsReachedFrom, once}
+use Rattle.aut_ops.specs.BreadthFirst.{IsBreadthFirst, IsReachedFrom}
+use Rattle.aut_ops.specs.inner.Parts.{once}
 use Rattle.exploration.specs.Turns.{with_new}
 use Rattle.aut_ops.specs.Laws.{PairsExist, ProductsExist}
 use Rattle.aut_ops.specs.Products.{next_pairs, product_on, same_pair, start_pairs}

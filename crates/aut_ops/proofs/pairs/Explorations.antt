@@ -23,7 +23,8 @@ use Rattle.aut_ops.proofs.sinks.FilledStates.{row_edges, row_have}
 use Rattle.aut_ops.proofs.joint_runs.JointEdges.{reached_within}
 use Rattle.aut_ops.proofs.pairs.Pairings.{ends}
 use Rattle.aut_ops.proofs.pairs.Places.{pair_tells}
-use Rattle.aut_ops.specs.BreadthFirst.{IsReachedFrom, once}
+use Rattle.aut_ops.specs.BreadthFirst.{IsReachedFrom}
+use Rattle.aut_ops.specs.inner.Parts.{once}
 use Rattle.exploration.specs.Turns.{with_new}
 use Rattle.aut_ops.specs.Products.{ArePairs, HasMorePairs, JointEdge, joint_edge, joint_edges, next_pairs, same_pair, start_pairs}
 use Rattle.aut_ops.specs.inner.Pairings.{AddsJointEdges, AreBeyond, AreJointEdges, CanMeet, IsJointEdgeAt, PairingStage, followed, with_pairs}

@@ -22,7 +22,8 @@ use Rattle.aut_ops.proofs.sinks.Completions.{Kind, kind, loop, old_there}
 use Rattle.aut_ops.proofs.following.CycleMarks.{not_in_past}
 use Rattle.aut_base.proofs.runs.LassoRuns.{accepts_too, marks_of}
 use Rattle.aut_base.proofs.runs.OtherEdges.{accepts_wider}
-use Rattle.aut_ops.specs.Completion.{is_met_unmarked, sink_marks, with_sink}
+use Rattle.aut_ops.specs.Completion.{is_met_unmarked, with_sink}
+use Rattle.aut_ops.specs.inner.Parts.{sink_marks}
 
 -- each edge of a path is one of the automaton's
 pub path_marks : (a : Automaton) (P : List ℕ → Type 0) → ((e : LabelledEdge) → Contains a.edges e → P e.marks) → (p q : ℕ) (xs : List NameSet) (es : List LabelledEdge) → IsPath a p xs es q

@@ -23,7 +23,8 @@ use Rattle.aut_ops.proofs.sinks.Completions.{edges_own, gap, gap_there, loop, lo
 use Rattle.aut_ops.proofs.links.Labels.{at_letter, never_each, never_false, not_never, truth_none}
 use Rattle.aut_ops.proofs.sinks.SinkRuns.{sink_keeps_language}
 use Rattle.aut_ops.specs.Completion.{completed, lacks_nothing, with_sink}
-use Rattle.aut_ops.specs.Labels.{is_never, no_label}
+use Rattle.aut_ops.specs.Labels.{is_never}
+use Rattle.aut_ops.specs.inner.Parts.{no_label}
 
 module _ (a : Automaton) (formed : IsWellFormed a) where
   abbrev n : ℕ

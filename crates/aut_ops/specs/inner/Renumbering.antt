@@ -4,7 +4,8 @@ use Rattle.std.specs.List.{range_with_len, slice_index_or}
 use Rattle.aut_base.specs.Marks.{is_in}
 use Rattle.aut_core.specs.SymbolicAutomata.{SymbolicAutomaton, edge_of}
 use Rattle.aut_core.specs.declared.link.Link.{Link}
-use Rattle.aut_ops.specs.Satisfiable.{is_flagged, is_satisfiable, is_kept_edge}
+use Rattle.aut_ops.specs.Satisfiable.{is_flagged, is_satisfiable}
+use Rattle.aut_ops.specs.inner.Parts.{is_kept_edge}
 
 -- the same of a link as of its edge
 abbrev pub link_passable : SymbolicAutomaton → Link → Bool

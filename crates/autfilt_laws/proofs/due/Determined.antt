@@ -19,7 +19,8 @@ use Rattle.degeneralise.specs.Buchi.{buchi, is_generalised_buchi}
 use Rattle.exploration.specs.Turns.{Transition}
 use Rattle.filter_plan.specs.declared.plan.Form.TheVariants as form
 use Rattle.monitor_form.proofs.MonitorLaws.{accepts_prefixes, form_deterministic, monitor_excludes_limits}
-use Rattle.monitor_form.specs.Subsets.{IsExploredFrom, IsSubsetForm, start_set, subset_rules}
+use Rattle.monitor_form.specs.Subsets.{IsSubsetForm, start_set, subset_rules}
+use Rattle.monitor_form.proofs.Explored.{IsExploredFrom, explored_by}
 use Rattle.parity_det.proofs.DualSets.{dual_below}
 use Rattle.parity_det.proofs.Formed.{explored_trees}
 use Rattle.parity_det.proofs.ParityLaws.{form_accepts, form_parity, pruned_formula, same_through}
@@ -199,7 +200,7 @@ monitor_step a made f m =
     let terms = m.within limit.Terms in
     let states = few_states a terms (m.within limit.BuchiStates) in
     let accepts = accepts_prefixes a (buchi a) m.makes.pruned made l.same l.kept l.form_formed refl m.makes.is_pruned l.formed is in
-    let few = few_sets m.makes.pruned m.makes.pruned.starts is.sets is.transitions is.explored in
+    let few = few_sets m.makes.pruned m.makes.pruned.starts is.sets is.transitions (explored_by m.makes.pruned made is) in
     let sets : made.sets ≡ 0 = ap (λ (z : Automaton). z.sets) is.is in
     record {
       is = monitor_made a made terms states (λ g meets. (monitor_excludes_limits a).monitors made g m.makes meets) m.makes

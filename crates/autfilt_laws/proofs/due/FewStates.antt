@@ -57,4 +57,5 @@ module _ {X : Type 0} (r : Rules X) where
   after_few s few (suc n) = on_few (after_turns r s n) (after_few s few n)
 
   pub few_explored : (start : X) (states : List X) (transitions : List Transition) → 1 ≤ r.max_states → EndsWith r start states transitions → length states ≤ r.max_states
-  few_explored start states transitions some e = subst Few e.ends.comes (after_few (begin start) some e.ends.turns)
+  few_explored start states transitions some e =
+      subst (λ (xs : List X). length xs ≤ r.max_states) e.listed (subst Few e.ends.comes (after_few (begin start) some e.ends.turns))

@@ -35,8 +35,9 @@ use Rattle.fin_removal.proofs.Conditions.{below_parts, of_terms_holds}
 use Rattle.fin_removal.proofs.CopiedWhole.{copied_well_formed}
 use Rattle.fin_removal.specs.Copies.{copied, without_fin}
 use Rattle.monitor_form.proofs.Formed.{explored_sets}
+use Rattle.monitor_form.proofs.Explored.{IsExploredFrom, explored_by, monitor_edge}
 use Rattle.monitor_form.specs.Monitors.{first_places}
-use Rattle.monitor_form.specs.Subsets.{IsExploredFrom, IsSubsetForm, monitor_edge, monitor_on, start_set, subset_moves}
+use Rattle.monitor_form.specs.Subsets.{IsSubsetForm, monitor_on, start_set, subset_moves}
 use Rattle.parity_det.proofs.Explored.{step_of}
 use Rattle.parity_det.proofs.Formed.{explored_trees}
 use Rattle.parity_det.proofs.Widths.{parity_below}
@@ -205,7 +206,7 @@ module _ (b : Automaton) (formed : IsWellFormed b) (sets : List (List ℕ)) (tra
   }
 
 pub subset_form_formed : (b made : Automaton) → IsWellFormed b → IsSubsetForm b made → IsWellFormed made
-subset_form_formed b made formed form = subst IsWellFormed (sym form.is) (by_cases b.starts refl form.explored)
+subset_form_formed b made formed form = subst IsWellFormed (sym form.is) (by_cases b.starts refl (explored_by b made form))
   where
     by_cases : (ss : List ℕ) → b.starts ≡ ss → IsExploredFrom b ss form.sets form.transitions → IsWellFormed (monitor_on form.sets form.transitions b)
     by_cases [] none are =

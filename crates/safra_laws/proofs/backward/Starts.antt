@@ -8,7 +8,8 @@ use Rattle.safra_trees.proofs.list_step.Forests.{keeps_holds}
 use Rattle.safra_trees.proofs.list_step.Pruned.{goes_too, has_parts, new_holds, old_holds, pruned_length, pruned_parts}
 use Rattle.safra_trees.proofs.list_step.Ranks.{rank_back}
 use Rattle.safra_trees.specs.Step.{grown, pruned, survives}
-use Rattle.safra_trees.specs.Trees.{Node, first_tree, has, holds}
+use Rattle.safra_trees.specs.Trees.{Node, first_tree, holds}
+use Rattle.safra_trees.specs.inner.Names.{has}
 use Rattle.safra_trees.specs.declared.moves.Move.{Move}
 use Rattle.safra_laws.proofs.MovePaths.{path_push}
 use Rattle.safra_laws.proofs.TreesAfter.{holds_within}

@@ -7,7 +7,8 @@ use Rattle.aut_base.proofs.lists.Members.{any_found, each_is, from_filter, from_
 use Rattle.safra_trees.proofs.list_step.Forests.{ancestors_of, keeps_holds, stays_free, stays_some, stays_up}
 use Rattle.safra_trees.proofs.list_step.Pruned.{grown_forest, new_holds, new_parent, old_holds, old_parent, pruned_length, pruned_parent, pruned_parts, pruned_within, rank_zero}
 use Rattle.safra_trees.proofs.list_step.Ranks.{rank_all, rank_back, rank_same}
-use Rattle.safra_trees.specs.Step.{Forest, IsTree, ancestors, covered, goes, goes_accepting, greens, grown, is_child, retains, pruned, rank, reds, survives}
+use Rattle.safra_trees.specs.Step.{Forest, IsTree, ancestors, covered, goes, goes_accepting, greens, grown, is_child, retains, pruned, reds, survives}
+use Rattle.safra_trees.specs.inner.Names.{rank}
 use Rattle.safra_trees.specs.Trees.{Node, holds, node_at}
 use Rattle.safra_trees.specs.declared.moves.Move.{Move}
 use Rattle.safra_laws.proofs.TreesAfter.{steps_keep_trees}

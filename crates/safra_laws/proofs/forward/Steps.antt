@@ -6,7 +6,8 @@ use Rattle.aut_base.proofs.lists.Members.{any_from, first_there, from_filter, la
 use Rattle.safra_trees.proofs.list_step.Forests.{Next, next_child, stays_from}
 use Rattle.safra_trees.proofs.list_step.Pruned.{grown_forest, new_holds, new_parent, old_holds, old_parent, pruned_holds, pruned_parent, pruned_parts, pruned_within}
 use Rattle.safra_trees.proofs.list_step.Ranks.{rank_all, rank_low, rank_rises, rank_whole}
-use Rattle.safra_trees.specs.Step.{Forest, IsTree, covered, goes_accepting, greens, grown, retains, pruned, rank, reds, survives}
+use Rattle.safra_trees.specs.Step.{Forest, IsTree, covered, goes_accepting, greens, grown, retains, pruned, reds, survives}
+use Rattle.safra_trees.specs.inner.Names.{rank}
 use Rattle.safra_trees.specs.Trees.{Node, holds}
 use Rattle.safra_trees.specs.declared.moves.Move.{Move}
 use Rattle.safra_laws.proofs.TreesAfter.{holds_within, steps_keep_trees}

@@ -8,8 +8,9 @@ use Rattle.safra_trees.proofs.flat_step.Finish.{names_alike}
 use Rattle.safra_trees.proofs.list_step.Forests.{stays_up}
 use Rattle.safra_trees.proofs.list_step.Pruned.{grown_forest, has_from, has_parts, old_parent, pruned_at, pruned_length, pruned_parent}
 use Rattle.safra_trees.proofs.list_step.Ranks.{rank_back, rank_rises}
-use Rattle.safra_trees.specs.Step.{IsTree, grown, retains, names_where, pruned, rank, survives}
-use Rattle.safra_trees.specs.Trees.{Node, has, holds, node_at}
+use Rattle.safra_trees.specs.Step.{IsTree, grown, retains, pruned, survives}
+use Rattle.safra_trees.specs.inner.Names.{has, names_where, rank}
+use Rattle.safra_trees.specs.Trees.{Node, holds, node_at}
 use Rattle.safra_trees.specs.declared.moves.Move.{Move}
 use Rattle.safra_laws.proofs.invariant.FirstTree.{tree_if}
 use Rattle.safra_laws.specs.Canonical.{FirstIsCanonical, IsCanonicalTree, StepsKeepCanonical}

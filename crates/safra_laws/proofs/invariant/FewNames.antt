@@ -5,8 +5,9 @@ use Rattle.std.specs.List.{list_any, range_with_len}
 use Rattle.aut_base.proofs.numbers.Pigeonhole.{pigeons}
 use Rattle.safra_trees.proofs.list_step.Pruned.{has_parts}
 use Rattle.safra_trees.proofs.list_step.Ranks.{rank_all, rank_rises, rank_same}
-use Rattle.safra_trees.specs.Step.{IsTree, Own, rank}
-use Rattle.safra_trees.specs.Trees.{Node, first_tree, has, holds, node_at}
+use Rattle.safra_trees.specs.Step.{IsTree, Own}
+use Rattle.safra_trees.specs.inner.Names.{has, rank}
+use Rattle.safra_trees.specs.Trees.{Node, first_tree, holds, node_at}
 use Rattle.safra_trees.specs.declared.moves.Move.{Move}
 use Rattle.safra_laws.proofs.TreesAfter.{after_is_tree, held_below, holds_within}
 use Rattle.safra_laws.proofs.invariant.FirstTree.{first_is_tree, tree_if}

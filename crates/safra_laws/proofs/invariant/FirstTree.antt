@@ -4,8 +4,9 @@ use Rattle.std.proofs.lemmas.Bool.{eq-eqb}
 use Rattle.std.specs.List.{list_any, range_with_len}
 use Rattle.aut_base.proofs.lists.Members.{any_found, any_from, from_range, there_range_zero}
 use Rattle.safra_trees.proofs.list_step.Pruned.{has_from}
-use Rattle.safra_trees.specs.Step.{IsTree, Own, names_where}
-use Rattle.safra_trees.specs.Trees.{Node, first_tree, has, holds}
+use Rattle.safra_trees.specs.Step.{IsTree, Own}
+use Rattle.safra_trees.specs.inner.Names.{has, names_where}
+use Rattle.safra_trees.specs.Trees.{Node, first_tree, holds}
 use Rattle.safra_laws.specs.Trees.{FirstIsTree}
 
 -- the tree of the starts, where it is known whether there are any

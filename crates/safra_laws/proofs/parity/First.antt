@@ -7,7 +7,8 @@ use Rattle.std.proofs.lemmas.List.Kept.{AllPairs-filter}
 use Rattle.std.specs.List.{range_with_len}
 use Rattle.aut_base.proofs.order.AllPairsOf.{pairs_first}
 use Rattle.aut_base.proofs.lists.Members.{first_there, from_filter, from_map, from_range, none_there, there_cases, there_map}
-use Rattle.safra_trees.specs.Step.{covered, greens, grown, names_where, reds, survives}
+use Rattle.safra_trees.specs.Step.{covered, greens, grown, reds, survives}
+use Rattle.safra_trees.specs.inner.Names.{names_where}
 use Rattle.safra_laws.proofs.backward.Steps.{green_facts}
 use Rattle.safra_laws.proofs.parity.Least.{lowest_is, lowest_low}
 use Rattle.safra_laws.specs.Priorities.{PriorityByFirst, lowest, priority_by}

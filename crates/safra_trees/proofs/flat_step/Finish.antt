@@ -15,7 +15,8 @@ use Rattle.safra_trees.proofs.list_step.Pruned.{pruned_length}
 use Rattle.safra_trees.proofs.list_step.Ranks.{index_map, names_below, names_kept, names_left}
 use Rattle.safra_trees.specs.Events.{least}
 use Rattle.safra_trees.specs.Flat.{IsStored, at, nodes_of}
-use Rattle.safra_trees.specs.Step.{Forest, covered, greens, grown, names_where, pruned, rank, reds, survives}
+use Rattle.safra_trees.specs.Step.{Forest, covered, greens, grown, pruned, reds, survives}
+use Rattle.safra_trees.specs.inner.Names.{names_where, rank}
 use Rattle.safra_trees.specs.declared.moves.Move.{Move}
 use Rattle.safra_trees.specs.inner.Claims.{grown_parent}
 use Rattle.safra_trees.specs.inner.Free.{owner_below}

@@ -11,8 +11,8 @@ use Rattle.safra_trees.proofs.list_step.Ranks.{names_below}
 use Rattle.safra_trees.proofs.flat_step.Placed.{placed_all, stored_root}
 use Rattle.safra_trees.proofs.list_step.Over.{over_self}
 use Rattle.safra_trees.specs.Flat.{IsStored, at, is_over, nodes_of, placed}
-use Rattle.safra_trees.specs.Step.{names_where}
-use Rattle.safra_trees.specs.Trees.{Node, first_tree, has, root_states}
+use Rattle.safra_trees.specs.inner.Names.{has, names_where}
+use Rattle.safra_trees.specs.Trees.{Node, first_tree, root_states}
 
 abbrev first_parents : List ℕ → List ℕ
 first_parents [] = []

@@ -15,7 +15,8 @@ use Rattle.safra_trees.proofs.list_step.KeptPlaces.{kept_under, under_kept}
 use Rattle.safra_trees.proofs.list_step.Over.{IsLower, over_cases, over_chain, over_from, over_root, over_self, over_then}
 use Rattle.safra_trees.proofs.list_step.Ranks.{index_map, rank_at, rank_back, rank_rises, rank_same, rising_names}
 use Rattle.safra_trees.specs.Flat.{IsStored, at, is_over, node_of, nodes_of, placed}
-use Rattle.safra_trees.specs.Step.{Forest, retains, names_where, pruned, rank, renamed, survives}
+use Rattle.safra_trees.specs.Step.{Forest, retains, pruned, renamed, survives}
+use Rattle.safra_trees.specs.inner.Names.{names_where, rank}
 use Rattle.safra_trees.specs.Trees.{Node}
 
 abbrev pub new_parents : Forest → List ℕ

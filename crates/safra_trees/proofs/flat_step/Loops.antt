@@ -4,7 +4,7 @@ use Rattle.std.proofs.lemmas.List.{map-append}
 use Rattle.std.specs.List.{range_with_len}
 use Rattle.aut_base.proofs.lists.Lists.{range_more}
 use Rattle.safra_trees.proofs.list_step.Ranks.{names_kept, names_left, rank_at, rank_kept}
-use Rattle.safra_trees.specs.Step.{names_where, rank}
+use Rattle.safra_trees.specs.inner.Names.{names_where, rank}
 
 pub names_with : (p : ℕ → Bool) (k : ℕ) → p k ≡ true → names_where p (k + 1) ≡ names_where p k ++ k ∷ []
 names_with p k is = let e : k + 1 ≡ suc k = omega arith in ap (names_where p) e ∙ names_kept p k is

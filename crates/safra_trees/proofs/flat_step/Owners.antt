@@ -13,7 +13,7 @@ use Rattle.safra_trees.proofs.list_step.Over.{over_cases, over_chain, over_from,
 use Rattle.safra_trees.proofs.list_step.Places.{covered_placed}
 use Rattle.safra_trees.specs.Flat.{at, is_over}
 use Rattle.safra_trees.specs.Step.{Forest, ancestors, covered, retains, survives}
-use Rattle.safra_trees.specs.Trees.{has}
+use Rattle.safra_trees.specs.inner.Names.{has}
 use Rattle.safra_trees.specs.inner.Passes.{AreOwners, ends_at, flag, is_owner}
 
 -- a name is open where no proper ancestor of it is covered

@@ -11,7 +11,8 @@ use Rattle.aut_base.proofs.lists.Members.{any_found}
 use Rattle.safra_trees.proofs.list_step.Ranks.{index_map}
 use Rattle.safra_trees.specs.Flat.{IsStored, at, is_over, node_of, nodes_of, placed}
 use Rattle.safra_trees.proofs.list_step.Over.{over_top}
-use Rattle.safra_trees.specs.Trees.{Node, has, holds, node_at, root_states}
+use Rattle.safra_trees.specs.Trees.{Node, holds, node_at, root_states}
+use Rattle.safra_trees.specs.inner.Names.{has}
 use Rattle.safra_trees.specs.inner.Claims.{owner_in}
 
 -- numbers after a smaller one

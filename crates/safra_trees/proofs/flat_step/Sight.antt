@@ -18,8 +18,9 @@ use Rattle.safra_trees.proofs.list_step.Moved.{AllBelow, IsRising, event_moved, 
 use Rattle.safra_trees.proofs.list_step.Ranks.{names_below}
 use Rattle.safra_trees.specs.Events.{AreStates, IsMoveInRange, event_of}
 use Rattle.safra_trees.specs.Flat.{IsStored, at, is_over, node_of, nodes_of, placed}
-use Rattle.safra_trees.specs.Step.{Forest, grown, retains, names_where, pruned, renamed, survives}
-use Rattle.safra_trees.specs.Trees.{Node, has, root_states}
+use Rattle.safra_trees.specs.Step.{Forest, grown, retains, pruned, renamed, survives}
+use Rattle.safra_trees.specs.inner.Names.{has, names_where}
+use Rattle.safra_trees.specs.Trees.{Node, root_states}
 use Rattle.safra_trees.specs.declared.moves.Move.{Move}
 use Rattle.safra_trees.specs.inner.Sight.{IsSeen, IsSight, ends, move_by, node_by}
 

@@ -6,7 +6,7 @@ use Rattle.aut_base.proofs.order.AllPairsOf.{pairs_first, pairs_rest}
 use Rattle.safra_trees.proofs.flat_step.Loops.{names_with}
 use Rattle.safra_trees.proofs.list_step.Ranks.{rising_names}
 use Rattle.safra_trees.specs.Flat.{IsSplit, is_high, is_low}
-use Rattle.safra_trees.specs.Step.{names_where}
+use Rattle.safra_trees.specs.inner.Names.{names_where}
 
 -- one name more of those that pass another test too
 pub filtered_names : (r p : ℕ → Bool) (k : ℕ) (xs ys : List ℕ) → p k ≡ true → xs ≡ filter r (names_where p k) → ys ≡ xs ++ filter r (k ∷ []) → ys ≡ filter r (names_where p (k + 1))

@@ -9,7 +9,7 @@ use Rattle.safra_trees.proofs.flat_step.Placed.{nodes_length}
 use Rattle.safra_trees.specs.Events.{IsMoveInRange}
 use Rattle.safra_trees.specs.Flat.{IsStored, at, nodes_of}
 use Rattle.safra_trees.specs.Step.{grown}
-use Rattle.safra_trees.specs.Trees.{has}
+use Rattle.safra_trees.specs.inner.Names.{has}
 use Rattle.safra_trees.specs.declared.moves.Move.{Move}
 use Rattle.safra_trees.specs.inner.Claims.{claim, claimant, first_of, grown_parent, owner_in}
 use Rattle.safra_trees.specs.inner.Free.{owner_below}

@@ -14,7 +14,8 @@ use Rattle.safra_trees.proofs.laws.StoredTrees.{head_place, tail_place}
 use Rattle.safra_trees.proofs.list_step.Over.{over_low, over_self}
 use Rattle.safra_trees.specs.Flat.{IsStored, at, nodes_of}
 use Rattle.safra_trees.specs.Same.{deepest, hashed, last_of, same_nodes, same_tells}
-use Rattle.safra_trees.specs.Trees.{has, holds, root_states}
+use Rattle.safra_trees.specs.Trees.{holds, root_states}
+use Rattle.safra_trees.specs.inner.Names.{has}
 use Rattle.safra_trees.specs.View.{tree_of}
 use Rattle.safra_trees.specs.declared.tree.SafraTree.{SafraTree}
 use Rattle.safra_trees.specs.inner.Claims.{owner_in}

@@ -7,7 +7,8 @@ use Rattle.safra_trees.proofs.flat_step.Placed.{absent, nodes_length, place_abse
 use Rattle.safra_trees.proofs.list_step.Over.{over_cases, over_chain, over_low, over_self}
 use Rattle.safra_trees.specs.Flat.{IsStored, at, is_over, nodes_of}
 use Rattle.safra_trees.specs.Step.{IsTree, Own}
-use Rattle.safra_trees.specs.Trees.{has, holds}
+use Rattle.safra_trees.specs.Trees.{holds}
+use Rattle.safra_trees.specs.inner.Names.{has}
 use Rattle.safra_trees.specs.inner.Claims.{owner_in}
 
 -- the head of the states and its place

@@ -14,8 +14,9 @@ use Rattle.safra_trees.proofs.list_step.Forests.{none_any}
 use Rattle.safra_trees.proofs.list_step.Places.{any_same}
 use Rattle.safra_trees.proofs.list_step.Ranks.{names_below, rising_names}
 use Rattle.safra_trees.specs.Events.{IsMoveInRange, event_of, least}
-use Rattle.safra_trees.specs.Step.{Forest, above, ancestors, covered, goes, goes_accepting, greens, grown, is_child, retains, names_where, pruned, rank, reds, renamed, survives, held_by_older}
-use Rattle.safra_trees.specs.Trees.{Node, has, holds, node_at}
+use Rattle.safra_trees.specs.Step.{Forest, above, ancestors, covered, goes, goes_accepting, greens, grown, is_child, retains, pruned, reds, renamed, survives, held_by_older}
+use Rattle.safra_trees.specs.inner.Names.{has, names_where, rank}
+use Rattle.safra_trees.specs.Trees.{Node, holds, node_at}
 use Rattle.safra_trees.specs.declared.moves.Move.{Move}
 use Rattle.safra_trees.specs.inner.Sight.{move_by, node_by}
 

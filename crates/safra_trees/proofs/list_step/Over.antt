@@ -4,7 +4,7 @@ use Rattle.std.proofs.lemmas.Bool.{eq-eqb, eqb-true, or_cases, or_left, or_right
 use Rattle.safra_trees.proofs.list_step.Forests.{above_same}
 use Rattle.safra_trees.specs.Flat.{is_over}
 use Rattle.safra_trees.specs.Step.{above}
-use Rattle.safra_trees.specs.Trees.{has}
+use Rattle.safra_trees.specs.inner.Names.{has}
 
 abbrev pub IsLower : (ℕ → ℕ) → ℕ → Type 0
 IsLower parent size = (y : ℕ) → 0 < y → y < size → parent y < y

@@ -6,8 +6,9 @@ use Rattle.std.specs.List.{list_all, list_any, range_with_len}
 use Rattle.safra_trees.proofs.list_step.Forests.{IsForest, ancestors_of, keeps_free, keeps_holds, keeps_up, stays_free, stays_some, stays_up}
 use Rattle.aut_base.proofs.lists.Members.{any_found, any_from, first_there, from_filter, from_range, later_there, none_at, there_filter, there_range_zero}
 use Rattle.safra_trees.proofs.list_step.Ranks.{index_map, rank_at, rank_back, rank_order, rank_rises, rank_same}
-use Rattle.safra_trees.specs.Step.{Forest, IsTree, Own, ancestors, covered, goes, goes_accepting, grown, is_child, retains, names_where, pruned, rank, renamed, survives}
-use Rattle.safra_trees.specs.Trees.{Node, has, holds, node_at}
+use Rattle.safra_trees.specs.Step.{Forest, IsTree, Own, ancestors, covered, goes, goes_accepting, grown, is_child, retains, pruned, renamed, survives}
+use Rattle.safra_trees.specs.inner.Names.{has, names_where, rank}
+use Rattle.safra_trees.specs.Trees.{Node, holds, node_at}
 use Rattle.safra_trees.specs.declared.moves.Move.{Move}
 
 pub pruned_at : (f : Forest) (y : ℕ) → y < f.size → survives f y ≡ true → node_at (pruned f) (rank (survives f) y) ≡ renamed f y

@@ -9,7 +9,7 @@ use Rattle.std.proofs.lemmas.Option.{none-some, same_Some}
 use Rattle.std.specs.List.{range_with_len}
 use Rattle.aut_base.proofs.lists.Lists.{range_more, slice_get-append_left, slice_get-push_last}
 use Rattle.aut_base.proofs.lists.Members.{each_there, from_filter, from_range}
-use Rattle.safra_trees.specs.Step.{names_where, rank}
+use Rattle.safra_trees.specs.inner.Names.{names_where, rank}
 
 -- one name more
 pub names_more : (p : ℕ → Bool) (k : ℕ) → names_where p (suc k) ≡ names_where p k ++ cond (p k) (k ∷ []) []

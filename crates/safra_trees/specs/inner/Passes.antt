@@ -3,7 +3,7 @@ use Rattle.std.specs.Prelude.{◌≡◌, ◌<◌, ◌≤◌, ◌==◌, ◌&&◌,
 use Rattle.std.specs.List.{range_with_len}
 use Rattle.safra_trees.specs.Flat.{at}
 use Rattle.safra_trees.specs.Step.{Forest, survives}
-use Rattle.safra_trees.specs.Trees.{has}
+use Rattle.safra_trees.specs.inner.Names.{has}
 use Rattle.safra_trees.specs.inner.Free.{owner_below}
 
 abbrev pub flag : List Bool → ℕ → Bool

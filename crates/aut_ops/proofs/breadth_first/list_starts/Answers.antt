@@ -1,7 +1,7 @@
 use Rattle.std.proofs.Common.{◌≡◌, ◌∙◌, ◌<◌, ℕ, List, [], ap, arith, get_or, length, map, refl, subst, sym, take}
 use Rattle.std.proofs.lemmas.List.{get_or_default, take_all}
 use Rattle.aut_ops.proofs.pairs.Listings.{beyond_front, listed_none, listed_then, rows_next, rows_whole}
-use Rattle.aut_ops.specs.Products.{all_pairs}
+use Rattle.aut_ops.specs.inner.Parts.{all_pairs}
 use Rattle.aut_base.proofs.Outcomes.{passed_on}
 use Rattle.aut_base.specs.declared.limit.TheConstants.{MOST_PAIRS}
 use Rattle.aut_ops.specs.inner.Pairings.{AreBeyond, ArePairsListed, ArePlacesOfPairs, with_pairs}

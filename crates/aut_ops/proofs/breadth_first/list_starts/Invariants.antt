@@ -1,5 +1,5 @@
 use Rattle.std.proofs.Common.{◌≡◌, ◌≤◌, [], length, take}
-use Rattle.aut_ops.specs.Products.{all_pairs}
+use Rattle.aut_ops.specs.inner.Parts.{all_pairs}
 use Rattle.aut_base.specs.declared.limit.TheConstants.{MOST_PAIRS}
 use Rattle.aut_ops.specs.inner.Pairings.{ArePairsListed}
 use Rattle.aut_ops.proofs.breadth_first.list_starts.Given as goal

@@ -3,7 +3,7 @@ use Rattle.std.specs.List.{range_with_len}
 use Rattle.aut_core.specs.Links.{StandFor}
 use Rattle.aut_core.specs.SymbolicAutomata.{automaton_of}
 use Rattle.label_guards.specs.Store.{Keeps}
-use Rattle.aut_ops.specs.Completion.{filled_edges}
+use Rattle.aut_ops.specs.inner.Parts.{filled_edges}
 use Rattle.aut_ops.proofs.completion.filled_links.Given as goal
 
 abbrev pub invariant-states : goal.invariant-states

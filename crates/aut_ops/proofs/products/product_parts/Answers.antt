@@ -5,7 +5,8 @@ use Rattle.aut_core.specs.SymbolicAutomata.{SymbolicAutomaton, automaton_of}
 use Rattle.aut_ops.proofs.pairs.Explorations.{starts_beyond}
 use Rattle.aut_ops.proofs.links.Linked.{sets_within}
 use Rattle.aut_ops.proofs.joint_runs.MadeProducts.{made_is_product}
-use Rattle.aut_ops.specs.Products.{ArePairs, all_pairs}
+use Rattle.aut_ops.specs.Products.{ArePairs}
+use Rattle.aut_ops.specs.inner.Parts.{all_pairs}
 use Rattle.aut_base.specs.declared.limit.TheConstants.{MOST_PAIRS}
 use Rattle.aut_ops.specs.inner.Joins.{IsProductCore}
 use Rattle.aut_ops.specs.inner.Pairings.{AreBeyond, ArePlacesOfPairs}

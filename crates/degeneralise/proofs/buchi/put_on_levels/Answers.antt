@@ -4,7 +4,8 @@ use Rattle.aut_base.proofs.trees.FormulaTrees.{formula_tree-Inf}
 use Rattle.aut_base.specs.Formula.{formula_tree}
 use Rattle.aut_base.specs.declared.formula.Formula.TheVariants.{Inf}
 use Rattle.aut_core.specs.SymbolicAutomata.{SymbolicAutomaton, automaton_of}
-use Rattle.degeneralise.specs.Buchi.{state_at, watch_of}
+use Rattle.degeneralise.specs.Buchi.{watch_of}
+use Rattle.degeneralise.specs.inner.Parts.{state_at}
 use Rattle.degeneralise.proofs.LevelSteps.{AreLevelledParts, are_levelled, levelled_parts}
 use Rattle.degeneralise.proofs.WatchLists.{room_of}
 use Rattle.degeneralise.proofs.buchi.put_on_levels.Goals.{After-states}

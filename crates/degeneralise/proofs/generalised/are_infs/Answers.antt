@@ -1,7 +1,7 @@
 use Rattle.std.proofs.Common.{sym}
 use Rattle.aut_base.proofs.lists.Steps.{all_more, all_not_here}
 use Rattle.aut_base.specs.Formula.{formula_list, formula_tree}
-use Rattle.degeneralise.specs.Buchi.{is_inf_atom}
+use Rattle.degeneralise.specs.inner.Parts.{is_inf_atom}
 use Rattle.degeneralise.proofs.generalised.are_infs.Goals as goal
 
 pub returns-then-not-is_inf : goal.returns-then-not-is_inf

@@ -1,5 +1,5 @@
 use Rattle.std.proofs.Common.{◌≡◌, map, take}
-use Rattle.degeneralise.specs.Buchi.{state_at}
+use Rattle.degeneralise.specs.inner.Parts.{state_at}
 use Rattle.degeneralise.proofs.links.first_levels.Given as goal
 
 abbrev pub invariant-starts : goal.invariant-starts

@@ -1,7 +1,7 @@
 use Rattle.std.proofs.Common.{◌≡◌, ◌∙◌, ◌-◌, ◌<◌, ◌≤◌, ℕ, MatchOption, Option, Some, ap, arith, length, map, refl, slice_get, subst, sym}
 use Rattle.exploration.proofs.Exploring.{classes_there, exploring_all, exploring_beyond, exploring_met, exploring_more}
 use Rattle.exploration.proofs.Causes.{caused}
-use Rattle.exploration.proofs.Finished.{explored, explored_within}
+use Rattle.exploration.proofs.Finished.{ends_within, explored_ends}
 use Rattle.exploration.proofs.Faults.{err_is, if_err_map}
 use Rattle.exploration.proofs.Seeing.{past_seen, read_seen, within_seen}
 use Rattle.exploration.proofs.Spreading.{sound_kept}
@@ -105,8 +105,8 @@ returns-clause-ends g c =
 pub returns-clause-explored : goal.returns-clause-explored
 returns-clause-explored g c =
     let ended = returns-clause-ends g c in
-    explored (rules_of g.S.TransitionSystem.same (g.S.TransitionSystem.moves c.args.system.now) c.args.limits)
-    (λ a b. (g.met.S.TransitionSystem.same_tells a b).0) (λ a. (g.met.S.TransitionSystem.same_tells a a).1 refl) (g.S.TransitionSystem.seen c.args.start) _ ended.ends
+    explored_ends (rules_of g.S.TransitionSystem.same (g.S.TransitionSystem.moves c.args.system.now) c.args.limits)
+    (λ a b. (g.met.S.TransitionSystem.same_tells a b).0) (λ a. (g.met.S.TransitionSystem.same_tells a a).1 refl) (g.S.TransitionSystem.seen c.args.start) _ _ ended
 
 pub returns-in_default-clause-caused : goal.returns-in_default-clause-caused
 returns-in_default-clause-caused g c =
@@ -123,5 +123,5 @@ returns-in_err-spread-clause-caused g c =
 pub returns-clause-classes : goal.returns-clause-classes
 returns-clause-classes g c =
     let ended = returns-clause-ends g c in
-    explored_within (rules_of g.S.TransitionSystem.same (g.S.TransitionSystem.moves c.args.system.now) c.args.limits)
-    (λ a b. (g.met.S.TransitionSystem.same_tells a b).0) (λ a. (g.met.S.TransitionSystem.same_tells a a).1 refl) (g.S.TransitionSystem.seen c.args.start) _ ended.ends
+    ends_within (rules_of g.S.TransitionSystem.same (g.S.TransitionSystem.moves c.args.system.now) c.args.limits)
+    (λ a b. (g.met.S.TransitionSystem.same_tells a b).0) (λ a. (g.met.S.TransitionSystem.same_tells a a).1 refl) (g.S.TransitionSystem.seen c.args.start) _ _ ended

@@ -2,7 +2,8 @@ use Rattle.std.proofs.Common.{◌≡◌, ◌∙◌, ◌+◌, ◌*◌, [], ◌∷
 use Rattle.std.proofs.lemmas.List.{append-nil}
 use Rattle.aut_base.specs.Automaton.{LabelledEdge}
 use Rattle.aut_core.specs.SymbolicAutomata.{IsLinkOf, edge_of}
-use Rattle.fin_removal.specs.Copies.{copy_edges, edge_in}
+use Rattle.fin_removal.specs.Copies.{copy_edges}
+use Rattle.fin_removal.proofs.Parts.{edge_in}
 use Rattle.fin_removal.specs.inner.Links.{AddsLinks}
 use Rattle.fin_removal.proofs.CopyMarks.{copy_edges_more}
 use Rattle.fin_removal.proofs.LinkSteps.{adds_one, adds_then}

@@ -1,6 +1,6 @@
 use Rattle.std.proofs.Common.{◌∷◌, map, take}
 use Rattle.aut_core.specs.SymbolicAutomata.{edge_of}
-use Rattle.fin_removal.specs.Copies.{enter, stay}
+use Rattle.fin_removal.proofs.Parts.{enter, stay}
 use Rattle.fin_removal.specs.inner.Links.{AddsLinks}
 use Rattle.fin_removal.proofs.links.push_main.Given as goal
 

@@ -1,4 +1,4 @@
-use Rattle.std.proofs.Common.{◌∙◌, ◌<◌, ℕ, List, length, map, subst, sym}
+use Rattle.std.proofs.Common.{◌∙◌, ◌<◌, ℕ, List, ap, arith, length, map, subst, sym}
 use Rattle.std.proofs.lemmas.List.{map-id}
 use Rattle.std.specs.Cmp.Lexicographic.{pointwise}
 use Rattle.std.specs.Prelude.{⊤, nat_eq}
@@ -8,7 +8,7 @@ use Rattle.aut_core.specs.SymbolicAutomata.{SymbolicAutomaton, automaton_of}
 use Rattle.exploration.specs.Explorations.{IsSound, transition_of}
 use Rattle.exploration.specs.Reached.{IsExplored}
 use Rattle.exploration.specs.Turns.{EndsWith}
-use Rattle.monitor_form.proofs.Built.{explored_from, start_fits}
+use Rattle.monitor_form.proofs.Built.{start_fits}
 use Rattle.label_guards.specs.Store.{Keeps, Store}
 use Rattle.monitor_form.specs.Subsets.{subset_moves, subset_rules}
 use Rattle.letter_classes.specs.SetClasses.{FitsStore, IsClassGuard}
@@ -51,7 +51,8 @@ returns-in_ok-built-in-Ok-clause-shape c =
     record {
       sets = sets;
       transitions = transitions;
-      explored = explored_from b c.args.b.now.starts sets transitions some (subst (λ (start : List ℕ). EndsWith (subset_rules b) start sets transitions) c.in_ok-start.ensures
-          (subst (λ (found : List (List ℕ)). EndsWith (subset_rules b) c.in_ok-start.start found transitions) (map-id sets) c.in-Ok.ensures.ends));
+      none = λ no. absurd (omega (arith, some, ap (λ (xs : List ℕ). length xs) no));
+      explored = λ _. subst (λ (start : List ℕ). EndsWith (subset_rules b) start sets transitions) c.in_ok-start.ensures
+          (subst (λ (found : List (List ℕ)). EndsWith (subset_rules b) c.in_ok-start.start found transitions) (map-id sets) c.in-Ok.ensures.ends);
       is = c.in_ok-built-in-Ok.ensures;
     }

@@ -1,5 +1,5 @@
 use Rattle.std.proofs.Common.{◌≡◌, ◌||◌, ◌<◌, ℕ, drop, length}
-use Rattle.safra_trees.specs.Trees.{has}
+use Rattle.safra_trees.specs.inner.Names.{has}
 use Rattle.safra_trees.specs.inner.Passes.{flag}
 use Rattle.safra_trees.proofs.passes.claiming.Given as goal
 

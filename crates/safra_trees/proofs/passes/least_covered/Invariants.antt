@@ -1,5 +1,5 @@
 use Rattle.std.proofs.Common.{◌≡◌, ◌&&◌, [], not}
-use Rattle.safra_trees.specs.Step.{names_where}
+use Rattle.safra_trees.specs.inner.Names.{names_where}
 use Rattle.safra_trees.specs.inner.Passes.{flag}
 use Rattle.safra_trees.proofs.passes.least_covered.Given as goal
 

@@ -1,7 +1,7 @@
 use Rattle.std.proofs.Common.{◌∙◌, ◌+◌, ap, arith, sym}
 use Rattle.safra_trees.proofs.flat_step.Loops.{mapped_range, rank_with, rank_without}
 use Rattle.safra_trees.proofs.list_step.Ranks.{rank_low}
-use Rattle.safra_trees.specs.Step.{rank}
+use Rattle.safra_trees.specs.inner.Names.{rank}
 use Rattle.safra_trees.specs.inner.Passes.{flag}
 use Rattle.safra_trees.proofs.passes.new_names.Goals as goal
 

@@ -1,6 +1,6 @@
 use Rattle.std.proofs.Common.{◌≡◌, map}
 use Rattle.std.specs.List.{range_with_len}
-use Rattle.safra_trees.specs.Step.{rank}
+use Rattle.safra_trees.specs.inner.Names.{rank}
 use Rattle.safra_trees.specs.inner.Passes.{flag}
 use Rattle.safra_trees.proofs.passes.new_names.Given as goal
 

@@ -1,6 +1,6 @@
 use Rattle.std.proofs.Common.{◌≡◌, map}
 use Rattle.safra_trees.specs.Flat.{at}
-use Rattle.safra_trees.specs.Step.{names_where}
+use Rattle.safra_trees.specs.inner.Names.{names_where}
 use Rattle.safra_trees.specs.inner.Claims.{grown_parent}
 use Rattle.safra_trees.specs.inner.Passes.{flag}
 use Rattle.safra_trees.proofs.passes.new_parents.Given as goal

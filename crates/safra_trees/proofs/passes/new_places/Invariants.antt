@@ -1,6 +1,6 @@
 use Rattle.std.proofs.Common.{◌≡◌, filter, length, map, nat_lt}
 use Rattle.safra_trees.specs.Flat.{at, is_high, is_low}
-use Rattle.safra_trees.specs.Step.{names_where}
+use Rattle.safra_trees.specs.inner.Names.{names_where}
 use Rattle.safra_trees.proofs.passes.new_places.Given as goal
 
 abbrev pub invariant-states : goal.invariant-states

@@ -1,8 +1,7 @@
 use Rattle.std.proofs.Common.{◌≡◌, ◌∙◌, ◌<◌, All, Contains, List, ap, length, min, replicate, subst, sym, ℕ}
 use Rattle.safra_trees.proofs.flat_step.First.{started_below, started_names, started_stored, started_tree}
 use Rattle.safra_trees.specs.Flat.{IsStored}
-use Rattle.safra_trees.specs.Step.{names_where}
-use Rattle.safra_trees.specs.Trees.{has}
+use Rattle.safra_trees.specs.inner.Names.{has, names_where}
 use Rattle.safra_trees.proofs.starting.start.Goals.{After-from_vec-3}
 use Rattle.safra_trees.proofs.starting.start.Goals as goal
 

@@ -3,7 +3,7 @@ use Rattle.std.specs.List.{list_any}
 use Rattle.aut_base.specs.declared.limit.TheConstants.{MOST_NODES}
 use Rattle.safra_trees.proofs.flat_step.Survey.{IsSurvey, all_below, surveyed}
 use Rattle.safra_trees.specs.Flat.{at}
-use Rattle.safra_trees.specs.Trees.{has}
+use Rattle.safra_trees.specs.inner.Names.{has}
 use Rattle.safra_trees.specs.inner.Claims.{claim, grown_parent}
 use Rattle.safra_trees.specs.inner.Passes.{AreOwners, ends_at}
 use Rattle.safra_trees.specs.inner.Slices.{states_in}

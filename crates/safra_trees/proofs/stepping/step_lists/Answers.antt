@@ -8,7 +8,8 @@ use Rattle.safra_trees.proofs.flat_step.Placed.{nodes_length}
 use Rattle.safra_trees.proofs.flat_step.Splits.{names_of_split, names_split}
 use Rattle.safra_trees.specs.Events.{least}
 use Rattle.safra_trees.specs.Flat.{at}
-use Rattle.safra_trees.specs.Step.{greens, grown, rank, reds}
+use Rattle.safra_trees.specs.Step.{greens, grown, reds}
+use Rattle.safra_trees.specs.inner.Names.{rank}
 use Rattle.safra_trees.specs.declared.event.Event.{Event}
 use Rattle.safra_trees.specs.inner.Passes.{ArePasses, flag}
 use Rattle.safra_trees.specs.inner.Slices.{sliced_tree, states_in}

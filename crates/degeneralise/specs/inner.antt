@@ -1,0 +1,2 @@
+-- Definitions that only the contracts of inner functions use.
+pub mod Parts
