@@ -1,14 +1,15 @@
 -- The texts alone determine which events happen, and how the run ends.
+mod BadPlaces
+mod Full
+mod Limits
 pub mod Answers
 pub mod Asking
-mod BadPlaces
+pub mod AtBytes
 pub mod EndPlaces
 pub mod Ends
 pub mod Faults
-mod Full
 pub mod LeftBehind
 pub mod Like
-mod Limits
 pub mod Looks
 pub mod OperandEnds
 pub mod Operands
@@ -17,4 +18,5 @@ pub mod Readable
 pub mod Runs
 pub mod SamePlans
 pub mod Steps
+pub mod Tallied
 pub mod Verdicts

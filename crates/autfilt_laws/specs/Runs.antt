@@ -7,11 +7,11 @@ use Rattle.aut_base.specs.declared.limit.Limit.TheVariants as limit
 use Rattle.aut_base.specs.declared.limit.TheConstants.{MOST_BYTES}
 use Rattle.aut_io.specs.Outside.{Texts, text_of}
 use Rattle.autfilt_run.specs.Notes.{line_of}
-use Rattle.autfilt_run.specs.Run.{AreAllRead, EndsByTally, EndsInOperands, RunsTo, end_of, tally_after}
+use Rattle.autfilt_run.specs.Run.{AreAllRead, EndsInOperands, RunsTo, end_of}
 use Rattle.autfilt_run.specs.declared.ended.End.{End}
 use Rattle.autfilt_run.specs.declared.ended.End.TheVariants as end
 use Rattle.autfilt_run.specs.Due.{IsDue}
-use Rattle.autfilt_run.specs.Events.{AreJudged, Dropped, Ended, Event, Happen, IsGood, Kept, Opened, Point, Skipped, Stream, bytes_before, start_of}
+use Rattle.autfilt_run.specs.Events.{AreJudged, Dropped, Ended, Event, Happen, IsGood, Kept, Opened, Point, Skipped, Stream, bytes_before, start_of, tally}
 use Rattle.made_stream.specs.Made.{made_texts}
 use Rattle.autfilt_run.specs.OperandEvents.{AreRead, FileOpened, OperandEvent, PassedOver, Taken, all_passed, operands_read}
 use Rattle.autfilt_run.specs.Over.{IsOverLimit}
@@ -76,7 +76,7 @@ pub record EndsInStreams (plan : Plan) (texts : Texts) (left : Option (List ℕ)
   pub point : Point
   pub read : AreAllRead plan texts left o.taken point
   pub judged : AreJudged plan (operands_read o.taken) o.events
-  pub tallied : EndsByTally o.end (length (all_passed o.taken)) o.events
+  pub tallied : ((f : RunFault) × (o.end ≡ end.Fault f)) ⊎ (o.end ≡ end_of (tally (length (all_passed o.taken)) o.events))
   pub runs : RunsTo plan (operands_read o.taken) (texts_or plan.made texts) (streams_from plan point) o.left o.events o.end o.name
 
 -- the run ended while the file of an operand was read
@@ -184,7 +184,7 @@ pub record AreReadable (plan : Plan) (texts : Texts) (left : Option (List ℕ)) 
 abbrev pub Completes : Type 0
 Completes =
     (plan : Plan) (texts : Texts) (left : Option (List ℕ)) (o : Outcome) → AreReadable plan texts left → o.end ≢ end.Fault (fault.Limit limit.Bytes)
-    → IsEnded plan texts left o → o.end ≡ end_of (tally_after (length (all_passed o.taken)) o.events)
+    → IsEnded plan texts left o → o.end ≡ end_of (tally (length (all_passed o.taken)) o.events)
 
 -- ---- existence
 

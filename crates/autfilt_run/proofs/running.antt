@@ -2,6 +2,7 @@
 pub mod Advanced
 pub mod Arguments
 pub mod Carried
+pub mod Causes
 pub mod Ending
 pub mod MadePlans
 pub mod Noting

@@ -1,5 +1,5 @@
 -- The text that is due of an automaton that is kept.
-use Rattle.std.specs.Prelude.{◌≡◌, ℕ, Bool, true, false, if◌then◌else◌, List, [], MatchOption, Option, None}
+use Rattle.std.specs.Prelude.{◌≡◌, ℕ, MatchBool, if◌then◌else◌, List, [], MatchOption, Option, None}
 use Rattle.ap_project.specs.Laws.{SayTheSame}
 use Rattle.aut_base.specs.Acceptance.{Accepts}
 use Rattle.aut_base.specs.Automaton.{Automaton}
@@ -69,9 +69,5 @@ IsPrinted (Stats pieces) p ops w text = IsFigures p ops w pieces text
 IsPrinted (Refute file) p ops w text = MatchOption (refuted_operand p ops) ⊥ (λ b. IsRefutationLine (described w) b text)
 
 -- Under `-c` and `-q` nothing is due.
-abbrev pub IsDueWhere : Bool → Plan → List Automaton → Written → List ℕ → Type 0
-IsDueWhere true p ops w text = IsPrinted p.output p ops w text
-IsDueWhere false p ops w text = text ≡ []
-
 abbrev pub IsDue : Plan → List Automaton → Written → List ℕ → Type 0
-IsDue p ops w text = IsDueWhere (prints_each p) p ops w text
+IsDue p ops w text = MatchBool (prints_each p) (IsPrinted p.output p ops w text) (text ≡ [])

@@ -61,17 +61,9 @@ pub record Point : Type 0 where
 abbrev pub start_of : List (List ℕ) → Option (List ℕ) → ℕ → Point
 start_of names left before = record { coming = names; stream = None; left = left; before = before; kept = 0 }
 
--- the point where more was read of the open stream
-abbrev pub read_on : Point → Stream → List ℕ → ℕ → Point
-read_on p s next kept = record p { stream = Some (record s { rest = next }); left = Some next; kept = kept }
-
 -- the point where the stream of this name was opened
 abbrev pub opened_at : Point → List (List ℕ) → List ℕ → List ℕ → Point
 opened_at p others name text = record p { coming = others; stream = Some (record { name = name; text = text; rest = text }); left = Some text }
-
--- the point where the open stream was read to its end
-abbrev pub at_stream_end : Point → Stream → Point
-at_stream_end p s = record p { stream = None; left = Some []; before = p.before + length s.text }
 
 -- The open stream is read further: `read` says what is next in its rest, and the limit of bytes isn't passed.
 pub record ReadsOn (p : Point) (read : ℕ → List ℕ → List ℕ → Type 0) (kept : ℕ) (q : Point) : Type 0 where
@@ -80,7 +72,7 @@ pub record ReadsOn (p : Point) (read : ℕ → List ℕ → List ℕ → Type 0)
   pub next : List ℕ
   pub stands : read (bytes_before stream.text stream.rest) stream.rest next
   pub few : p.before + bytes_before stream.text next ≤ MOST_BYTES
-  pub to : q ≡ read_on p stream next kept
+  pub to : q ≡ record p { stream = Some (record stream { rest = next }); left = Some next; kept = kept }
 
 -- An abandoned automaton of the stream of this name is skipped.
 pub record PassesOver (name : List ℕ) (p q : Point) : Type 0 where
@@ -100,7 +92,7 @@ pub record EndsStream (p q : Point) : Type 0 where
   pub is_open : p.stream ≡ Some stream
   pub blank : IsBlanks stream.rest
   pub few : p.before + length stream.text < MOST_BYTES
-  pub to : q ≡ at_stream_end p stream
+  pub to : q ≡ record p { stream = None; left = Some []; before = p.before + length stream.text }
 
 -- Whether an event leads from one point to another.
 abbrev pub EventLeads : Texts → Event → Point → Point → Type 0
@@ -171,5 +163,6 @@ abbrev pub tally_from : Tally → List Event → Tally
 tally_from t [] = t
 tally_from t (event ∷ events) = tally_from (tally_with t event) events
 
-abbrev pub tally : List Event → Tally
-tally = tally_from (record { kept = 0; skipped = 0 })
+-- where none was kept before, and so many were skipped: in the files of operands
+abbrev pub tally : ℕ → List Event → Tally
+tally passed events = tally_from (record { kept = 0; skipped = passed }) events

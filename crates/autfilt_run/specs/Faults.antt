@@ -5,7 +5,6 @@ use Rattle.aut_base.specs.declared.limit.Limit.{Limit}
 use Rattle.aut_base.specs.declared.limit.Limit.TheVariants as limit
 use Rattle.autfilt_run.specs.declared.fault.RunFault.{RunFault}
 use Rattle.autfilt_run.specs.declared.fault.RunFault.TheVariants as fault
-use Rattle.hoa_lexer.specs.Moves.{Stop, AtEnd, AtFault, AtMost, Elsewhere}
 use Rattle.hoa_parser.specs.declared.fault.ReadFault as reading
 use Rattle.hoa_reader.specs.declared.elaborate.ElabFault as describing
 use Rattle.plan_meaning.specs.declared.fault.PlanFault.{PlanFault}
@@ -35,43 +34,3 @@ fault_of_describing describing.ElabFault.Memory = fault.Memory
 abbrev pub fault_of_plan : PlanFault → RunFault
 fault_of_plan (asked.Limit which) = fault.Limit which
 fault_of_plan asked.Memory = fault.Memory
-
--- When a limit is noticed: at the token that nests too deep, at a byte that is asked for beyond the limit of bytes, or at an
--- automaton that was read whole.
-pub data Told : Type 0 where
-  AtToken : Told
-  AtByte : Told
-  OfWhole : Told
-
-abbrev pub when_told : Limit → Told
-when_told limit.Names = OfWhole
-when_told limit.Sets = OfWhole
-when_told limit.States = OfWhole
-when_told limit.Edges = OfWhole
-when_told limit.Aliases = OfWhole
-when_told limit.Depth = AtToken
-when_told limit.Bytes = AtByte
-when_told limit.Terms = OfWhole
-when_told limit.BuchiStates = OfWhole
-when_told limit.Trees = OfWhole
-when_told limit.Nodes = OfWhole
-when_told limit.Classes = OfWhole
-when_told limit.Subsets = OfWhole
-when_told limit.Pairs = OfWhole
-
--- How a fault relates to the limit of bytes: that limit is reported exactly where another byte is asked for after that many
--- were taken, and the end of a text is seen by asking, too.
-abbrev pub stop_of_limit : Told → Stop
-stop_of_limit AtToken = Elsewhere
-stop_of_limit AtByte = AtMost
-stop_of_limit OfWhole = Elsewhere
-
-abbrev pub stop_of_run_fault : RunFault → Stop
-stop_of_run_fault fault.Truncated = AtEnd
-stop_of_run_fault fault.ReadFault = AtFault
-stop_of_run_fault (fault.Limit which) = stop_of_limit (when_told which)
-stop_of_run_fault (fault.SyntaxAt k) = Elsewhere
-stop_of_run_fault (fault.Invalid rule) = Elsewhere
-stop_of_run_fault fault.CannotOpen = Elsewhere
-stop_of_run_fault fault.WriteFault = Elsewhere
-stop_of_run_fault fault.Memory = Elsewhere

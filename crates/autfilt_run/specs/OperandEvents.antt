@@ -17,18 +17,14 @@ pub data OperandEvent : Type 0 where
   -- an automaton of the file of this name is abandoned, and skipped
   PassedOver : List ℕ → OperandEvent
 
--- the point after an operand was taken of the open file
-abbrev pub taken_at : Point → Stream → List ℕ → Point
-taken_at p s next = record p { stream = None; left = Some next; before = p.before + bytes_before s.text next }
-
--- A whole automaton is next in the open file, and is taken. The limit of bytes isn't passed.
+-- A whole automaton is next in the open file, and is taken, which closes the file. The limit of bytes isn't passed.
 pub record TakesOperand (w : Written) (p q : Point) : Type 0 where
   pub stream : Stream
   pub is_open : p.stream ≡ Some stream
   pub next : List ℕ
   pub good : IsGood (bytes_before stream.text stream.rest) stream.rest w next
   pub few : p.before + bytes_before stream.text next ≤ MOST_BYTES
-  pub to : q ≡ taken_at p stream next
+  pub to : q ≡ record p { stream = None; left = Some next; before = p.before + bytes_before stream.text next }
 
 -- Whether an event leads from one point to another.
 abbrev pub Proceeds : Texts → OperandEvent → Point → Point → Type 0

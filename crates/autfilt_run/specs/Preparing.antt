@@ -7,6 +7,7 @@ use Rattle.autfilt_run.specs.Openings.{AreOpened, AreTried, WantsFile}
 use Rattle.autfilt_run.specs.OperandEvents.{AreRead, OperandEvent, PassedOver, all_passed, file_open_after, opened_files, operands_read}
 use Rattle.autfilt_run.specs.Points.{StandsIn, name_in, open_count, operands_in}
 use Rattle.autfilt_run.specs.Runs.{IsCounted, StopsInOperands}
+use Rattle.autfilt_run.specs.declared.ended.End.TheVariants as end
 use Rattle.autfilt_run.specs.declared.fault.RunFault.{RunFault}
 use Rattle.autfilt_run.specs.declared.fault.RunFault.TheVariants as fault
 use Rattle.autfilt_run.specs.declared.session.Prep.{Prep}
@@ -68,7 +69,7 @@ pub record FailsToPrepare (f : RunFault) (old new : Session) (seen seen' : Seen)
   pub no_write : f ≢ fault.WriteFault
   pub counts : CountsAt f seen seen'
   pub named : (k : ℕ) × (opened_names old ++ opened_files events ≡ take k (operands old.plan))
-  pub openings : AreTried f (WantsOperand old events) (length (opened_files events)) seen seen'
+  pub openings : AreTried (end.Fault f) (WantsOperand old events) (length (opened_files events)) seen seen'
 
 abbrev pub Prepares : Result Prep RunFault → Session → Session → Seen → Seen → Type 0
 Prepares (Ok Ready) = HasAllOperands

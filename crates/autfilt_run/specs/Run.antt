@@ -11,7 +11,7 @@ use Rattle.autfilt_run.specs.declared.ended.End.{End}
 use Rattle.autfilt_run.specs.declared.ended.End.TheVariants as end
 use Rattle.autfilt_run.specs.declared.ended.Ended.{Ended}
 use Rattle.autfilt_run.specs.declared.ended.Ended.TheVariants as ended
-use Rattle.autfilt_run.specs.Events.{AreJudged, Event, Happen, Kept, Point, Skipped, Tally, all_written, open_after, opened_streams, start_of, tally, tally_from}
+use Rattle.autfilt_run.specs.Events.{AreJudged, Event, Happen, Kept, Point, Skipped, Tally, all_written, open_after, opened_streams, start_of, tally}
 use Rattle.made_stream.specs.Made.{seen_of_made}
 use Rattle.autfilt_run.specs.Openings.{AreOpened, AreTried, WantsFile}
 use Rattle.autfilt_run.specs.OperandEvents.{AreRead, OperandEvent, all_passed, file_open_after, opened_files, operands_read}
@@ -26,32 +26,15 @@ use Rattle.hoa_parser.specs.Raw.{Written}
 -- ---- what is noted
 
 -- of an event: a line about an automaton that is skipped
-abbrev pub noted : Event → List ℕ
-noted (Skipped name) = aborted_line name
-noted _ = []
-
-abbrev pub all_noted : List Event → List ℕ
-all_noted = flat_map noted
-
--- of the operands: a line about each automaton that is skipped in their files
-abbrev pub passed_noted : List (List ℕ) → List ℕ
-passed_noted = flat_map aborted_line
+abbrev pub noted_of : Event → List ℕ
+noted_of (Skipped name) = aborted_line name
+noted_of _ = []
 
 -- ---- how a run ends
 
 -- the end of a run that read all
 abbrev pub end_of : Tally → End
 end_of t = if t.skipped == 0 then (if t.kept == 0 then end.NoneOutput else end.Output) else end.Aborts
-
--- how many were kept and skipped after the events; so many were skipped before, in the files of operands
-abbrev pub tally_after : ℕ → List Event → Tally
-tally_after passed events = tally_from (record { kept = 0; skipped = passed }) events
-
--- Where no fault ended the run, the end follows from how many automata were kept and skipped.
-abbrev pub EndsByTally : End → ℕ → List Event → Type 0
-EndsByTally (end.Fault f) passed events = Unit {0}
-EndsByTally end.Usage passed events = ⊥
-EndsByTally e passed events = e ≡ end_of (tally_after passed events)
 
 -- The point at which the run ended, and what the inputs have left. `name` is that of the file that was tried last.
 abbrev pub EndsAt : Plan → List Automaton → End → List ℕ → Point → Option (List ℕ) → Type 0
@@ -66,14 +49,6 @@ WantsStreamFile plan events = WantsFile (open_after false events) (length (opene
 -- after these events the file of the next operand is to be opened
 abbrev pub WantsOperandFile : Plan → List OperandEvent → Type 0
 WantsOperandFile plan taken = WantsFile (file_open_after false taken) (length (opened_files taken)) (length (operands plan))
-
--- Each of so many streams was opened once, and maybe one more was tried, the opening of which ended the run.
-abbrev pub EndsOpened : End → Type 0 → ℕ → Seen → Seen → Type 0
-EndsOpened (end.Fault f) wanting count seen seen' = AreTried f wanting count seen seen'
-EndsOpened end.Usage wanting count seen seen' = ⊥
-EndsOpened end.Output wanting count seen seen' = AreOpened count seen seen'
-EndsOpened end.NoneOutput wanting count seen seen' = AreOpened count seen seen'
-EndsOpened end.Aborts wanting count seen seen' = AreOpened count seen seen'
 
 -- The events happened over these texts from this point on, and then the run ended this way.
 pub record RunsTo (plan : Plan) (ops : List Automaton) (texts : Texts) (first : Point) (left' : Option (List ℕ)) (events : List Event) (e : End) (name : List ℕ) : Type 0 where
@@ -114,13 +89,13 @@ pub record BreaksOff (plan : Plan) (events : List Event) (written written' : Opt
 pub record BreaksOffCount (plan : Plan) (events : List Event) (written written' : Option (List ℕ)) : Type 0 where
   pub prints : prints_count plan ≡ true
   pub part : ℕ
-  pub gains : Gains written written' (all_written events ++ take part (count_text plan (tally events).kept))
+  pub gains : Gains written written' (all_written events ++ take part (count_text plan (tally 0 events).kept))
 
 -- what was written, by the events and the end
 abbrev pub PrintsRun : Plan → End → List Event → Option (List ℕ) → Option (List ℕ) → Type 0
 PrintsRun plan (end.Fault run.WriteFault) events written written' = BreaksOff plan events written written' ⊎ BreaksOffCount plan events written written'
 PrintsRun plan (end.Fault f) events written written' = Gains written written' (all_written events)
-PrintsRun plan e events written written' = Gains written written' (all_written events ++ count_text plan (tally events).kept)
+PrintsRun plan e events written written' = Gains written written' (all_written events ++ count_text plan (tally 0 events).kept)
 
 -- The streams of a plan were read with these operands, and the run ended this way. `before` bytes were taken by then.
 pub record Runs (plan : Plan) (ops : List Automaton) (passed before : ℕ) (e : End) (events : List Event) (name : List ℕ) (seen seen' : Seen) (out out' : SinkSeen) : Type 0 where
@@ -128,10 +103,11 @@ pub record Runs (plan : Plan) (ops : List Automaton) (passed before : ℕ) (e : 
   pub judged : AreJudged plan ops events
   -- the events happened, and what comes after them in the texts ended the run, where the inputs' texts are known
   pub happened : (texts : Texts) → seen.texts ≡ Some texts → RunsTo plan ops texts (start_of (plan_streams plan) seen.left before) seen'.left events e name
-  pub tallied : EndsByTally e passed events
+  -- where no fault ended the run, the end follows from how many automata were kept and skipped
+  pub tallied : ((f : RunFault) × (e ≡ end.Fault f)) ⊎ (e ≡ end_of (tally passed events))
   -- the streams that were opened are the first of the plan, each opened once, also where the inputs' texts aren't known
   pub named : (k : ℕ) × (opened_streams events ≡ take k (plan_streams plan))
-  pub openings : EndsOpened e (WantsStreamFile plan events) (length (opened_streams events)) seen seen'
+  pub openings : AreTried e (WantsStreamFile plan events) (length (opened_streams events)) seen seen'
   pub prints : PrintsRun plan e events out.written out'.written
 
 -- The run over the generated stream, which doesn't touch the inputs.
@@ -165,7 +141,7 @@ pub record FailsInOperands (plan : Plan) (e : End) (taken : List OperandEvent) (
   pub no_write : fault ≢ run.WriteFault
   pub happened : (texts : Texts) → seen.texts ≡ Some texts → EndsInOperands plan texts seen.left seen'.left taken fault name
   pub named : (k : ℕ) × (opened_files taken ≡ take k (operands plan))
-  pub openings : AreTried fault (WantsOperandFile plan taken) (length (opened_files taken)) seen seen'
+  pub openings : AreTried e (WantsOperandFile plan taken) (length (opened_files taken)) seen seen'
   pub none : events ≡ []
   pub output : out' ≡ out
 
@@ -185,25 +161,16 @@ pub record EndsBy (words : List (List ℕ)) (result : Ended) (seen seen' : Seen)
   pub name : List ℕ
   pub refused : AreRefused words → (taken ≡ []) × (events ≡ [])
   pub runs : (plan : Plan) → IsPlan words plan → (p : Plan) × IsPlan words p × RunsOver p end taken events name seen seen' out out'
-  pub noted : Notes (passed_noted (all_passed taken) ++ (all_noted events ++ line_of end name)) notes notes'
+  -- a line about each automaton that was skipped in the files of operands and in the streams, and one about the end
+  pub noted : Notes (flat_map aborted_line (all_passed taken) ++ (flat_map noted_of events ++ line_of end name)) notes notes'
 
--- no count of I/O faults rose
-pub record AreCalm (seen seen' : Seen) (out out' : SinkSeen) : Type 0 where
-  pub opens : seen'.open_faults ≡ seen.open_faults
-  pub reads : seen'.read_faults ≡ seen.read_faults
-  pub writes : out'.faults ≡ out.faults
+-- a count rose where this is so, and else is as it was
+abbrev pub RisesWhere : Type 0 → ℕ → ℕ → Type 0
+RisesWhere is before after = (is → Rose before after) × ((is → ⊥) → after ≡ before)
 
--- Why a run ended this way. An I/O fault is answered only where its count rose, and any other answer, want of memory among
--- them, only where no call failed.
-abbrev pub EndsBecause : Ended → Seen → Seen → SinkSeen → SinkSeen → Type 0
-EndsBecause ended.CannotOpen seen seen' out out' = Rose seen.open_faults seen'.open_faults × (seen'.read_faults ≡ seen.read_faults) × (out'.faults ≡ out.faults)
-EndsBecause ended.ReadFault seen seen' out out' = (seen'.open_faults ≡ seen.open_faults) × Rose seen.read_faults seen'.read_faults × (out'.faults ≡ out.faults)
-EndsBecause ended.WriteFault seen seen' out out' = (seen'.open_faults ≡ seen.open_faults) × (seen'.read_faults ≡ seen.read_faults) × Rose out.faults out'.faults
-EndsBecause ended.Output seen seen' out out' = AreCalm seen seen' out out'
-EndsBecause ended.NoneOutput seen seen' out out' = AreCalm seen seen' out out'
-EndsBecause ended.Aborts seen seen' out out' = AreCalm seen seen' out out'
-EndsBecause ended.Usage seen seen' out out' = AreCalm seen seen' out out'
-EndsBecause ended.Syntax seen seen' out out' = AreCalm seen seen' out out'
-EndsBecause ended.Invalid seen seen' out out' = AreCalm seen seen' out out'
-EndsBecause (ended.Limit which) seen seen' out out' = AreCalm seen seen' out out'
-EndsBecause ended.Memory seen seen' out out' = AreCalm seen seen' out out'
+-- Why a run ended this way. An I/O fault is answered exactly where its count rose, and no other count rises. So any other
+-- answer, want of memory among them, comes only where no call failed.
+pub record EndsBecause (answer : Ended) (seen seen' : Seen) (out out' : SinkSeen) : Type 0 where
+  pub opens : RisesWhere (answer ≡ ended.CannotOpen) seen.open_faults seen'.open_faults
+  pub reads : RisesWhere (answer ≡ ended.ReadFault) seen.read_faults seen'.read_faults
+  pub writes : RisesWhere (answer ≡ ended.WriteFault) out.faults out'.faults

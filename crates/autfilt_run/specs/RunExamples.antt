@@ -6,10 +6,9 @@ use Rattle.aut_base.specs.declared.limit.Limit.TheVariants as limit
 use Rattle.aut_io.specs.Outside.{Texts, text_of}
 use Rattle.aut_io.specs.Seen.{Seen, SinkSeen}
 use Rattle.autfilt_run.specs.Ends.{ended_of}
-use Rattle.autfilt_run.specs.Events.{Dropped, Ended, Event, Happen, Kept, Opened, Point, Skipped, start_of}
-use Rattle.autfilt_run.specs.Faults.{AtByte, AtToken, OfWhole, when_told}
-use Rattle.autfilt_run.specs.Run.{EndsAt, EndsBecause, EndsByTally, PrintsRun}
-use Rattle.autfilt_run.specs.Runs.{StopsAtOperand, StopsReading}
+use Rattle.autfilt_run.specs.Events.{Dropped, Ended, Event, Happen, Kept, Opened, Point, Skipped, start_of, tally}
+use Rattle.autfilt_run.specs.Run.{EndsAt, EndsBecause, PrintsRun, end_of}
+use Rattle.autfilt_run.specs.Runs.{IsCounted, StopsAtOperand, StopsReading}
 use Rattle.autfilt_run.specs.Status.{status_of}
 use Rattle.autfilt_run.specs.declared.ended.End.TheVariants as end
 use Rattle.autfilt_run.specs.declared.ended.Ended.TheVariants as ended
@@ -89,10 +88,9 @@ pub record WhyItEnds : Type 0 where
   -- no text stands for a file that can't be opened or a write that fails
   pub no_text : (start : ℕ) (rest left : List ℕ) → ¬ StopsReading (λ which w. ⊥) fault.CannotOpen start rest left
   pub no_write : (start : ℕ) (rest left : List ℕ) → ¬ StopsReading (λ which w. ⊥) fault.WriteFault start rest left
-  -- when a limit is told
-  pub depth : when_told limit.Depth ≡ AtToken
-  pub bytes : when_told limit.Bytes ≡ AtByte
-  pub pairs : when_told limit.Pairs ≡ OfWhole
+  -- the limit of bytes is told after that many, and others before
+  pub not_early : ¬ IsCounted (fault.Limit limit.Bytes) before_both None
+  pub early : IsCounted (fault.Limit limit.Pairs) before_both None
 
 -- ---- what is written
 
@@ -146,10 +144,10 @@ pub record WhatIsAnswered : Type 0 where
   pub not_syntax : ¬ EndsBecause ended.Syntax calm no_read calm_sink calm_sink
   pub not_memory : ¬ EndsBecause ended.Memory calm no_open calm_sink calm_sink
   -- by how many were kept and skipped, where all was read; `passed` automata were passed over before
-  pub some_kept : (w : Written) → EndsByTally end.Output 0 (Opened x ∷ one w ∷ Dropped w ∷ Ended ∷ [])
-  pub none_kept : (w : Written) → EndsByTally end.NoneOutput 0 (Opened x ∷ Dropped w ∷ Ended ∷ [])
-  pub one_skipped : (w : Written) → EndsByTally end.Aborts 0 (Opened x ∷ one w ∷ Skipped x ∷ Ended ∷ [])
-  pub one_passed : EndsByTally end.Aborts 1 []
+  pub some_kept : (w : Written) → end_of (tally 0 (Opened x ∷ one w ∷ Dropped w ∷ Ended ∷ [])) ≡ end.Output
+  pub none_kept : (w : Written) → end_of (tally 0 (Opened x ∷ Dropped w ∷ Ended ∷ [])) ≡ end.NoneOutput
+  pub one_skipped : (w : Written) → end_of (tally 0 (Opened x ∷ one w ∷ Skipped x ∷ Ended ∷ [])) ≡ end.Aborts
+  pub one_passed : end_of (tally 1 []) ≡ end.Aborts
   -- the answer, and the exit status
   pub syntax_error : (k : ℕ) → ended_of (end.Fault (fault.SyntaxAt k)) ≡ ended.Syntax
   pub truncated : ended_of (end.Fault fault.Truncated) ≡ ended.Syntax

@@ -1,17 +1,16 @@
 -- How a run may end at a point, for each fault, and what the inputs have left then.
-use Rattle.std.specs.Prelude.{◌≡◌, ℕ, ◌+◌, ◌≤◌, ◌⊎◌, true, false, List, [], ◌∷◌, Option, Some, None}
+use Rattle.std.specs.Prelude.{◌≡◌, ℕ, ◌+◌, ◌<◌, ◌≤◌, ◌⊎◌, true, false, List, [], ◌∷◌, Option, Some, None}
 use Rattle.aut_base.specs.Automaton.{Automaton}
 use Rattle.aut_base.specs.declared.limit.Limit.{Limit}
+use Rattle.aut_base.specs.declared.limit.Limit.TheVariants as limit
 use Rattle.aut_base.specs.declared.limit.TheConstants.{MOST_BYTES}
 use Rattle.autfilt_run.specs.Events.{Point, Stream, bytes_before}
-use Rattle.autfilt_run.specs.Faults.{Told, AtToken, AtByte, OfWhole, stop_of_run_fault, when_told}
 use Rattle.autfilt_run.specs.Over.{IsOverLimit}
 use Rattle.autfilt_run.specs.Plans.{asks_on}
 use Rattle.autfilt_run.specs.declared.fault.RunFault.{RunFault}
 use Rattle.autfilt_run.specs.declared.fault.RunFault.TheVariants as fault
 use Rattle.filter_plan.specs.declared.plan.Plan.{Plan}
 use Rattle.hoa_lexer.specs.Blanks.{IsBlanks}
-use Rattle.hoa_lexer.specs.Moves.{IsWithinByteLimit}
 use Rattle.hoa_lexer.specs.Reading.{unread}
 use Rattle.hoa_parser.specs.Raw.{Written}
 use Rattle.hoa_parser.specs.Reads.{AskedForLast, AsksOn, EndsDeep, IsHopeless, MayHaveBegun}
@@ -51,22 +50,18 @@ pub record IsTooDeep (start : ℕ) (rest left : List ℕ) : Type 0 where
 abbrev pub WantsMemory : ℕ → List ℕ → List ℕ → Type 0
 WantsMemory start rest left = ((held : Option ℕ) × MayHaveBegun start rest (unread held left)) ⊎ StandsWith (λ w. Unit {0}) start rest left
 
--- only blanks are left
-abbrev pub IsAllRead : List ℕ → List ℕ → Type 0
-IsAllRead rest left = IsBlanks rest × (left ≡ [])
-
--- A limit is passed, by when it is noticed. `passes` has to hold of an automaton that was read whole.
-abbrev pub StopsAtLimit : Told → (Written → Type 0) → ℕ → List ℕ → List ℕ → Type 0
-StopsAtLimit AtToken passes start rest left = IsTooDeep start rest left
-StopsAtLimit AtByte passes start rest left = AsksOn start rest left
-StopsAtLimit OfWhole passes start rest left = StandsWith passes start rest left
-
+-- A limit is passed: that of depth at a token, that of bytes at a byte, and each other one at an automaton that was read whole.
 -- `over` says which limits are passed after reading: by filters and changes.
+abbrev pub StopsAtLimit : Limit → (Limit → Written → Type 0) → ℕ → List ℕ → List ℕ → Type 0
+StopsAtLimit which over start rest left =
+    ((which ≡ limit.Depth) × IsTooDeep start rest left)
+    ⊎ (((which ≡ limit.Bytes) × AsksOn start rest left) ⊎ StandsWith (λ w. PassesLimit which w ⊎ over which w) start rest left)
+
 abbrev pub StopsReading : (Limit → Written → Type 0) → RunFault → ℕ → List ℕ → List ℕ → Type 0
 StopsReading over (fault.SyntaxAt k) start rest left = IsSyntaxFault k start rest left
 StopsReading over fault.Truncated start rest left = IsTruncated start rest left
 StopsReading over (fault.Invalid rule) start rest left = StandsWith (IsFirstBroken rule) start rest left
-StopsReading over (fault.Limit which) start rest left = StopsAtLimit (when_told which) (λ w. PassesLimit which w ⊎ over which w) start rest left
+StopsReading over (fault.Limit which) start rest left = StopsAtLimit which over start rest left
 StopsReading over fault.ReadFault start rest left = AsksOn start rest left
 StopsReading over fault.Memory start rest left = WantsMemory start rest left
 StopsReading over fault.CannotOpen start rest left = ⊥
@@ -74,7 +69,7 @@ StopsReading over fault.WriteFault start rest left = ⊥
 
 -- The same while an operand is read: that only blanks are left is a truncated text, too.
 abbrev pub StopsAtOperand : RunFault → ℕ → List ℕ → List ℕ → Type 0
-StopsAtOperand fault.Truncated start rest left = IsTruncated start rest left ⊎ IsAllRead rest left
+StopsAtOperand fault.Truncated start rest left = IsTruncated start rest left ⊎ (IsBlanks rest × (left ≡ []))
 StopsAtOperand f start rest left = StopsReading (λ which w. ⊥) f start rest left
 
 -- ---- the end of a run
@@ -106,16 +101,14 @@ pub record AtNamed (on : Type 0) (p : Point) (name : List ℕ) (left : Option (L
   pub at : AtStream on p left stops
   pub named : at.stream.name ≡ name
 
--- memory was wanting before anything was read, at an opening, after which nothing is open, or in the open file
-abbrev pub LacksMemory : Type 0 → Point → Option (List ℕ) → Type 0
-LacksMemory on p left = (left ≡ p.left) ⊎ (((name : List ℕ) × WantsStream on p name × (left ≡ Some [])) ⊎ AtStream on p left WantsMemory)
-
 -- At which point a run may end with this fault, and what the inputs have left then. `name` is that of the file that was
--- tried last, where the line about the fault has a name. A write fault concerns an automaton that was read before.
+-- tried last, where the line about the fault has a name. A write fault concerns an automaton that was read before. Memory was
+-- wanting before anything was read, at an opening, after which nothing is open, or in the open file.
 abbrev pub StopsWhere : Type 0 → (RunFault → ℕ → List ℕ → List ℕ → Type 0) → RunFault → List ℕ → Point → Option (List ℕ) → Type 0
 StopsWhere on stops fault.CannotOpen name p left = WantsStream on p name × (left ≡ Some [])
 StopsWhere on stops fault.WriteFault name p left = left ≡ p.left
-StopsWhere on stops fault.Memory name p left = LacksMemory on p left
+StopsWhere on stops fault.Memory name p left =
+    (left ≡ p.left) ⊎ (((other : List ℕ) × WantsStream on p other × (left ≡ Some [])) ⊎ AtStream on p left WantsMemory)
 StopsWhere on stops f name p left = AtNamed on p name left (stops f)
 
 -- in the streams of a plan with these operands, where fewer automata were kept than `-n` asks for
@@ -134,7 +127,8 @@ taken_in _ _ = 0
 abbrev pub taken_until : Point → Option (List ℕ) → ℕ
 taken_until p left = p.before + taken_in p.stream left
 
--- the limit of bytes isn't passed, and is reached exactly where the fault reports it
+-- The limit of bytes isn't passed, and is reached where the fault is that it is. An end of input or a read fault comes before it.
 pub record IsCounted (f : RunFault) (p : Point) (left : Option (List ℕ)) : Type 0 where
   pub few : taken_until p left ≤ MOST_BYTES
-  pub within : IsWithinByteLimit (stop_of_run_fault f) (taken_until p left) MOST_BYTES
+  pub reached : f ≡ fault.Limit limit.Bytes → taken_until p left ≡ MOST_BYTES
+  pub below : (f ≡ fault.Truncated) ⊎ (f ≡ fault.ReadFault) → taken_until p left < MOST_BYTES

@@ -1,22 +1,24 @@
 -- What one step of a session does.
-use Rattle.std.specs.Prelude.{◌≡◌, ℕ, ◌+◌, ◌<◌, ◌⊎◌, Bool, true, false, List, length, slice_get, Some, None, Result, Ok, Err, IfOk, OnErr, OnOk}
+use Rattle.std.specs.Prelude.{◌≡◌, ℕ, ◌+◌, ◌<◌, ◌⊎◌, Bool, true, false, List, [], length, slice_get, Some, None, Result, Ok, Err, IfOk, OnErr, OnOk}
 use Rattle.aut_base.specs.declared.fault.OpenFail.{OpenFail}
 use Rattle.aut_base.specs.declared.fault.OpenFail.TheVariants as opening
+use Rattle.aut_base.specs.declared.limit.Limit.{Limit}
+use Rattle.aut_base.specs.declared.limit.Limit.TheVariants as limit
 use Rattle.aut_io.specs.Outside.{Gains, GainsPrefix, Rose}
 use Rattle.aut_io.specs.Seen.{Opens, Seen, SinkSeen}
 use Rattle.autfilt_run.specs.Due.{IsDue}
 use Rattle.autfilt_run.specs.Events.{IsGood}
-use Rattle.autfilt_run.specs.Faults.{stop_of_run_fault}
 use Rattle.autfilt_run.specs.Over.{IsOverLimit}
 use Rattle.autfilt_run.specs.Plans.{asks_on, prints_each, plan_streams}
 use Rattle.autfilt_run.specs.Points.{name_in, operands_in}
-use Rattle.autfilt_run.specs.Runs.{IsAllRead, StopsReading, WantsMemory}
+use Rattle.autfilt_run.specs.Runs.{StopsReading, WantsMemory}
 use Rattle.autfilt_run.specs.declared.fault.RunFault.{RunFault}
 use Rattle.autfilt_run.specs.declared.fault.RunFault.TheVariants as fault
 use Rattle.autfilt_run.specs.declared.session.Session.{Session}
 use Rattle.autfilt_run.specs.declared.session.Turn.{Turn}
 use Rattle.autfilt_run.specs.declared.session.Turn.TheVariants as turn
-use Rattle.hoa_lexer.specs.Moves.{MovesLexer, Stop, AtEnd, Elsewhere}
+use Rattle.hoa_lexer.specs.Blanks.{IsBlanks}
+use Rattle.hoa_lexer.specs.Moves.{MovesLexer, Stop, AtEnd, AtFault, AtMost, Elsewhere}
 use Rattle.hoa_lexer.specs.Reading.{Between}
 use Rattle.hoa_parser.specs.Raw.{Written}
 use Rattle.hoa_parser.specs.Standing.{Aborted, Stands}
@@ -65,6 +67,22 @@ pub record IsStill (seen seen' : Seen) (out out' : SinkSeen) : Type 0 where
 abbrev pub OpensNext : Seen → List ℕ → Result (Unit {0}) OpenFail → Seen → Type 0
 OpensNext seen name (Err opening.Memory) seen' = (seen' ≡ seen) ⊎ Opens seen name (Err opening.Memory) seen'
 OpensNext seen name r seen' = Opens seen name r seen'
+
+-- only blanks are left
+abbrev pub IsAllRead : List ℕ → List ℕ → Type 0
+IsAllRead rest left = IsBlanks rest × (left ≡ [])
+
+-- How a fault relates to the limit of bytes: that limit is reported where another byte is asked for after that many were
+-- taken, and the end of a text is seen by asking, too.
+abbrev pub stop_of_limit : Limit → Stop
+stop_of_limit limit.Bytes = AtMost
+stop_of_limit _ = Elsewhere
+
+abbrev pub stop_of_run_fault : RunFault → Stop
+stop_of_run_fault fault.Truncated = AtEnd
+stop_of_run_fault fault.ReadFault = AtFault
+stop_of_run_fault (fault.Limit which) = stop_of_limit which
+stop_of_run_fault _ = Elsewhere
 
 -- The open stream is read: `stands` holds of what the inputs had left before and have left after. Nothing is written.
 pub record ReadsInputs (stop : Stop) (stands : List ℕ → List ℕ → Type 0) (old new : Session) (seen seen' : Seen) (out out' : SinkSeen) : Type 0 where

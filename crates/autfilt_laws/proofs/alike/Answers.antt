@@ -9,7 +9,8 @@ use Rattle.aut_io.specs.Seen.{Seen, SinkSeen}
 use Rattle.autfilt_run.specs.Ends.{ended_of}
 use Rattle.autfilt_run.specs.Noted.{Notes}
 use Rattle.autfilt_run.specs.Notes.{line_of}
-use Rattle.autfilt_run.specs.Run.{AreAllRead, FailsInOperands, GoesOverAll, PrintsRun, RunsOver, RunsOverAs, RunsTo, all_noted, end_of, noted, passed_noted, tally_after}
+use Rattle.autfilt_run.specs.Run.{AreAllRead, FailsInOperands, GoesOverAll, PrintsRun, RunsOver, RunsOverAs, RunsTo, end_of, noted_of}
+use Rattle.autfilt_run.specs.inner.Running.{all_noted, passed_noted}
 use Rattle.autfilt_run.specs.declared.ended.End.{End}
 use Rattle.autfilt_run.specs.declared.ended.End.TheVariants as end
 use Rattle.autfilt_run.specs.declared.ended.Ended.{Ended}
@@ -112,7 +113,7 @@ module _ (p : Plan) (texts : Texts) (e : End) (taken : List OperandEvent) (event
 
 abbrev pub text_due : Plan → End → List Event → List ℕ
 text_due p (end.Fault f) events = all_written events
-text_due p e events = all_written events ++ count_text p (tally events).kept
+text_due p e events = all_written events ++ count_text p (tally 0 events).kept
 
 gains_text : (p : Plan) (e : End) (events : List Event) (old new : Option (List ℕ)) → IsByText e → PrintsRun p e events old new → Gains old new (text_due p e events)
 gains_text p end.Output events old new by_cases h = h
@@ -159,12 +160,12 @@ same_due p q e events same = ap (λ (z : Plan). text_due z e events) same.others
 
 -- ---- what is noted
 
-noted_like : (plan : Plan) (e f : Event) → IsLike plan e f → noted e ≡ noted f
-noted_like plan (Opened name) f like = ap noted (sym like)
-noted_like plan (Kept w text) f like = ap noted (sym like.1)
-noted_like plan (Dropped w) f like = ap noted (sym like)
-noted_like plan (Skipped name) f like = ap noted (sym like)
-noted_like plan event.Ended f like = ap noted (sym like)
+noted_like : (plan : Plan) (e f : Event) → IsLike plan e f → noted_of e ≡ noted_of f
+noted_like plan (Opened name) f like = ap noted_of (sym like)
+noted_like plan (Kept w text) f like = ap noted_of (sym like.1)
+noted_like plan (Dropped w) f like = ap noted_of (sym like)
+noted_like plan (Skipped name) f like = ap noted_of (sym like)
+noted_like plan event.Ended f like = ap noted_of (sym like)
 
 all_noted_like : (plan : Plan) (es fs : List Event) → AreLike plan es fs → all_noted es ≡ all_noted fs
 all_noted_like plan [] [] like = refl
@@ -234,6 +235,6 @@ all_read t = by_cases (t.skipped == 0) (t.kept == 0)
 pub answer_completes : OnePlan → Completes → AnswerCompletes
 answer_completes plans completes words plan texts a is readable other d =
     let c = came plans words plan texts a is d in
-    let whole : a.answer ≡ ended_of (end_of (tally_after (length (all_passed c.o.taken)) c.o.events)) = c.shown
+    let whole : a.answer ≡ ended_of (end_of (tally (length (all_passed c.o.taken)) c.o.events)) = c.shown
     ∙ ap ended_of (completes plan texts a.inputs.left c.o readable (λ e. other (c.shown ∙ ap ended_of e)) c.is) in
-    subst (λ (r : Ended). (r ≡ ended.Output) ⊎ ((r ≡ ended.NoneOutput) ⊎ (r ≡ ended.Aborts))) (sym whole) (all_read (tally_after (length (all_passed c.o.taken)) c.o.events))
+    subst (λ (r : Ended). (r ≡ ended.Output) ⊎ ((r ≡ ended.NoneOutput) ⊎ (r ≡ ended.Aborts))) (sym whole) (all_read (tally (length (all_passed c.o.taken)) c.o.events))

@@ -7,16 +7,16 @@ use Rattle.autfilt_run.specs.Notes.{line_of, line_of_fault}
 use Rattle.autfilt_run.specs.Run.{EndsAt}
 use Rattle.autfilt_run.specs.declared.ended.End.{End}
 use Rattle.autfilt_run.specs.declared.ended.End.TheVariants as end
+use Rattle.autfilt_laws.proofs.alike.AtBytes.{asks_at_bytes}
 use Rattle.autfilt_laws.proofs.alike.BadPlaces.{one_bad_place}
 use Rattle.autfilt_laws.proofs.alike.Full.{IsFitted, full_same}
 use Rattle.autfilt_laws.proofs.alike.Looks.{one_stream, whole_is}
 use Rattle.autfilt_laws.specs.Runs.{IsByText, TellsName}
-use Rattle.autfilt_run.proofs.handling.PassedLimits.{told_bytes}
+use Rattle.autfilt_run.proofs.handling.PassedLimits.{plan_passes}
 use Rattle.autfilt_run.specs.Events.{Point, Stream, bytes_before}
-use Rattle.autfilt_run.specs.Faults.{Told, AtToken, AtByte, OfWhole, when_told}
 use Rattle.autfilt_run.specs.Over.{IsOverLimit}
 use Rattle.autfilt_run.specs.Plans.{asks_on}
-use Rattle.autfilt_run.specs.Runs.{AtNamed, IsCounted, StandsWith, StopsReading, StopsAtLimit, StopsAtOperand, StopsInOperands, StopsWhere}
+use Rattle.autfilt_run.specs.Runs.{AtNamed, IsCounted, IsTooDeep, StandsWith, StopsReading, StopsAtLimit, StopsAtOperand, StopsInOperands, StopsWhere}
 use Rattle.autfilt_run.specs.declared.fault.RunFault.{RunFault}
 use Rattle.autfilt_run.specs.declared.fault.RunFault.TheVariants as fault
 use Rattle.filter_plan.specs.declared.plan.Plan.{Plan}
@@ -25,7 +25,6 @@ use Rattle.hoa_parser.specs.Raw.{Written}
 use Rattle.hoa_parser.specs.Reads.{AsksOn}
 use Rattle.hoa_parser.specs.Standing as standing
 use Rattle.hoa_parser.specs.Standing.{OneStanding}
-use Rattle.hoa_reader.specs.Elaborating.{PassesLimit}
 
 -- the open file has the name in hand
 pub at_named : (on : Type 0) (stops : RunFault → ℕ → List ℕ → List ℕ → Type 0) (f : RunFault) (name : List ℕ) (p : Point) (left : Option (List ℕ))
@@ -47,11 +46,20 @@ one_behind one P start rest x y a b =
     let is = one start rest (standing.Whole a.automaton x) (standing.Whole b.automaton y) a.whole b.whole in
     (whole_is a.automaton b.automaton x y is).1
 
--- at a limit, by when it is noticed
-one_at_limit : OneStanding → (P : Written → Type 0) (t : Told) (start : ℕ) (rest x y : List ℕ) → (t ≡ AtByte → x ≡ y) → StopsAtLimit t P start rest x → StopsAtLimit t P start rest y → x ≡ y
-one_at_limit one P AtToken start rest x y full a b = one_deep_end start rest x y a.ends b.ends
-one_at_limit one P AtByte start rest x y full a b = full refl
-one_at_limit one P OfWhole start rest x y full a b = one_behind one P start rest x y a b
+-- no automaton is whole where a token nests too deep
+not_both : OneStanding → (P : Written → Type 0) (start : ℕ) (rest x y : List ℕ) → IsTooDeep start rest x → StandsWith P start rest y → ⊥
+not_both one P start rest x y a b = let none : standing.Deep ≡ standing.Whole b.automaton y = one start rest standing.Deep (standing.Whole b.automaton y) a.deep b.whole in cc
+
+-- at a limit, by when it is told
+one_at_limit : OneStanding → (over : Limit → Written → Type 0) (which : Limit) (start : ℕ) (rest x y : List ℕ) → (which ≡ limit.Bytes → x ≡ y)
+    → StopsAtLimit which over start rest x → StopsAtLimit which over start rest y → x ≡ y
+one_at_limit one over which start rest x y full (inl a) (inl b) = one_deep_end start rest x y a.1.ends b.1.ends
+one_at_limit one over which start rest x y full (inl a) (inr (inl b)) = full b.0
+one_at_limit one over which start rest x y full (inl a) (inr (inr b)) = absurd (not_both one _ start rest x y a.1 b)
+one_at_limit one over which start rest x y full (inr (inl a)) b = full a.0
+one_at_limit one over which start rest x y full (inr (inr a)) (inl b) = absurd (not_both one _ start rest y x b.1 a)
+one_at_limit one over which start rest x y full (inr (inr a)) (inr (inl b)) = full b.0
+one_at_limit one over which start rest x y full (inr (inr a)) (inr (inr b)) = one_behind one _ start rest x y a b
 
 -- what is left when a run ends with this fault in one text is unique
 abbrev IsOneLeft : (RunFault → ℕ → List ℕ → List ℕ → Type 0) → RunFault → Type 0
@@ -63,7 +71,7 @@ one_left one over (fault.SyntaxAt k) by start rest x y full a b = one_bad_place 
 one_left one over fault.Truncated by start rest x y full a b = a.nothing ∙ sym b.nothing
 one_left one over (fault.Invalid rule) by start rest x y full a b = one_behind one _ start rest x y a b
 one_left one over (fault.Limit which) by start rest x y full a b =
-    one_at_limit one (λ w. PassesLimit which w ⊎ over which w) (when_told which) start rest x y (λ is. full (ap fault.Limit (told_bytes which is))) a b
+    one_at_limit one over which start rest x y (λ is. full (ap fault.Limit is)) a b
 one_left one over fault.CannotOpen by start rest x y full a b = absurd by
 one_left one over fault.ReadFault by start rest x y full a b = absurd by
 one_left one over fault.WriteFault by start rest x y full a b = absurd by
@@ -119,7 +127,7 @@ one_place on stops f p n m l k by fitted asking one x c y d =
 pub one_place_before : OneStanding → (f : RunFault) (p : Point) (n m : List ℕ) (l k : Option (List ℕ)) → IsByText (end.Fault f) → IsFitted p
     → StopsInOperands f n p l → IsCounted f p l → StopsInOperands f m p k → IsCounted f p k → IsOnePlace (end.Fault f) n m l k
 one_place_before one f p n m l k by fitted x c y d =
-    one_place (Unit {0}) StopsAtOperand f p n m l k by fitted (λ start rest now h. h) (one_left_in_operand one f) x c y d
+    one_place (Unit {0}) StopsAtOperand f p n m l k by fitted (λ start rest now h. asks_at_bytes (λ which w. ⊥) (λ which w o. absurd o) start rest now h) (one_left_in_operand one f) x c y d
 
 -- where all was read
 place_behind : (e : End) (n m : List ℕ) (l k : Option (List ℕ)) → (TellsName e → ⊥) → l ≡ k → IsOnePlace e n m l k
@@ -129,7 +137,8 @@ place_behind e n m l k none same = record { name = λ tells. absurd (none tells)
 pub one_place_in_streams : OneStanding → (plan : Plan) (ops : List Automaton) (e : End) (p : Point) (n m : List ℕ) (l k : Option (List ℕ)) → IsByText e → IsFitted p
     → EndsAt plan ops e n p l → EndsAt plan ops e m p k → IsOnePlace e n m l k
 one_place_in_streams one plan ops (end.Fault f) p n m l k by fitted x y =
-    one_place (asks_on plan p.kept ≡ true) (StopsReading (λ which w. IsOverLimit which plan ops w)) f p n m l k by fitted (λ start rest now h. h)
+    one_place (asks_on plan p.kept ≡ true) (StopsReading (λ which w. IsOverLimit which plan ops w)) f p n m l k by fitted
+    (λ start rest now h. asks_at_bytes (λ which w. IsOverLimit which plan ops w) (λ which w o. plan_passes which plan ops w o) start rest now h)
     (one_left one (λ which w. IsOverLimit which plan ops w) f) x.0 x.1 y.0 y.1
 one_place_in_streams one plan ops end.Output p n m l k by fitted x y = place_behind end.Output n m l k (λ tells. tells) (x.1 ∙ sym y.1)
 one_place_in_streams one plan ops end.NoneOutput p n m l k by fitted x y = place_behind end.NoneOutput n m l k (λ tells. tells) (x.1 ∙ sym y.1)

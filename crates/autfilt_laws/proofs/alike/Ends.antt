@@ -3,7 +3,9 @@ use Rattle.std.proofs.Common.{◌≡◌, ℕ, ◌+◌, true, List, [], ◌∷◌
 use Rattle.std.proofs.lemmas.Bool.{false≢true}
 use Rattle.aut_base.specs.Automaton.{Automaton}
 use Rattle.aut_io.specs.Outside.{Texts}
-use Rattle.autfilt_run.specs.Run.{EndsAt, EndsByTally, end_of, tally_after}
+use Rattle.autfilt_laws.proofs.alike.Tallied.{IsTallied, of_all}
+use Rattle.autfilt_run.proofs.handling.PassedLimits.{plan_passes}
+use Rattle.autfilt_run.specs.Run.{EndsAt, end_of}
 use Rattle.autfilt_run.specs.declared.ended.End.{End}
 use Rattle.autfilt_run.specs.declared.ended.End.TheVariants as end
 use Rattle.autfilt_laws.proofs.alike.EndPlaces.{at_named}
@@ -14,7 +16,7 @@ use Rattle.autfilt_laws.proofs.alike.Looks.{look_at, look_behind, look_over}
 use Rattle.autfilt_laws.proofs.alike.Steps.{one_next}
 use Rattle.autfilt_laws.proofs.alike.Verdicts.{AreOne, dropped_is_within, kept_is_within, one_over}
 use Rattle.autfilt_laws.specs.Runs.{AreLike, IsByText}
-use Rattle.autfilt_run.specs.Events.{AreJudged, Dropped, Ended, Event, EventLeads, Happen, IsEventJudged, Kept, Opened, Point, Skipped}
+use Rattle.autfilt_run.specs.Events.{AreJudged, Dropped, Ended, Event, EventLeads, Happen, IsEventJudged, Kept, Opened, Point, Skipped, tally}
 use Rattle.autfilt_run.specs.Over.{IsOverLimit}
 use Rattle.autfilt_run.specs.Plans.{asks_on}
 use Rattle.autfilt_run.specs.Runs.{IsDone, StopsReading}
@@ -40,17 +42,17 @@ IsStopped plan ops p f = Stopped (asks_on plan p.kept ≡ true) (in_streams plan
 -- a run that read all, or that ended by what is next in a stream
 abbrev pub Ends : Plan → List Automaton → ℕ → Point → List Event → End → Type 0
 Ends plan ops passed p events (end.Fault f) = IsStopped plan ops p f
-Ends plan ops passed p events e = IsDone plan p × (e ≡ end_of (tally_after passed events))
+Ends plan ops passed p events e = IsDone plan p × (e ≡ end_of (tally passed events))
 
 pub ends_at : (plan : Plan) (ops : List Automaton) (passed : ℕ) (e : End) (events : List Event) (name : List ℕ) (p : Point) (left : Option (List ℕ))
-    → IsByText e → IsFitted p → EndsByTally e passed events → EndsAt plan ops e name p left → Ends plan ops passed p events e
-ends_at plan ops passed end.Output events name p left by fitted t h = (h.0, t)
-ends_at plan ops passed end.NoneOutput events name p left by fitted t h = (h.0, t)
-ends_at plan ops passed end.Aborts events name p left by fitted t h = (h.0, t)
+    → IsByText e → IsFitted p → IsTallied e passed events → EndsAt plan ops e name p left → Ends plan ops passed p events e
+ends_at plan ops passed end.Output events name p left by fitted t h = (h.0, of_all end.Output passed events (λ f is. cc) t)
+ends_at plan ops passed end.NoneOutput events name p left by fitted t h = (h.0, of_all end.NoneOutput passed events (λ f is. cc) t)
+ends_at plan ops passed end.Aborts events name p left by fitted t h = (h.0, of_all end.Aborts passed events (λ f is. cc) t)
 ends_at plan ops passed end.Usage events name p left by fitted t h = absurd by
 ends_at plan ops passed (end.Fault f) events name p left by fitted t h =
     let named = at_named (asks_on plan p.kept ≡ true) (StopsReading (λ which w. IsOverLimit which plan ops w)) f name p left by h.0 in
-    stopped (asks_on plan p.kept ≡ true) (in_streams plan ops) f p left by fitted named.at h.1
+    stopped (asks_on plan p.kept ≡ true) (in_streams plan ops) (λ which w o. plan_passes which plan ops w o) f p left by fitted named.at h.1
 
 -- ---- no event happens at a point where the run has ended
 

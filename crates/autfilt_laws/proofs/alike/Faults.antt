@@ -4,13 +4,13 @@ use Rattle.std.proofs.Common.{◌≡◌, ◌⊎◌, ℕ, List, Option, Some, Non
 use Rattle.aut_base.specs.declared.limit.Limit.{Limit}
 use Rattle.aut_base.specs.declared.limit.Limit.TheVariants as limit
 use Rattle.autfilt_run.specs.declared.ended.End.TheVariants as end
+use Rattle.autfilt_laws.proofs.alike.AtBytes.{asks_at_bytes}
 use Rattle.autfilt_laws.proofs.alike.Full.{IsFitted, IsFull, full_apart, full_apart_there, one_full}
 use Rattle.autfilt_laws.proofs.alike.Limits.{no_count, one_limit}
 use Rattle.autfilt_laws.proofs.alike.Looks.{Look, one_standing_in}
 use Rattle.autfilt_laws.specs.Runs.{IsByText}
-use Rattle.autfilt_run.proofs.handling.PassedLimits.{told_bytes, told_depth}
+use Rattle.autfilt_run.proofs.handling.PassedLimits.{IsOfWhole}
 use Rattle.autfilt_run.specs.Events.{Point, Stream, bytes_before}
-use Rattle.autfilt_run.specs.Faults.{Told, AtToken, AtByte, OfWhole, when_told}
 use Rattle.autfilt_run.specs.Runs.{AtStream, IsCounted, StandsWith, StopsReading, StopsAtLimit, StopsAtOperand}
 use Rattle.autfilt_run.specs.declared.fault.RunFault.{RunFault}
 use Rattle.autfilt_run.specs.declared.fault.RunFault.TheVariants as fault
@@ -107,18 +107,17 @@ past : (a : Asking) (which : Limit) (start : ℕ) (rest left : List ℕ) → Sta
 past a which start rest left h = record { what = standing.Whole h.automaton left; stands = h.whole; fits = inr (which, refl, h.holds) }
 
 -- at a limit
-shown_at : (a : Asking) (which : Limit) (t : Told) (start : ℕ) (rest left : List ℕ) → when_told which ≡ t → (t ≡ AtByte → ⊥)
-    → StopsAtLimit t (λ w. PassesLimit which w ⊎ a.over which w) start rest left → Shown a start rest (fault.Limit which)
-shown_at a which AtToken start rest left is none h = record { what = standing.Deep; stands = h.deep; fits = ap fault.Limit (told_depth which is) }
-shown_at a which AtByte start rest left is none h = absurd (none refl)
-shown_at a which OfWhole start rest left is none h = past a which start rest left h
+shown_at : (a : Asking) (which : Limit) (start : ℕ) (rest left : List ℕ) → which ≢ limit.Bytes → StopsAtLimit which (λ x w. a.over x w) start rest left → Shown a start rest (fault.Limit which)
+shown_at a which start rest left none (inl h) = record { what = standing.Deep; stands = h.1.deep; fits = ap fault.Limit h.0 }
+shown_at a which start rest left none (inr (inl h)) = absurd (none h.0)
+shown_at a which start rest left none (inr (inr h)) = past a which start rest left h
 
 shown : (a : Asking) (f : RunFault) (start : ℕ) (rest left : List ℕ) → IsByText (end.Fault f) → (f ≡ fault.Limit limit.Bytes → ⊥) → StopsReading (λ which w. a.over which w) f start rest left
     → Shown a start rest f
 shown a (fault.SyntaxAt k) start rest left by other h = record { what = standing.Bad k; stands = h.bad; fits = refl }
 shown a fault.Truncated start rest left by other h = record { what = standing.Cut; stands = h.cut; fits = refl }
 shown a (fault.Invalid rule) start rest left by other h = record { what = standing.Whole h.automaton left; stands = h.whole; fits = inl (rule, refl, h.holds) }
-shown a (fault.Limit which) start rest left by other h = shown_at a which (when_told which) start rest left refl (λ is. other (ap fault.Limit (told_bytes which is))) h
+shown a (fault.Limit which) start rest left by other h = shown_at a which start rest left (λ is. other (ap fault.Limit is)) h
 shown a fault.CannotOpen start rest left by other h = absurd by
 shown a fault.ReadFault start rest left by other h = absurd by
 shown a fault.WriteFault start rest left by other h = absurd by
@@ -166,12 +165,17 @@ is_bytes : (f : RunFault) → (f ≡ fault.Limit limit.Bytes) ⊎ (f ≡ fault.L
 is_bytes (fault.Limit limit.Bytes) = inl refl
 is_bytes _ = inr (λ e. cc)
 
-asking_bytes : (over : Limit → Written → Type 0) (f : RunFault) → f ≡ fault.Limit limit.Bytes → (start : ℕ) (rest now : List ℕ) → StopsReading over f start rest now → AsksOn start rest now
-asking_bytes over f is start rest now h = subst (λ (g : RunFault). StopsReading over g start rest now) is h
+-- the limits after reading are told of an automaton that was read whole
+abbrev pub AreOfWhole : (Limit → Written → Type 0) → Type 0
+AreOfWhole over = (which : Limit) (w : Written) → over which w → IsOfWhole which
 
-pub stopped : (on : Type 0) (a : Asking) (f : RunFault) (p : Point) (left : Option (List ℕ)) → IsByText (end.Fault f) → IsFitted p → AtStream on p left (StopsReading (λ which w. a.over which w) f)
+asking_bytes : (over : Limit → Written → Type 0) → AreOfWhole over → (f : RunFault) → f ≡ fault.Limit limit.Bytes → (start : ℕ) (rest now : List ℕ) → StopsReading over f start rest now
+    → AsksOn start rest now
+asking_bytes over whole f is start rest now h = asks_at_bytes over whole start rest now (subst (λ (g : RunFault). StopsReading over g start rest now) is h)
+
+pub stopped : (on : Type 0) (a : Asking) → AreOfWhole (λ which w. a.over which w) → (f : RunFault) (p : Point) (left : Option (List ℕ)) → IsByText (end.Fault f) → IsFitted p → AtStream on p left (StopsReading (λ which w. a.over which w) f)
     → IsCounted f p left → Stopped on a p f
-stopped on a f p left by fitted h c = go (is_bytes f)
+stopped on a whole f p left by fitted h c = go (is_bytes f)
   where
     go : (f ≡ fault.Limit limit.Bytes) ⊎ (f ≡ fault.Limit limit.Bytes → ⊥) → Stopped on a p f
     go (inr other) = inl (record { halted = halted on a f p left by other h; within = full_apart on (λ which w. a.over which w) p left fitted f by h c other })
@@ -179,7 +183,7 @@ stopped on a f p left by fitted h c = go (is_bytes f)
         inr (record {
           asks = h.asks;
           is = is;
-          full = one_full on (StopsReading (λ which w. a.over which w) f) p left (asking_bytes (λ which w. a.over which w) f is) h (subst (λ (g : RunFault). IsCounted g p left) is c);
+          full = one_full on (StopsReading (λ which w. a.over which w) f) p left (asking_bytes (λ which w. a.over which w) whole f is) h (subst (λ (g : RunFault). IsCounted g p left) is c);
         })
 
 -- ---- where an operand is read
@@ -208,7 +212,8 @@ shown_in_operand fault.WriteFault start rest left by other h = absurd by
 shown_in_operand fault.Memory start rest left by other h = absurd by
 
 asking_there : (f : RunFault) → f ≡ fault.Limit limit.Bytes → (start : ℕ) (rest now : List ℕ) → StopsAtOperand f start rest now → AsksOn start rest now
-asking_there f is start rest now h = subst (λ (g : RunFault). StopsAtOperand g start rest now) is h
+asking_there f is start rest now h =
+    asks_at_bytes (λ which w. ⊥) (λ which w o. absurd o) start rest now (subst (λ (g : RunFault). StopsAtOperand g start rest now) is h)
 
 pub stopped_in_operand : (f : RunFault) (p : Point) (left : Option (List ℕ)) → IsByText (end.Fault f) → IsFitted p → AtStream (Unit {0}) p left (StopsAtOperand f) → IsCounted f p left
     → Stopped (Unit {0}) in_operands p f

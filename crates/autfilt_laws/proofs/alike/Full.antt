@@ -10,9 +10,8 @@ use Rattle.autfilt_laws.proofs.alike.BadPlaces.{asked_leaves, no_earlier}
 use Rattle.autfilt_laws.proofs.alike.Looks.{one_stream}
 use Rattle.autfilt_laws.proofs.existence.Shorter.{aborted_less, whole_less}
 use Rattle.autfilt_laws.specs.Runs.{IsByText}
-use Rattle.autfilt_run.proofs.handling.PassedLimits.{told_bytes}
-use Rattle.autfilt_run.specs.Events.{Dropped, Ended, Event, EventLeads, Happen, Kept, Opened, Point, Skipped, Stream, bytes_before, read_on, start_of}
-use Rattle.autfilt_run.specs.Faults.{Told, AtToken, AtByte, OfWhole, when_told}
+use Rattle.autfilt_run.proofs.turns.Points.{read_on}
+use Rattle.autfilt_run.specs.Events.{Dropped, Ended, Event, EventLeads, Happen, Kept, Opened, Point, Skipped, Stream, bytes_before, start_of}
 use Rattle.autfilt_run.specs.OperandEvents.{AreRead, FileOpened, OperandEvent, PassedOver, Proceeds, Taken}
 use Rattle.autfilt_run.specs.Runs.{AtStream, IsCounted, StopsReading, StopsAtLimit, StopsAtOperand, taken_in, taken_until}
 use Rattle.autfilt_run.specs.declared.fault.RunFault.{RunFault}
@@ -21,7 +20,6 @@ use Rattle.filter_plan.specs.declared.plan.Plan.{Plan}
 use Rattle.hoa_parser.specs.Raw.{Written}
 use Rattle.hoa_parser.specs.Reads.{AsksOn, EndsDeep, IsHopeless}
 use Rattle.hoa_parser.specs.Standing.{IsAborted, IsWhole}
-use Rattle.hoa_reader.specs.Elaborating.{PassesLimit}
 
 -- the limit of bytes is reached, and another byte is needed
 pub record IsFull (p : Point) : Type 0 where
@@ -165,16 +163,16 @@ module _ (on : Type 0) (over : Limit → Written → Type 0) (p : Point) (left :
   all_taken stops c a none =
       let taken : taken_until p left ≡ p.before + bytes_before a.stream.text [] = taken_there p a.stream left a.now a.is_open a.told
       ∙ ap (λ (x : List ℕ). p.before + bytes_before a.stream.text x) none in
-      let less : p.before + bytes_before a.stream.text [] < MOST_BYTES = subst (λ (n : ℕ). n < MOST_BYTES) taken c.within in
+      let less : p.before + bytes_before a.stream.text [] < MOST_BYTES = subst (λ (n : ℕ). n < MOST_BYTES) taken (c.below (inl refl)) in
       omega (arith, less)
 
   limit_apart : (which : Limit) → AtStream on p left (StopsReading over (fault.Limit which)) → IsCounted (fault.Limit which) p left → (which ≡ limit.Bytes → ⊥) → IsFull p → ⊥
-  limit_apart which a c other h = by_cases (when_told which) (λ is. other (told_bytes which is)) a.stands
+  limit_apart which a c other h = by_cases a.stands
     where
-      by_cases : (t : Told) → (t ≡ AtByte → ⊥) → StopsAtLimit t (λ w. PassesLimit which w ⊎ over which w) (bytes_before a.stream.text a.stream.rest) a.stream.rest a.now → ⊥
-      by_cases AtToken none s = not_deep p fitted h a.stream a.is_open a.now s.ends (few_taken _ _ c a)
-      by_cases AtByte none s = none refl
-      by_cases OfWhole none s = not_whole p fitted h a.stream a.is_open s.automaton a.now s.whole (few_taken _ _ c a)
+      by_cases : StopsAtLimit which over (bytes_before a.stream.text a.stream.rest) a.stream.rest a.now → ⊥
+      by_cases (inl s) = not_deep p fitted h a.stream a.is_open a.now s.1.ends (few_taken _ _ c a)
+      by_cases (inr (inl s)) = other s.0
+      by_cases (inr (inr s)) = not_whole p fitted h a.stream a.is_open s.automaton a.now s.whole (few_taken _ _ c a)
 
   pub full_apart : (f : RunFault) → IsByText (end.Fault f) → AtStream on p left (StopsReading over f) → IsCounted f p left → (f ≡ fault.Limit limit.Bytes → ⊥) → IsFull p → ⊥
   full_apart (fault.SyntaxAt k) by_cases a c other h = not_bad p fitted h a.stream a.is_open k a.now a.stands.shown (few_taken _ _ c a)
@@ -222,8 +220,8 @@ asked_same start text x y a b size =
 pub full_same : (p : Point) (s : Stream) (l k : Option (List ℕ)) (x y : List ℕ) → IsFitted p → p.stream ≡ Some s → l ≡ Some x → k ≡ Some y → AsksOn (bytes_before s.text s.rest) s.rest x
     → AsksOn (bytes_before s.text s.rest) s.rest y → IsCounted (fault.Limit limit.Bytes) p l → IsCounted (fault.Limit limit.Bytes) p k → x ≡ y
 full_same p s l k x y fitted is left left' a b c d =
-    let first : p.before + bytes_before s.text x ≡ MOST_BYTES = sym (taken_there p s l x is left) ∙ c.within in
-    let second : p.before + bytes_before s.text y ≡ MOST_BYTES = sym (taken_there p s k y is left') ∙ d.within in
+    let first : p.before + bytes_before s.text x ≡ MOST_BYTES = sym (taken_there p s l x is left) ∙ c.reached refl in
+    let second : p.before + bytes_before s.text y ≡ MOST_BYTES = sym (taken_there p s k y is left') ∙ d.reached refl in
     asked_same (bytes_before s.text s.rest) s.rest x y a b
     (omega (arith, first, second, asked_fewer (bytes_before s.text s.rest) s.rest x a, asked_fewer (bytes_before s.text s.rest) s.rest y b, fitted s is))
 
@@ -234,5 +232,5 @@ one_full on stops p left asking a c = record {
   is_open = a.is_open;
   new = a.now;
   asks = asking (bytes_before a.stream.text a.stream.rest) a.stream.rest a.now a.stands;
-  full = sym (taken_there p a.stream left a.now a.is_open a.told) ∙ c.within;
+  full = sym (taken_there p a.stream left a.now a.is_open a.told) ∙ c.reached refl;
 }

@@ -1,8 +1,9 @@
 -- What is next in the rest of the open file, and the point that it leads to, are unique.
 use Rattle.std.proofs.Common.{◌≡◌, ℕ, List, [], Option, Some, None, sym, ap, ◌∙◌, subst}
 use Rattle.aut_io.specs.Outside.{Texts}
-use Rattle.autfilt_run.specs.Events.{EndsStream, IsGood, OpensStream, PassesOver, Point, ReadsOn, Stream, at_stream_end, bytes_before, read_on}
-use Rattle.autfilt_run.specs.OperandEvents.{TakesOperand, taken_at}
+use Rattle.autfilt_run.proofs.turns.Points.{at_stream_end, read_on, taken_at}
+use Rattle.autfilt_run.specs.Events.{EndsStream, IsGood, OpensStream, PassesOver, Point, ReadsOn, Stream, bytes_before}
+use Rattle.autfilt_run.specs.OperandEvents.{TakesOperand}
 use Rattle.hoa_parser.specs.Raw.{Written}
 use Rattle.hoa_parser.specs.Standing as standing
 use Rattle.hoa_parser.specs.Standing.{OneStanding, Standing, Stands}

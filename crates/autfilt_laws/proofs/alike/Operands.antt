@@ -3,8 +3,9 @@ use Rattle.std.proofs.Common.{◌≡◌, ◌⊎◌, ℕ, List, [], ◌∷◌, �
 use Rattle.aut_io.specs.Outside.{Texts, text_of}
 use Rattle.autfilt_laws.proofs.alike.Looks.{Look, aborted_is, look_over, look_taken, one_look, one_point, one_stream, unopened, whole_is}
 use Rattle.autfilt_laws.specs.Runs.{OperandRunsAgree}
+use Rattle.autfilt_run.proofs.turns.Points.{taken_at}
 use Rattle.autfilt_run.specs.Events.{OpensStream, PassesOver, Point, Stream, opened_at}
-use Rattle.autfilt_run.specs.OperandEvents.{AreRead, FileOpened, OperandEvent, PassedOver, Proceeds, Taken, taken_at}
+use Rattle.autfilt_run.specs.OperandEvents.{AreRead, FileOpened, OperandEvent, PassedOver, Proceeds, Taken}
 use Rattle.hoa_parser.specs.Raw.{Written}
 use Rattle.hoa_parser.specs.Standing as standing
 use Rattle.hoa_parser.specs.Standing.{OneStanding}

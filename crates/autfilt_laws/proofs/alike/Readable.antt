@@ -3,7 +3,7 @@ use Rattle.std.proofs.Common.{◌≡◌, ◌≢◌, ◌⊎◌, ◌∙◌, ℕ, L
 use Rattle.aut_base.specs.Automaton.{Automaton}
 use Rattle.aut_base.specs.declared.limit.Limit.TheVariants as limit
 use Rattle.aut_io.specs.Outside.{Texts}
-use Rattle.autfilt_run.specs.Run.{end_of, tally_after}
+use Rattle.autfilt_run.specs.Run.{end_of}
 use Rattle.autfilt_run.specs.declared.ended.End.{End}
 use Rattle.autfilt_run.specs.declared.ended.End.TheVariants as end
 use Rattle.autfilt_laws.proofs.alike.Ends.{Ends, IsStopped, ends_at, in_streams}
@@ -12,7 +12,7 @@ use Rattle.autfilt_laws.proofs.alike.Full.{fitted_happen, fitted_start}
 use Rattle.autfilt_laws.proofs.alike.OperandEnds.{IsStoppedIn}
 use Rattle.autfilt_laws.proofs.alike.Runs.{is_stopped}
 use Rattle.autfilt_laws.specs.Runs.{AreReadable, Completes, EndsBefore, EndsInStreams, IsByText, IsReadable, Outcome, left_or, streams_from, texts_or}
-use Rattle.autfilt_run.specs.Events.{Event, Point, Stream, bytes_before}
+use Rattle.autfilt_run.specs.Events.{Event, Point, Stream, bytes_before, tally}
 use Rattle.autfilt_run.specs.OperandEvents.{all_passed, operands_read}
 use Rattle.autfilt_run.specs.Over.{IsOverLimit}
 use Rattle.autfilt_run.specs.Plans.{asks_on, plan_streams}
@@ -54,7 +54,7 @@ abbrev IsOther : End → Type 0
 IsOther e = e ≢ end.Fault (fault.Limit limit.Bytes)
 
 read_all : OneStanding → (plan : Plan) (ops : List Automaton) (passed : ℕ) (p : Point) (events : List Event) (e : End) → IsOther e
-    → (asks_on plan p.kept ≡ true → (s : Stream) → p.stream ≡ Some s → IsFair plan ops s) → Ends plan ops passed p events e → e ≡ end_of (tally_after passed events)
+    → (asks_on plan p.kept ≡ true → (s : Stream) → p.stream ≡ Some s → IsFair plan ops s) → Ends plan ops passed p events e → e ≡ end_of (tally passed events)
 read_all one plan ops passed p events end.Output other readable h = h.1
 read_all one plan ops passed p events end.NoneOutput other readable h = h.1
 read_all one plan ops passed p events end.Aborts other readable h = h.1
@@ -70,7 +70,7 @@ not_before one plan texts left o readable by other h = go (is_stopped plan texts
     go (inr k) = other (h.ends ∙ ap end.Fault k.is)
 
 behind : OneStanding → (plan : Plan) (texts : Texts) (left : Option (List ℕ)) (o : Outcome) → AreReadable plan texts left → IsByText o.end → IsOther o.end
-    → EndsInStreams plan texts left o → o.end ≡ end_of (tally_after (length (all_passed o.taken)) o.events)
+    → EndsInStreams plan texts left o → o.end ≡ end_of (tally (length (all_passed o.taken)) o.events)
 behind one plan texts left o readable by other h =
     let ops = operands_read o.taken in
     let passed = length (all_passed o.taken) in
@@ -83,6 +83,6 @@ behind one plan texts left o readable by other h =
 pub completes : OneStanding → Completes
 completes one plan texts left o readable other a = go a.ran
   where
-    go : EndsBefore plan texts left o ⊎ EndsInStreams plan texts left o → o.end ≡ end_of (tally_after (length (all_passed o.taken)) o.events)
+    go : EndsBefore plan texts left o ⊎ EndsInStreams plan texts left o → o.end ≡ end_of (tally (length (all_passed o.taken)) o.events)
     go (inl h) = absurd (not_before one plan texts left o readable a.by_text other h)
     go (inr h) = behind one plan texts left o readable a.by_text other h

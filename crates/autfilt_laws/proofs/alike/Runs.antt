@@ -2,7 +2,8 @@
 use Rattle.std.proofs.Common.{◌≡◌, ◌⊎◌, ℕ, List, Option, sym, ap, ◌∙◌, subst, inl, inr, length}
 use Rattle.aut_io.specs.Outside.{Texts}
 use Rattle.autfilt_run.specs.Notes.{line_of}
-use Rattle.autfilt_run.specs.Run.{AreAllRead, EndsAt, EndsByTally}
+use Rattle.autfilt_laws.proofs.alike.Tallied.{IsTallied}
+use Rattle.autfilt_run.specs.Run.{AreAllRead, EndsAt}
 use Rattle.autfilt_run.specs.declared.ended.End.{End}
 use Rattle.autfilt_run.specs.declared.ended.End.TheVariants as end
 use Rattle.autfilt_laws.proofs.alike.EndPlaces.{IsOnePlace, one_line_about, one_place_before, one_place_in_streams}
@@ -85,7 +86,7 @@ record StreamsEnd (plan : Plan) (texts : Texts) (taken : List OperandEvent) (fir
   point : Point
   judged : AreJudged plan (operands_read taken) o.events
   happen : Happen plan (texts_or plan.made texts) o.events (streams_from plan first) point
-  tallied : EndsByTally o.end (length (all_passed taken)) o.events
+  tallied : IsTallied o.end (length (all_passed taken)) o.events
   ends : EndsAt plan (operands_read taken) o.end o.name point o.left
 
 streams_end : (plan : Plan) (texts : Texts) (left : Option (List ℕ)) (o : Outcome) → (h : EndsInStreams plan texts left o) → StreamsEnd plan texts o.taken h.point o

@@ -1,6 +1,7 @@
 -- What holds of a run of a plan holds for an equal plan, wherever its patterns are stored.
 use Rattle.std.proofs.Common.{◌≡◌, ◌∙◌, ◌⊎◌, ℕ, Bool, true, false, List, [], ◌∷◌, Option, Some, None, ap, inl, inr, refl, subst, sym}
-use Rattle.std.proofs.Common.{MatchBool, drop}
+use Rattle.std.proofs.Common.{drop}
+use Rattle.std.specs.Prelude.{MatchBool}
 use Rattle.std.specs.Option.{option_map}
 use Rattle.aut_base.specs.CanonicalLabel.{canonical}
 use Rattle.aut_base.specs.Automaton.{Automaton}
@@ -11,13 +12,12 @@ use Rattle.autfilt_run.specs.declared.ended.End.{End}
 use Rattle.autfilt_run.specs.declared.ended.End.TheVariants as end
 use Rattle.autfilt_laws.proofs.alike.LeftBehind.{IsLeftBehind}
 use Rattle.autfilt_laws.specs.Runs.{EndsBefore, EndsInStreams, IsEnded, Outcome, streams_from, texts_or}
-use Rattle.autfilt_run.specs.Due.{IsDueWhere, IsResult, IsPrinted}
+use Rattle.autfilt_run.specs.Due.{IsResult, IsPrinted}
 use Rattle.autfilt_run.specs.Events.{AreJudged, Dropped, Ended, Event, IsEventJudged, Kept, Opened, Point, Skipped}
-use Rattle.autfilt_run.specs.Faults.{Told, AtToken, AtByte, OfWhole, when_told}
 use Rattle.autfilt_run.specs.OperandEvents.{OperandEvent, operands_read}
 use Rattle.autfilt_run.specs.Over.{IsOverLimit, IsOverPrinting, StopsPrinting}
 use Rattle.autfilt_run.specs.Plans.{prints_each}
-use Rattle.autfilt_run.specs.Runs.{AtNamed, StandsWith, StopsRun, StopsReading, StopsAtLimit}
+use Rattle.autfilt_run.specs.Runs.{AtNamed, StandsWith, StopsRun, StopsReading}
 use Rattle.autfilt_run.specs.declared.fault.RunFault.{RunFault}
 use Rattle.autfilt_run.specs.declared.fault.RunFault.TheVariants as fault
 use Rattle.filter_plan.specs.Laws.{SamePlan}
@@ -45,12 +45,9 @@ module _ (over more : Limit → Written → Type 0) (wider : (which : Limit) (w 
   either which w (inr o) = inr (wider which w o)
 
   at_limit : (which : Limit) (start : ℕ) (rest left : List ℕ) → StopsReading over (fault.Limit which) start rest left → StopsReading more (fault.Limit which) start rest left
-  at_limit which start rest left h = by_cases (when_told which) h
-    where
-      by_cases : (t : Told) → StopsAtLimit t (λ w. PassesLimit which w ⊎ over which w) start rest left → StopsAtLimit t (λ w. PassesLimit which w ⊎ more which w) start rest left
-      by_cases AtToken h = h
-      by_cases AtByte h = h
-      by_cases OfWhole h = stands_with _ _ start rest left (either which) h
+  at_limit which start rest left (inl h) = inl h
+  at_limit which start rest left (inr (inl h)) = inr (inl h)
+  at_limit which start rest left (inr (inr h)) = inr (inr (stands_with _ _ start rest left (either which) h))
 
   at_fault : (f : RunFault) (start : ℕ) (rest left : List ℕ) → StopsReading over f start rest left → StopsReading more f start rest left
   at_fault (fault.SyntaxAt k) start rest left h = h
@@ -106,7 +103,7 @@ module _ (q : Plan) (first second : Option Pattern) (same_first : option_map wor
   printed (Stats pieces) ops w text h = record { made = h.made; is_made = made ops w h.made h.is_made; line = h.line }
   printed (Refute file) ops w text h = h
 
-  due_where : (b : Bool) (ops : List Automaton) (w : Written) (text : List ℕ) → IsDueWhere b r ops w text → IsDueWhere b q ops w text
+  due_where : (b : Bool) (ops : List Automaton) (w : Written) (text : List ℕ) → MatchBool b (IsPrinted r.output r ops w text) (text ≡ []) → MatchBool b (IsPrinted q.output q ops w text) (text ≡ [])
   due_where true ops w text h = printed q.output ops w text h
   due_where false ops w text h = h
 

@@ -7,7 +7,8 @@ use Rattle.autfilt_laws.proofs.alike.Looks.{Look, aborted_is, look_at, look_behi
 use Rattle.autfilt_laws.proofs.alike.Verdicts.{AreOne, kept_or_dropped, one_text}
 use Rattle.autfilt_laws.specs.Runs.{IsLike, RunsAgree}
 use Rattle.autfilt_run.specs.Due.{IsDue}
-use Rattle.autfilt_run.specs.Events.{Dropped, Ended, EndsStream, Event, EventLeads, Happen, IsEventJudged, Kept, Opened, OpensStream, PassesOver, Point, Skipped, Stream, opened_at, read_on}
+use Rattle.autfilt_run.proofs.turns.Points.{read_on}
+use Rattle.autfilt_run.specs.Events.{Dropped, Ended, EndsStream, Event, EventLeads, Happen, IsEventJudged, Kept, Opened, OpensStream, PassesOver, Point, Skipped, Stream, opened_at}
 use Rattle.filter_plan.specs.declared.plan.Plan.{Plan}
 use Rattle.hoa_parser.specs.Raw.{Written}
 use Rattle.hoa_parser.specs.Standing as standing

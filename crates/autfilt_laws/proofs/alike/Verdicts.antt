@@ -2,13 +2,13 @@
 use Rattle.std.proofs.Common.{◌≡◌, ◌≢◌, ◌⊎◌, ℕ, Bool, true, false, List, [], ◌∷◌, ◌++◌, length, Option, Some, None, inl, inr, refl, true≢false, ap, ◌∙◌, sym, subst}
 use Rattle.std.specs.Fmt.{decimal}
 use Rattle.std.specs.List.{AllByRecursion}
-use Rattle.std.specs.Prelude.{MatchOption}
+use Rattle.std.specs.Prelude.{MatchBool, MatchOption}
 use Rattle.aut_base.specs.Automaton.{Automaton}
 use Rattle.aut_base.specs.CanonicalLabel.{canonical}
 use Rattle.aut_base.specs.declared.limit.Limit.{Limit}
 use Rattle.aut_ops.specs.Laws.{TrimmedIsDetermined}
 use Rattle.autfilt_laws.specs.Runs.{DecidesPrinted, DecidesTexts}
-use Rattle.autfilt_run.specs.Due.{IsDue, IsDueWhere, IsResult, IsPrinted, name_due}
+use Rattle.autfilt_run.specs.Due.{IsDue, IsResult, IsPrinted, name_due}
 use Rattle.autfilt_run.specs.Figures.{IsLine, IsShownAs, ShowsReached}
 use Rattle.autfilt_run.specs.Over.{IsOverLimit, IsOverPrinting, StopsPrinting}
 use Rattle.autfilt_run.specs.Plans.{prints_each}
@@ -93,7 +93,7 @@ one_printed one (Stats pieces) p ops w t u decides x y =
 one_printed one (Refute file) p ops w t u decides x y = absurd decides
 
 due_where : AreOne → (b : Bool) (p : Plan) (ops : List Automaton) (w : Written) (t u : List ℕ) → DecidesPrinted p.output ⊎ (b ≡ false)
-    → IsDueWhere b p ops w t → IsDueWhere b p ops w u → t ≡ u
+    → MatchBool b (IsPrinted p.output p ops w t) (t ≡ []) → MatchBool b (IsPrinted p.output p ops w u) (u ≡ []) → t ≡ u
 due_where one false p ops w t u decides a b = a ∙ sym b
 due_where one true p ops w t u (inr off) a b = absurd (true≢false off)
 due_where one true p ops w t u (inl decides) a b = one_printed one p.output p ops w t u decides a b
@@ -118,7 +118,7 @@ printed_or_over one (Stats pieces) which p ops w text h k = (one.changes (change
 printed_or_over one (Refute file) which p ops w text h k = refuted_or_over (refuted_operand p ops) which w text h k
 
 due_or_over : AreOne → (which : Limit) (p : Plan) (ops : List Automaton) (w : Written) (text : List ℕ) → IsDue p ops w text → IsOverPrinting which p ops w → ⊥
-due_or_over one which p ops w text d o = printed_or_over one p.output which p ops w text (subst (λ (b : Bool). IsDueWhere b p ops w text) o.prints d) o.stops
+due_or_over one which p ops w text d o = printed_or_over one p.output which p ops w text (subst (λ (b : Bool). MatchBool b (IsPrinted p.output p ops w text) (text ≡ [])) o.prints d) o.stops
 
 -- where something is due, no limit is passed
 pub kept_is_within : AreOne → (which : Limit) (p : Plan) (ops : List Automaton) (w : Written) (text : List ℕ) → IsKept p ops (described w) → IsDue p ops w text → IsOverLimit which p ops w → ⊥

@@ -2,6 +2,7 @@
 use Rattle.std.proofs.Common.{◌≡◌, ◌≤◌, ◌⊎◌, ℕ, Bool, true, false, List, [], ◌∷◌, Contains, arith, inl, inr, length, refl, subst, sym}
 use Rattle.std.proofs.lemmas.Bool.{ltb-false}
 use Rattle.std.specs.List.{AllByRecursion}
+use Rattle.std.specs.Prelude.{MatchBool}
 use Rattle.ap_project.specs.Laws.{SayTheSame}
 use Rattle.aut_base.proofs.canonical.CanonicalAutomata.{canonical_accepts_the_same, canonical_is_well_formed, labels_below}
 use Rattle.aut_base.proofs.lists.Members.{none_there, there_cases}
@@ -17,7 +18,7 @@ use Rattle.autfilt_laws.proofs.existence.Silent.{silent}
 use Rattle.autfilt_laws.proofs.refuted.Due.{refuted_is_due}
 use Rattle.autfilt_laws.specs.Runs.{EachIsDue, IsGoodOperand}
 use Rattle.autfilt_run.proofs.printing.ReadsAs.{reads_as}
-use Rattle.autfilt_run.specs.Due.{IsDue, IsDueWhere, IsResult, IsPrinted, name_due}
+use Rattle.autfilt_run.specs.Due.{IsDue, IsResult, IsPrinted, name_due}
 use Rattle.autfilt_run.specs.OperandEvents.{FileOpened, OperandEvent, PassedOver, Taken, operands_read}
 use Rattle.autfilt_run.specs.Over.{IsOverLimit, IsOverPrinting, StopsPrinting}
 use Rattle.autfilt_run.specs.Plans.{prints_each}
@@ -100,7 +101,7 @@ module _ (p : Plan) (ops : List Automaton) (operands : (b : Automaton) → Conta
   -- a limit is passed, or something is printed
   module _ (kept : IsKept p ops (described w)) (on : prints_each p ≡ true) (none : ((text : List ℕ) × IsDue p ops w text) ⊎ ((which : Limit) × IsOverLimit which p ops w) → ⊥) where
     not_printed : (text : List ℕ) → IsPrinted p.output p ops w text → ⊥
-    not_printed text printed = none (inl (text, subst (λ (b : Bool). IsDueWhere b p ops w text) (sym on) printed))
+    not_printed text printed = none (inl (text, subst (λ (b : Bool). MatchBool b (IsPrinted p.output p ops w text) (text ≡ [])) (sym on) printed))
 
     not_over : (which : Limit) → StopsPrinting p.output which p ops read → ⊥
     not_over which stops =

@@ -8,7 +8,6 @@ use Rattle.autfilt_laws.proofs.existence.Stopping.{passed_other}
 use Rattle.autfilt_laws.specs.Places.{BadIsShown, CutIsShown, DeepIsShown}
 use Rattle.autfilt_laws.specs.Runs.{IsByText}
 use Rattle.autfilt_run.proofs.handling.PassedLimits.{counts_pass}
-use Rattle.autfilt_run.proofs.turns.Reading.{past}
 use Rattle.autfilt_run.specs.Events.{IsGood}
 use Rattle.autfilt_run.specs.Runs.{StopsReading}
 use Rattle.autfilt_run.specs.declared.fault.RunFault.{RunFault}
@@ -53,7 +52,7 @@ module _ (over : Limit → Written → Type 0) (start : ℕ) (rest : List ℕ) w
         by_text = tt;
         other = passed_other h.0 of_whole;
         left = next;
-        stops = past over h.0 start rest next of_whole (record { automaton = w; whole = whole; holds = inl passed });
+        stops = inr (inr (record { automaton = w; whole = whole; holds = inl passed }));
       })
 
   whole_found : (w : Written) (next : List ℕ) → IsWhole start rest w next → IsValid w ⊎ ((rule : Rule) × IsFirstBroken rule w) → Found over start rest

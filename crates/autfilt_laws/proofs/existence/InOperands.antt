@@ -10,8 +10,9 @@ use Rattle.autfilt_laws.proofs.existence.Found.{AreShown, Found, OneAborted, One
 use Rattle.autfilt_laws.proofs.existence.Shorter.{aborted_less}
 use Rattle.autfilt_laws.proofs.existence.Stopping.{is_counted, stops_operand, stops_where}
 use Rattle.autfilt_laws.specs.Runs.{IsByText, size_of}
-use Rattle.autfilt_run.specs.Events.{Point, Stream, opened_at, bytes_before, read_on}
-use Rattle.autfilt_run.specs.OperandEvents.{AreRead, FileOpened, OperandEvent, PassedOver, Proceeds, Taken, taken_at}
+use Rattle.autfilt_run.proofs.turns.Points.{read_on, taken_at}
+use Rattle.autfilt_run.specs.Events.{Point, Stream, opened_at, bytes_before}
+use Rattle.autfilt_run.specs.OperandEvents.{AreRead, FileOpened, OperandEvent, PassedOver, Proceeds, Taken}
 use Rattle.autfilt_run.specs.Runs.{AtNamed, IsCounted, StopsAtOperand, StopsInOperands}
 use Rattle.autfilt_run.specs.declared.fault.RunFault.{RunFault}
 use Rattle.autfilt_run.specs.declared.fault.RunFault.TheVariants as fault
@@ -50,7 +51,7 @@ module _ (some : SomeStanding) (shown : AreShown) (texts : Texts) (spare : ℕ) 
         name = s.name;
         left = Some left;
         stops = stops_where (Unit {0}) StopsAtOperand f s.name p (Some left) by at;
-        counted = is_counted f p s left more by other is few;
+        counted = is_counted f p s left more other is few;
       } in
       record { taken = []; point = p; read = refl; ends = inr here }
 

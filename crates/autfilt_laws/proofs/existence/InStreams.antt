@@ -13,9 +13,9 @@ use Rattle.autfilt_laws.proofs.existence.Shorter.{aborted_less, whole_less}
 use Rattle.autfilt_laws.proofs.existence.Stopping.{is_counted, passed_other, stops_where}
 use Rattle.autfilt_laws.specs.Runs.{IsByText, size_of}
 use Rattle.autfilt_run.proofs.handling.PassedLimits.{plan_passes}
-use Rattle.autfilt_run.proofs.turns.Reading.{past}
+use Rattle.autfilt_run.proofs.turns.Points.{at_stream_end, read_on}
 use Rattle.autfilt_run.specs.Due.{IsDue}
-use Rattle.autfilt_run.specs.Events.{AreJudged, Dropped, Ended, Event, EventLeads, Happen, IsGood, IsEventJudged, Kept, Opened, Point, Skipped, Stream, at_stream_end, opened_at, bytes_before, read_on}
+use Rattle.autfilt_run.specs.Events.{AreJudged, Dropped, Ended, Event, EventLeads, Happen, IsGood, IsEventJudged, Kept, Opened, Point, Skipped, Stream, opened_at, bytes_before}
 use Rattle.autfilt_run.specs.Over.{IsOverLimit}
 use Rattle.autfilt_run.specs.Plans.{asks_on}
 use Rattle.autfilt_run.specs.Runs.{AtNamed, IsCounted, IsDone, StopsRun, StopsReading}
@@ -74,7 +74,7 @@ module _ (plan : Plan) (ops : List Automaton) (on : Existing plan ops) (texts : 
         name = s.name;
         left = Some left;
         stops = stops_where (asks_on plan p.kept ≡ true) (StopsReading (λ which w. IsOverLimit which plan ops w)) f s.name p (Some left) by at;
-        counted = is_counted f p s left more by other is few;
+        counted = is_counted f p s left more other is few;
       } in
       record { events = []; judged = tt; point = p; happen = refl; ends = inr here }
 
@@ -82,9 +82,7 @@ module _ (plan : Plan) (ops : List Automaton) (on : Existing plan ops) (texts : 
   passed : (p : Point) (s : Stream) (more : ℕ) → asks_on plan p.kept ≡ true → p.stream ≡ Some s → p.before + (length s.text + more) < MOST_BYTES
       → (which : Limit) (w : Written) (next : List ℕ) → IsGood (bytes_before s.text s.rest) s.rest w next → IsOverLimit which plan ops w → Reads plan ops texts p
   passed p s more asks is few which w next good h =
-      let whole = plan_passes which plan ops w h in
-      stopped p s more asks is few (fault.Limit which) next tt (passed_other which whole)
-      (past (λ x v. IsOverLimit x plan ops v) which (bytes_before s.text s.rest) s.rest next whole (record { automaton = w; whole = good.whole; holds = inr h }))
+      stopped p s more asks is few (fault.Limit which) next tt (passed_other which (plan_passes which plan ops w h)) (inr (inr (record { automaton = w; whole = good.whole; holds = inr h })))
 
   -- an automaton that is good
   at_good : (p : Point) (s : Stream) (more : ℕ) → asks_on plan p.kept ≡ true → p.stream ≡ Some s → p.before + (length s.text + more) < MOST_BYTES

@@ -2,7 +2,8 @@
 use Rattle.std.proofs.Common.{◌≡◌, ◌⊎◌, ℕ, ◌+◌, ◌<◌, ◌==◌, Bool, true, false, if◌then◌else◌, List, [], length, Option, refl, inl, inr, arith, subst}
 use Rattle.aut_base.specs.declared.limit.TheConstants.{MOST_BYTES}
 use Rattle.aut_io.specs.Outside.{Texts}
-use Rattle.autfilt_run.specs.Run.{AreAllRead, EndsAt, EndsByTally, end_of, tally_after}
+use Rattle.autfilt_laws.proofs.alike.Tallied.{IsTallied}
+use Rattle.autfilt_run.specs.Run.{AreAllRead, EndsAt, end_of}
 use Rattle.autfilt_run.specs.declared.ended.End.{End}
 use Rattle.autfilt_run.specs.declared.ended.End.TheVariants as end
 use Rattle.autfilt_laws.proofs.alike.OperandEnds.{IsThrough}
@@ -11,7 +12,7 @@ use Rattle.autfilt_laws.proofs.existence.GoodOperands.{good_operands}
 use Rattle.autfilt_laws.proofs.existence.InOperands.{IsStoppedThere, ReadsThere, in_files}
 use Rattle.autfilt_laws.proofs.existence.InStreams.{Existing, IsStopped, Reads, in_streams}
 use Rattle.autfilt_laws.specs.Runs.{EachIsDue, IsByText, IsEnded, Outcome, ARunExists, size_of, streams_from, texts_or}
-use Rattle.autfilt_run.specs.Events.{Point, Tally, start_of}
+use Rattle.autfilt_run.specs.Events.{Point, Tally, start_of, tally}
 use Rattle.autfilt_run.specs.OperandEvents.{AreRead, OperandEvent, all_passed, operands_read}
 use Rattle.autfilt_run.specs.Plans.{plan_streams}
 use Rattle.autfilt_run.specs.Runs.{IsDone}
@@ -42,7 +43,7 @@ module _ (plan : Plan) (texts : Texts) (left : Option (List ℕ)) (taken : List 
   abbrev outcome : ReadsBehind → End → List ℕ → Option (List ℕ) → Outcome
   outcome r e name now = record { taken = taken; events = r.events; end = e; name = name; left = now }
 
-  ended : (r : ReadsBehind) (e : End) (name : List ℕ) (now : Option (List ℕ)) → IsByText e → EndsByTally e (length (all_passed taken)) r.events
+  ended : (r : ReadsBehind) (e : End) (name : List ℕ) (now : Option (List ℕ)) → IsByText e → IsTallied e (length (all_passed taken)) r.events
       → EndsAt plan (operands_read taken) e name r.point now → IsEnded plan texts left (outcome r e name now)
   ended r e name now by tallied ends = record {
     by_text = by;
@@ -56,19 +57,19 @@ module _ (plan : Plan) (texts : Texts) (left : Option (List ℕ)) (taken : List 
   }
 
   -- all was read
-  ended_of_all : (r : ReadsBehind) (e : End) → IsOfAll e → e ≡ end_of (tally_after (length (all_passed taken)) r.events) → IsDone plan r.point
+  ended_of_all : (r : ReadsBehind) (e : End) → IsOfAll e → e ≡ end_of (tally (length (all_passed taken)) r.events) → IsDone plan r.point
       → IsEnded plan texts left (outcome r e [] r.point.left)
-  ended_of_all r end.Output all is h = ended r end.Output [] r.point.left tt is (h, refl)
-  ended_of_all r end.NoneOutput all is h = ended r end.NoneOutput [] r.point.left tt is (h, refl)
-  ended_of_all r end.Aborts all is h = ended r end.Aborts [] r.point.left tt is (h, refl)
+  ended_of_all r end.Output all is h = ended r end.Output [] r.point.left tt (inr is) (h, refl)
+  ended_of_all r end.NoneOutput all is h = ended r end.NoneOutput [] r.point.left tt (inr is) (h, refl)
+  ended_of_all r end.Aborts all is h = ended r end.Aborts [] r.point.left tt (inr is) (h, refl)
   ended_of_all r end.Usage all is h = absurd all
   ended_of_all r (end.Fault f) all is h = absurd all
 
   some_end_of : (r : ReadsBehind) → IsDone plan r.point ⊎ IsStopped plan (operands_read taken) r.point → (o : Outcome) × IsEnded plan texts left o
   some_end_of r (inl h) =
-      let t = tally_after (length (all_passed taken)) r.events in
+      let t = tally (length (all_passed taken)) r.events in
       (outcome r (end_of t) [] r.point.left, ended_of_all r (end_of t) (of_all t) refl h)
-  some_end_of r (inr h) = (outcome r (end.Fault h.fault) h.name h.left, ended r (end.Fault h.fault) h.name h.left h.by_text tt (h.stops, h.counted))
+  some_end_of r (inr h) = (outcome r (end.Fault h.fault) h.name h.left, ended r (end.Fault h.fault) h.name h.left h.by_text (inl (h.fault, refl)) (h.stops, h.counted))
 
 -- a fault ended the run in the files of operands
 stopped_before : (plan : Plan) (texts : Texts) (left : Option (List ℕ)) (taken : List OperandEvent) (p : Point) → AreRead texts taken (start_of (operands plan) left 0) p

@@ -3,9 +3,11 @@ use Rattle.std.proofs.Common.{◌≡◌, ◌≢◌, ◌∙◌, ◌⊎◌, ◌+�
 use Rattle.aut_base.specs.Automaton.{Automaton}
 use Rattle.aut_io.specs.Outside.{Gains, Texts, raised_by}
 use Rattle.aut_io.specs.Seen.{Seen, SinkSeen}
+use Rattle.autfilt_run.proofs.running.Causes.{because_calm}
 use Rattle.autfilt_run.specs.Ends.{ended_of}
 use Rattle.autfilt_run.specs.Notes.{line_of}
-use Rattle.autfilt_run.specs.Run.{AreAllRead, EndsBecause, EndsInOperands, EndsOpened, PrintsRun, Runs, RunsOver, RunsOverAs, RunsTo, all_noted, passed_noted}
+use Rattle.autfilt_run.specs.Run.{AreAllRead, EndsBecause, EndsInOperands, PrintsRun, Runs, RunsOver, RunsOverAs, RunsTo}
+use Rattle.autfilt_run.specs.inner.Running.{all_noted, passed_noted}
 use Rattle.autfilt_run.specs.declared.ended.End.{End}
 use Rattle.autfilt_run.specs.declared.ended.End.TheVariants as end
 use Rattle.autfilt_laws.proofs.alike.Answers.{text_due}
@@ -15,7 +17,7 @@ use Rattle.autfilt_laws.specs.Answers.{IsByTexts, SomeAnswer}
 use Rattle.autfilt_laws.specs.Runs.{EndsBefore, EndsInStreams, IsByText, IsEnded, Outcome, ARunExists, left_or, streams_from, texts_or}
 use Rattle.autfilt_run.specs.Events.{Event, opened_streams, start_of}
 use Rattle.autfilt_run.specs.OperandEvents.{all_passed, opened_files, operands_read}
-use Rattle.autfilt_run.specs.Openings.{MayEnd}
+use Rattle.autfilt_run.specs.Openings.{AreTried}
 use Rattle.autfilt_run.specs.Plans.{plan_streams}
 use Rattle.autfilt_run.specs.declared.fault.RunFault.{RunFault}
 use Rattle.autfilt_run.specs.declared.fault.RunFault.TheVariants as fault
@@ -45,16 +47,6 @@ told_once a b o x y = let same : Some a ≡ Some b = sym x ∙ y in cc
 
 -- ---- an end that the texts determine comes of no opening, and of no write
 
-may_end : (f : RunFault) → IsByText (end.Fault f) → MayEnd f 0
-may_end (fault.SyntaxAt k) by = refl
-may_end fault.Truncated by = refl
-may_end (fault.Invalid rule) by = refl
-may_end (fault.Limit which) by = refl
-may_end fault.CannotOpen by = absurd by
-may_end fault.ReadFault by = absurd by
-may_end fault.WriteFault by = absurd by
-may_end fault.Memory by = absurd by
-
 no_write : (f : RunFault) → IsByText (end.Fault f) → f ≢ fault.WriteFault
 no_write f by is = subst (λ (g : RunFault). IsByText (end.Fault g)) is by
 
@@ -74,18 +66,10 @@ by_texts (end.Fault fault.Memory) by = absurd by
 
 module _ (inputs inputs' : Seen) (out out' : SinkSeen) (opens : inputs'.open_faults ≡ inputs.open_faults) (reads : inputs'.read_faults ≡ inputs.read_faults) (writes : out'.faults ≡ out.faults) where
   because : (e : End) → IsByText e → EndsBecause (ended_of e) inputs inputs' out out'
-  because end.Output by = record { opens = opens; reads = reads; writes = writes }
-  because end.NoneOutput by = record { opens = opens; reads = reads; writes = writes }
-  because end.Aborts by = record { opens = opens; reads = reads; writes = writes }
-  because end.Usage by = absurd by
-  because (end.Fault (fault.SyntaxAt k)) by = record { opens = opens; reads = reads; writes = writes }
-  because (end.Fault fault.Truncated) by = record { opens = opens; reads = reads; writes = writes }
-  because (end.Fault (fault.Invalid rule)) by = record { opens = opens; reads = reads; writes = writes }
-  because (end.Fault (fault.Limit which)) by = record { opens = opens; reads = reads; writes = writes }
-  because (end.Fault fault.CannotOpen) by = absurd by
-  because (end.Fault fault.ReadFault) by = absurd by
-  because (end.Fault fault.WriteFault) by = absurd by
-  because (end.Fault fault.Memory) by = absurd by
+  because e by =
+      let texts = by_texts e by in
+      because_calm (ended_of e) inputs inputs' out out' (λ is. subst IsByTexts is texts, λ is. subst IsByTexts is texts, λ is. subst IsByTexts is texts)
+      (record { opens = opens; reads = reads; writes = writes })
 
 prints : (p : Plan) (e : End) (events : List Event) (old : Option (List ℕ)) → IsByText e → PrintsRun p e events old (with_text old (text_due p e events))
 prints p end.Output events old by = gains old _
@@ -105,13 +89,14 @@ prints p (end.Fault fault.Memory) events old by = gains old _
 as_many : (n m count : ℕ) → m ≡ raised_by count n → m ≡ raised_by (count + 0) n
 as_many n m count is = let same : count ≡ count + 0 = omega arith in is ∙ ap (λ k. raised_by k n) same
 
-opened : (e : End) (wants : Type 0) (count : ℕ) (seen seen' : Seen) → IsByText e → seen'.openings ≡ raised_by count seen.openings → EndsOpened e wants count seen seen'
-opened end.Output wants count seen seen' by is = is
-opened end.NoneOutput wants count seen seen' by is = is
-opened end.Aborts wants count seen seen' by is = is
-opened end.Usage wants count seen seen' by is = absurd by
-opened (end.Fault f) wants count seen seen' by is =
-    record { tried = 0; may = may_end f by; wanted = λ one. let none : 0 ≡ 1 = one in cc; opened = as_many seen.openings seen'.openings count is }
+opened : (e : End) (wants : Type 0) (count : ℕ) (seen seen' : Seen) → IsByText e → seen'.openings ≡ raised_by count seen.openings → AreTried e wants count seen seen'
+opened e wants count seen seen' by is = record {
+  tried = 0;
+  once = omega arith;
+  wanted = λ one. let none : 0 ≡ 1 = one in cc;
+  failed = λ failed. absurd (subst IsByText failed by);
+  opened = as_many seen.openings seen'.openings count is;
+}
 
 -- ---- the run
 
@@ -141,7 +126,7 @@ module _ (plan : Plan) (texts : Texts) (inputs : Seen) (told : inputs.texts ≡ 
           no_write = no_write h.fault by_fault;
           happened = λ other is. subst (λ (t : Texts). EndsInOperands plan t inputs.left o.left o.taken h.fault o.name) (told_once texts other inputs.texts told is) h.stops;
           named = front_of (opened_files o.taken) (operands plan) h.stops.point.coming (files_opened texts o.taken (start_of (operands plan) inputs.left 0) h.stops.point h.stops.read);
-          openings = record { tried = 0; may = may_end h.fault by_fault; wanted = λ one. let none : 0 ≡ 1 = one in cc; opened = as_many inputs.openings _ count refl };
+          openings = opened o.end _ count inputs (behind inputs o.left count) by refl;
           none = h.none;
           output = refl;
         });

@@ -2,7 +2,7 @@
 use Rattle.std.proofs.Common.{◌≡◌, ◌∙◌, ◌<◌, ◌⊎◌, ℕ, Bool, true, false, List, [], ◌∷◌, ◌++◌, Contains, Option, Some, ap, arith, codes, inl, inr, length, refl, subst, sym}
 use Rattle.std.proofs.lemmas.List.{length-append}
 use Rattle.std.specs.List.{AllByRecursion}
-use Rattle.std.specs.Prelude.{MatchOption}
+use Rattle.std.specs.Prelude.{MatchBool, MatchOption}
 use Rattle.aut_base.proofs.canonical.CanonicalAutomata.{canonical_is_well_formed}
 use Rattle.aut_base.proofs.lists.Lists.{slice_get-at}
 use Rattle.aut_base.proofs.lists.Members.{item_at, none_there, there_cases}
@@ -14,7 +14,7 @@ use Rattle.aut_core.specs.OtherNames.{joined_names}
 use Rattle.autfilt_laws.proofs.existence.Silent.{silent}
 use Rattle.autfilt_laws.proofs.refuted.Refuting.{included}
 use Rattle.autfilt_laws.specs.Runs.{IsAlwaysDue, IsGoodOperand}
-use Rattle.autfilt_run.specs.Due.{IsDue, IsDueWhere, IsPrinted}
+use Rattle.autfilt_run.specs.Due.{IsDue, IsPrinted}
 use Rattle.autfilt_run.specs.OperandEvents.{FileOpened, OperandEvent, PassedOver, Taken, operands_read}
 use Rattle.autfilt_run.specs.Over.{IsOverLimit, IsOverPrinting, StopsPrinting}
 use Rattle.autfilt_run.specs.Plans.{prints_each}
@@ -100,7 +100,7 @@ module _ (p : Plan) (file : List ℕ) (output : p.output ≡ Refute file) (on : 
   line_is_due : IsWithinInclusion (canonical (described w)) r.operand → (text : List ℕ) → SaysOfInclusion (described w) r.operand text → IsDue p ops w text
   line_is_due limits text says =
       let line = subst (λ (o : Option Automaton). MatchOption o ⊥ (λ b. IsRefutationLine (described w) b text)) (sym r.is) (limits, says) in
-      subst (λ (c : Bool). IsDueWhere c p ops w text) (sym on) (subst (λ (o : Output). IsPrinted o p ops w text) (sym output) line)
+      subst (λ (c : Bool). MatchBool c (IsPrinted p.output p ops w text) (text ≡ [])) (sym on) (subst (λ (o : Output). IsPrinted o p ops w text) (sym output) line)
 
   -- the operand accepts all that the automaton accepts, where no word refutes that
   something : IsWellFormed r.operand → IsValid w → PassesNone w → IsKept p ops (described w) → Nothing → ⊥

@@ -1,6 +1,6 @@
 -- Filtering and printing of an automaton that was read.
 use Rattle.std.proofs.Common.{◌≡◌, ℕ, Bool, true, false, if◌then◌else◌, List, [], Option, Some, None, Result, Ok, Err, refl, sym, ap, ◌∙◌, subst, inl, inr}
-use Rattle.std.specs.Prelude.{◌++◌, All, MatchOption, codes}
+use Rattle.std.specs.Prelude.{◌++◌, All, MatchBool, MatchOption, codes}
 use Rattle.std.specs.Result.{IsErrAnd}
 use Rattle.aut_base.proofs.Outcomes.{hands_on}
 use Rattle.aut_base.specs.Automaton.{Automaton}
@@ -10,7 +10,7 @@ use Rattle.aut_io.specs.Seen.{SinkSeen}
 use Rattle.autfilt_run.proofs.printing.ReadsAs.{reads_as}
 use Rattle.autfilt_run.proofs.printing.Said.{made_as}
 use Rattle.autfilt_run.proofs.handling.Taking.{accepts_read, core_is}
-use Rattle.autfilt_run.specs.Due.{IsDue, IsDueWhere, IsResult, IsPrinted, name_due}
+use Rattle.autfilt_run.specs.Due.{IsDue, IsResult, IsPrinted, name_due}
 use Rattle.autfilt_run.specs.Faults.{fault_of_plan}
 use Rattle.autfilt_run.specs.Plans.{prints_each}
 use Rattle.autfilt_run.specs.RefutationLine.{IsRefutationLine, SaysOfInclusion}
@@ -50,7 +50,7 @@ is_unwanted b p ops w core r is h =
 
 silent : (p : Plan) (ops : List Automaton) (w : Written) (b : Bool) → b ≡ prints_each p → b ≡ false → IsDue p ops w []
 silent p ops w true e is = cc
-silent p ops w false e is = subst (λ (x : Bool). IsDueWhere x p ops w []) e refl
+silent p ops w false e is = subst (λ (x : Bool). MatchBool x (IsPrinted p.output p ops w []) (◌≡◌ {A = List ℕ} [] [])) e refl
 
 pub is_wanted_silent : (b c : Bool) (p : Plan) (ops : List Automaton) (w : Written) (core : Automaton) → IsReadAs w core → b ≡ true → Judged (Ok b) p ops core → c ≡ prints_each p → c ≡ false
     → IsWanted p ops w []
@@ -112,7 +112,7 @@ printed_as (Stats pieces) p ops w core name text r named h = record { made = h.m
 printed_as (Refute file) p ops w core name text r named h = refuted_as (refuted_operand p ops) w core text r h
 
 due_text : (p : Plan) (ops : List Automaton) (w : Written) (b : Bool) (text : List ℕ) → b ≡ prints_each p → b ≡ true → IsPrinted p.output p ops w text → IsDue p ops w text
-due_text p ops w true text e is h = subst (λ (x : Bool). IsDueWhere x p ops w text) e h
+due_text p ops w true text e is h = subst (λ (x : Bool). MatchBool x (IsPrinted p.output p ops w text) (text ≡ [])) e h
 due_text p ops w false text e is h = cc
 
 pub is_wanted : (b c : Bool) (p : Plan) (ops : List Automaton) (w : Written) (core : Automaton) (name : Option (List ℕ)) (text bytes : List ℕ) → IsReadAs w core → b ≡ true

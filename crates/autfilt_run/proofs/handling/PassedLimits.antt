@@ -1,5 +1,5 @@
--- A limit that is passed after reading is noticed at an automaton that was read whole.
-use Rattle.std.proofs.Common.{◌≡◌, ◌⊎◌, ◌∙◌, Bool, false, true, List, [], ◌∷◌, Option, Some, None, Contains, ap, inl, inr, refl, subst}
+-- A limit that is passed after reading is told of an automaton that was read whole.
+use Rattle.std.proofs.Common.{◌≡◌, ◌≢◌, ◌⊎◌, ◌∙◌, Bool, false, true, List, [], ◌∷◌, Option, Some, None, Contains, ap, inl, inr, refl, subst, sym}
 use Rattle.std.specs.Prelude.{MatchOption}
 use Rattle.std.specs.List.{AllByRecursion, list_all}
 use Rattle.std.proofs.lemmas.Bool.{false≢true}
@@ -9,8 +9,8 @@ use Rattle.aut_base.proofs.lists.AllByRecursion.{AllByRecursion-right}
 use Rattle.aut_base.specs.Automaton.{Automaton}
 use Rattle.aut_base.specs.declared.limit.Limit.{Limit}
 use Rattle.aut_base.specs.declared.limit.Limit.TheVariants as limit
-use Rattle.autfilt_run.specs.Faults.{Told, AtToken, AtByte, OfWhole, stop_of_run_fault, stop_of_limit, when_told}
 use Rattle.autfilt_run.specs.Over.{IsOverLimit, IsOverPrinting, StopsPrinting}
+use Rattle.autfilt_run.specs.Turns.{stop_of_run_fault}
 use Rattle.autfilt_run.specs.declared.fault.RunFault.TheVariants as fault
 use Rattle.filter_plan.specs.declared.plan.Form.{Form}
 use Rattle.filter_plan.specs.declared.plan.Form.TheVariants as form
@@ -30,19 +30,20 @@ use Rattle.plan_meaning.specs.Filters.{Filter, PassesAt, filters, limits_of_filt
 use Rattle.plan_meaning.specs.Limits.{PassesOfInclusion, limits_of_inclusion}
 use Rattle.plan_meaning.specs.Operands.{refuted_operand}
 
+-- whether it is told of an automaton that was read whole: that of depth is told at a token, that of bytes at a byte
+abbrev is_of_whole : Limit → Bool
+is_of_whole limit.Depth = false
+is_of_whole limit.Bytes = false
+is_of_whole _ = true
+
 abbrev pub IsOfWhole : Limit → Type 0
-IsOfWhole which = when_told which ≡ OfWhole
+IsOfWhole which = is_of_whole which ≡ true
 
--- while a text is read two limits can be noticed
-pub told_bytes : (which : Limit) → when_told which ≡ AtByte → which ≡ limit.Bytes
-told_bytes limit.Bytes e = refl
-told_bytes limit.Depth e = absurd (let none : AtToken ≡ AtByte = e in cc)
-told_bytes _ e = absurd (let none : OfWhole ≡ AtByte = e in cc)
+pub not_depth : (which : Limit) → IsOfWhole which → which ≢ limit.Depth
+not_depth which whole is = false≢true (sym (ap is_of_whole is) ∙ whole)
 
-pub told_depth : (which : Limit) → when_told which ≡ AtToken → which ≡ limit.Depth
-told_depth limit.Depth e = refl
-told_depth limit.Bytes e = absurd (let none : AtByte ≡ AtToken = e in cc)
-told_depth _ e = absurd (let none : OfWhole ≡ AtToken = e in cc)
+pub not_bytes : (which : Limit) → IsOfWhole which → which ≢ limit.Bytes
+not_bytes which whole is = false≢true (sym (ap is_of_whole is) ∙ whole)
 
 -- ---- the limits of reading
 
@@ -52,28 +53,15 @@ counts_pass which w h =
     let each : AllByRecursion P (limit_counts w) = (refl, (refl, (refl, (refl, (refl, tt))))) in
     let (c, first, over, shown) = h.passes in
     let parts = subst (AllByRecursion P) first.all each in
-    ap when_told shown ∙ (AllByRecursion-right P first.before (c ∷ first.after) parts).0
+    ap is_of_whole shown ∙ (AllByRecursion-right P first.before (c ∷ first.after) parts).0
 
 -- ---- those of filters and changes
 
-abbrev is_whole : Told → Bool
-is_whole AtToken = false
-is_whole AtByte = false
-is_whole OfWhole = true
-
-whole_is : (t : Told) → is_whole t ≡ true → t ≡ OfWhole
-whole_is AtToken e = absurd (false≢true e)
-whole_is AtByte e = absurd (false≢true e)
-whole_is OfWhole e = refl
-
-abbrev told_whole : Limit → Bool
-told_whole which = is_whole (when_told which)
-
 abbrev AreOfWhole : List Limit → Type 0
-AreOfWhole limits = list_all told_whole limits ≡ true
+AreOfWhole limits = list_all is_of_whole limits ≡ true
 
 one_of : (limits : List Limit) (which : Limit) → AreOfWhole limits → Contains limits which → IsOfWhole which
-one_of limits which all h = whole_is (when_told which) (All-contains (λ x. told_whole x ≡ true) limits which (AllPass-from_list_all told_whole limits all) h)
+one_of limits which all h = All-contains IsOfWhole limits which (AllPass-from_list_all is_of_whole limits all) h
 
 of_filter : (f : Filter) → AreOfWhole (limits_of_filter f)
 of_filter filter.IsEmpty = refl
@@ -114,4 +102,5 @@ both_ways which p ops w (inr h) = plan_passes which p ops w h
 
 -- so they have nothing to do with the limit of bytes
 pub elsewhere : (which : Limit) → IsOfWhole which → stop_of_run_fault (fault.Limit which) ≡ Elsewhere
-elsewhere which whole = ap stop_of_limit whole
+elsewhere limit.Bytes whole = absurd (false≢true whole)
+elsewhere _ whole = refl

@@ -6,7 +6,7 @@ use Rattle.autfilt_run.proofs.running.Stepped.{StepsAs, Stepped, dropped, ended,
 use Rattle.autfilt_run.specs.Events.{Dropped, Ended, Event, Kept, Opened, Skipped}
 use Rattle.autfilt_run.specs.Plans.{asks_on}
 use Rattle.autfilt_run.specs.Points.{name_in}
-use Rattle.autfilt_run.specs.Run.{noted}
+use Rattle.autfilt_run.specs.Run.{noted_of}
 use Rattle.autfilt_run.specs.Turns.{Turns, progress, progress_after}
 use Rattle.autfilt_run.specs.contracts.session.Turn.{the_type}
 use Rattle.autfilt_run.specs.declared.session.Session.{Session}
@@ -24,7 +24,7 @@ pub record Advances (x : Turn) (old new : Session) (m t : Seen) (p q : SinkSeen)
   pub event : Event
   pub asks : asks_on old.plan old.kept ≡ true
   pub step : Stepped event old new m t p q
-  pub noted : noted event ≡ turn_line x (name_in new)
+  pub noted : noted_of event ≡ turn_line x (name_in new)
 
 pub advances : (x : Turn) (old new : Session) (m t : Seen) (p q : SinkSeen) → x ≢ turn.Done → StepsAs old new → progress new ≡ progress_after x (progress old) → Turns x old new m t p q
     → Advances x old new m t p q

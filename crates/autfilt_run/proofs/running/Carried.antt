@@ -9,12 +9,13 @@ use Rattle.autfilt_run.specs.Asked.{AreRefused}
 use Rattle.autfilt_run.specs.Ends.{ended_of}
 use Rattle.autfilt_run.specs.Noted.{HasNoted, Notes}
 use Rattle.autfilt_run.specs.Notes.{line_of}
-use Rattle.autfilt_run.specs.Run.{AreAllRead, EndsBy, FailsInOperands, GoesOverAll, Runs, RunsOver, RunsOverAs, RunsOverMade, passed_noted}
+use Rattle.autfilt_run.specs.Run.{AreAllRead, EndsBy, FailsInOperands, GoesOverAll, Runs, RunsOver, RunsOverAs, RunsOverMade}
 use Rattle.autfilt_run.specs.declared.ended.End.{End}
 use Rattle.autfilt_run.specs.declared.ended.End.TheVariants as end
 use Rattle.autfilt_run.specs.declared.ended.Ended.{Ended}
-use Rattle.autfilt_run.specs.inner.Running.{Carries, FailsPreparing, HasPrepared, IsPrepared}
+use Rattle.autfilt_run.specs.inner.Running.{Carries, FailsPreparing, HasPrepared, IsPrepared, passed_noted}
 use Rattle.autfilt_run.proofs.printing.Gains.{nothing}
+use Rattle.autfilt_run.proofs.turns.Counted.{counted}
 use Rattle.autfilt_run.proofs.turns.Openings.{tried_none}
 use Rattle.autfilt_run.proofs.turns.Stepping.{is_closed}
 use Rattle.autfilt_run.specs.Events.{Event, Point, start_of}
@@ -147,9 +148,9 @@ wanting plan s o = record {
   fault = fault.Memory;
   ends = refl;
   no_write = λ x. cc;
-  happened = λ texts told. record { point = start_of (operands plan) s.left 0; read = refl; stops = inl refl; counted = record { few = omega arith; within = tt } };
+  happened = λ texts told. record { point = start_of (operands plan) s.left 0; read = refl; stops = inl refl; counted = counted fault.Memory (start_of (operands plan) s.left 0) s.left (omega arith) tt };
   named = (0, refl);
-  openings = tried_none fault.Memory _ s s (omega arith) refl;
+  openings = tried_none (end.Fault fault.Memory) _ s s (λ is. cc) refl;
   none = refl;
   output = refl;
 }

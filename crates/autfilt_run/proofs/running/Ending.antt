@@ -1,5 +1,5 @@
 -- Runs that end with a fault, and runs that read all.
-use Rattle.std.proofs.Common.{◌≡◌, ◌≢◌, ℕ, ◌+◌, ◌<◌, ◌≤◌, ◌==◌, Bool, true, false, not, ◌&&◌, ◌||◌, if◌then◌else◌, List, [], ◌∷◌, ◌++◌, length, take, drop}
+use Rattle.std.proofs.Common.{◌≡◌, ◌≢◌, ◌⊎◌, ℕ, ◌+◌, ◌<◌, ◌≤◌, ◌==◌, Bool, true, false, not, ◌&&◌, ◌||◌, if◌then◌else◌, List, [], ◌∷◌, ◌++◌, length, take, drop}
 use Rattle.std.proofs.Common.{Option, Some, None, Err, refl, sym, ap, ◌∙◌, subst, inl, inr, append_assoc, append-nil, arith}
 use Rattle.std.proofs.lemmas.Bool.{false≢true}
 use Rattle.std.proofs.lemmas.List.{drop_all}
@@ -11,30 +11,33 @@ use Rattle.aut_base.specs.declared.limit.Limit.{Limit}
 use Rattle.aut_base.specs.declared.limit.TheConstants.{MOST_BYTES}
 use Rattle.aut_io.specs.Outside.{Gains, GainsPrefix, Rose, Texts}
 use Rattle.aut_io.specs.Seen.{Seen, SinkSeen}
+use Rattle.autfilt_run.proofs.running.Causes.{IsOfNoCall, because_calm, because_opening, because_reading, because_writing}
 use Rattle.autfilt_run.proofs.running.Running.{asks_at, asks_of, calm_then, gains_as, noted_push, of_fresh, opened_push, opened_streams_push}
 use Rattle.autfilt_run.proofs.running.Stepped.{StepsAs, keeps_on, parts_of, still_writes}
 use Rattle.autfilt_run.proofs.running.Stepping.{happen_push, wants_stream}
 use Rattle.autfilt_run.specs.Ends.{ended_of}
 use Rattle.autfilt_run.specs.Noted.{HasNoted, Notes}
 use Rattle.autfilt_run.specs.Notes.{line_of}
-use Rattle.autfilt_run.specs.Run.{AreCalm, BreaksOff, EndsAt, EndsBecause, EndsByTally, EndsOpened, PrintsRun, WantsStreamFile, all_noted, end_of, tally_after}
+use Rattle.autfilt_run.specs.Run.{BreaksOff, EndsAt, EndsBecause, PrintsRun, WantsStreamFile, end_of}
 use Rattle.autfilt_run.specs.declared.ended.End.{End}
 use Rattle.autfilt_run.specs.declared.ended.End.TheVariants as end
-use Rattle.autfilt_run.specs.inner.Running.{Carries, FinishesRun, FinishesWell, HasRunEvents}
+use Rattle.autfilt_run.specs.declared.ended.Ended.TheVariants as ended
+use Rattle.autfilt_run.specs.inner.Running.{AreCalm, Carries, FinishesRun, FinishesWell, HasRunEvents, all_noted}
 use Rattle.autfilt_run.proofs.printing.Gains.{both}
-use Rattle.autfilt_run.proofs.turns.Openings.{opened_as, opened_then, tried_behind, tried_for, tried_none, wants_next}
+use Rattle.autfilt_run.proofs.turns.Counted.{counted}
+use Rattle.autfilt_run.proofs.turns.Openings.{fault_in, opened_as, opened_then, tried_behind, tried_for, tried_none, wants_next}
+use Rattle.autfilt_run.proofs.turns.Points.{read_on}
 use Rattle.autfilt_run.proofs.turns.Preparing.{calm_limit, taken_few, untold_closed}
 use Rattle.autfilt_run.proofs.turns.Stepping.{closed_counted, is_closed, name_as, reads_on, stops_at, stops_named, stream_counted}
 use Rattle.autfilt_run.proofs.printing.Writing.{rose_from}
 use Rattle.autfilt_run.specs.Events.{Dropped, Ended, Event, IsGood, IsEventJudged, Kept, Opened, Point, ReadsOn, Skipped, Stream, Tally, all_written}
-use Rattle.autfilt_run.specs.Events.{tally_with, open_after, opened_stream, opened_streams, bytes_before, read_on, start_of, tally, tally_from}
-use Rattle.autfilt_run.specs.Faults.{stop_of_run_fault}
-use Rattle.autfilt_run.specs.Openings.{AreOpened, AreTried, MayEnd, WantsFile}
+use Rattle.autfilt_run.specs.Events.{tally_with, open_after, opened_stream, opened_streams, bytes_before, start_of, tally, tally_from}
+use Rattle.autfilt_run.specs.Openings.{AreTried, WantsFile}
 use Rattle.autfilt_run.specs.Over.{IsOverLimit}
 use Rattle.autfilt_run.specs.Plans.{asks_on, count_text, prints_count, prints_each, plan_streams}
 use Rattle.autfilt_run.specs.Points.{IsInStream, StandsInStreams, name_in, operands_in}
-use Rattle.autfilt_run.specs.Runs.{AtNamed, AtStream, IsCounted, IsDone, LacksMemory, StopsRun, StopsReading, WantsMemory, WantsStream, taken_in, taken_until}
-use Rattle.autfilt_run.specs.Turns.{FailsAfter, IsDoneWith, IsOpening, IsStill, KeepsInPart, OpensNext, ReadsInputs, TriesStream, progress}
+use Rattle.autfilt_run.specs.Runs.{AtNamed, AtStream, IsCounted, IsDone, StopsRun, StopsReading, WantsMemory, WantsStream, taken_in, taken_until}
+use Rattle.autfilt_run.specs.Turns.{FailsAfter, IsDoneWith, IsOpening, IsStill, KeepsInPart, OpensNext, ReadsInputs, TriesStream, progress, stop_of_run_fault}
 use Rattle.autfilt_run.specs.declared.fault.RunFault.{RunFault}
 use Rattle.autfilt_run.specs.declared.fault.RunFault.TheVariants as fault
 use Rattle.autfilt_run.specs.declared.session.Session.{Session}
@@ -75,15 +78,8 @@ record HaltsAt (f : RunFault) (old : Session) (name : List ℕ) (m t : Seen) (p 
   output : q ≡ p
   prints : (plan : Plan) (events : List Event) (a b : Option (List ℕ)) → Gains a b (all_written events) → PrintsRun plan (end.Fault f) events a b
   causes : (s : Seen) (o : SinkSeen) → AreCalm s m o p → EndsBecause (ended_of (end.Fault f)) s t o q
-  tried : AreTried f (WantsFile old.is_open old.opened (length (plan_streams old.plan))) 0 m t
+  tried : AreTried (end.Fault f) (WantsFile old.is_open old.opened (length (plan_streams old.plan))) 0 m t
   texts : t.texts ≡ m.texts
-
-fault_in : {f g : RunFault} → end.Fault f ≡ end.Fault g → f ≡ g
-fault_in e = ap fault_or_memory e
-  where
-    fault_or_memory : End → RunFault
-    fault_or_memory (end.Fault f) = f
-    fault_or_memory _ = fault.Memory
 
 -- which file is to be opened, by the events
 wants_stream_file : (fresh old : Session) (s m : Seen) (o p k l : SinkSeen) (first noting : Bool) (h : HasRunEvents fresh old s m o p k l first noting)
@@ -108,9 +104,10 @@ run_halted f other name fresh old s m t o p q k l j first noting h at closes = r
           ends = of_fresh (λ x ops. Halts f x ops name t.left r.point) fresh old h.same_plan h.same_operands (at.halts texts (h.texts ∙ told) r.point r.stands);
           numbered = λ is. absurd (other (fault_in is));
         };
-    tallied = tt;
+    tallied = inl (f, refl);
     named = (old.opened, h.named);
-    openings = tried_for f _ _ _ s t (wants_stream_file fresh old s m o p k l first noting h) (tried_behind f _ (length (opened_streams h.events)) s m t h.openings at.tried);
+    openings = tried_for (end.Fault f) _ _ _ s t (wants_stream_file fresh old s m o p k l first noting h)
+        (tried_behind (end.Fault f) _ (length (opened_streams h.events)) s m t h.openings at.tried);
     prints = at.prints fresh.plan h.events o.written q.written (subst (λ (x : SinkSeen). Gains o.written x.written (all_written h.events)) (sym at.output) h.gains);
   };
   noted = closed fresh old s m o p k l j first noting (line_of (end.Fault f) name) h closes;
@@ -126,11 +123,9 @@ counted_at : (f : RunFault) (old new : Session) (m t : Seen) (at : Point) → St
     → IsCounted f at t.left
 counted_at f old new m t at steady opened_so stands moves =
     let same = stream_counted old new m t at (stop_of_run_fault f) stands.at opened_so moves in
-    record {
-      few = subst (λ (n : ℕ). n ≤ MOST_BYTES) (sym same) steady.few;
-      within = subst (λ (n : ℕ). IsWithinByteLimit (stop_of_run_fault f) n MOST_BYTES) (sym same)
-          (subst (λ (n : ℕ). IsWithinByteLimit (stop_of_run_fault f) new.lexer.taken n) steady.most moves.within);
-    }
+    counted f at t.left (subst (λ (n : ℕ). n ≤ MOST_BYTES) (sym same) steady.few)
+    (subst (λ (n : ℕ). IsWithinByteLimit (stop_of_run_fault f) n MOST_BYTES) (sym same)
+    (subst (λ (n : ℕ). IsWithinByteLimit (stop_of_run_fault f) new.lexer.taken n) steady.most moves.within))
 
 reading_halts : (f : RunFault) (R : ℕ → List ℕ → List ℕ → Type 0) (name : List ℕ) (old new : Session) (m t : Seen) (p q : SinkSeen) → StepsAs old new
     → ((at : Point) → AtStream (Asks old at) at t.left R → StopsRun old.plan (operands_in old) f name at t.left) → ReadsInputs (stop_of_run_fault f) (R old.lexer.since) old new m t p q
@@ -155,14 +150,15 @@ named_halts f name old new m t p q steady is stops h at stands = (
 calm_halt : (f : RunFault) (name : List ℕ) (old new : Session) (m t : Seen) (p q : SinkSeen) → StepsAs old new → name ≡ name_in new → t.read_faults ≡ m.read_faults
     → ((at : Point) → AtNamed (Asks old at) at name t.left (StopsReading (over_of old) f) → StopsRun old.plan (operands_in old) f name at t.left)
     → ((plan : Plan) (events : List Event) (a b : Option (List ℕ)) → Gains a b (all_written events) → PrintsRun plan (end.Fault f) events a b)
-    → ((s : Seen) (o : SinkSeen) → AreCalm s t o q → EndsBecause (ended_of (end.Fault f)) s t o q) → MayEnd f 0
+    → IsOfNoCall (ended_of (end.Fault f)) → f ≢ fault.CannotOpen
     → ReadsInputs (stop_of_run_fault f) (StopsReading (over_of old) f old.lexer.since) old new m t p q → HaltsAt f old name m t p q
-calm_halt f name old new m t p q steady is calm stops prints causes may h = record {
+calm_halt f name old new m t p q steady is calm stops prints none other h = record {
   halts = λ texts told at stands. named_halts f name old new m t p q steady is stops h at stands;
   output = h.output;
   prints = prints;
-  causes = λ s o before. causes s o (calm_then s m t o p q before (record { opens = h.moves.opens; reads = calm; writes = still_writes p q h.output }));
-  tried = tried_none f _ m t may h.moves.openings;
+  causes = λ s o before.
+      because_calm (ended_of (end.Fault f)) s t o q none (calm_then s m t o p q before (record { opens = h.moves.opens; reads = calm; writes = still_writes p q h.output }));
+  tried = tried_none (end.Fault f) _ m t (λ is. other (fault_in is)) h.moves.openings;
   texts = h.moves.texts;
 }
 
@@ -175,10 +171,9 @@ limit_stops which name old t at h = h
 
 unopened_counted : (f : RunFault) (old : Session) (left left' : Option (List ℕ)) (at : Point) → StandsInStreams old left at → old.is_open ≡ false → stop_of_run_fault f ≡ Elsewhere
     → IsCounted f at left'
-unopened_counted f old left left' at stands closed_so stop = record {
-  few = subst (λ (n : ℕ). n ≤ MOST_BYTES) (sym (closed_counted old left left' at stands.at closed_so)) (taken_few old);
-  within = subst (λ (x : Stop). IsWithinByteLimit x (taken_until at left') MOST_BYTES) (sym stop) tt;
-}
+unopened_counted f old left left' at stands closed_so stop =
+    counted f at left' (subst (λ (n : ℕ). n ≤ MOST_BYTES) (sym (closed_counted old left left' at stands.at closed_so)) (taken_few old))
+    (subst (λ (x : Stop). IsWithinByteLimit x (taken_until at left') MOST_BYTES) (sym stop) tt)
 
 wants_one : (old : Session) (name : List ℕ) → IsOpening old name → WantsFile old.is_open old.opened (length (plan_streams old.plan))
 wants_one old name opening = record { closed = opening.is_closed; more = slice_get_within (plan_streams old.plan) old.opened name opening.named }
@@ -194,16 +189,17 @@ unopened name old new m t p q h same = record {
   );
   output = h.output;
   prints = λ plan events a b g. g;
-  causes = λ s o calm. (
-    rose_from s.open_faults m.open_faults t.open_faults calm.opens (h.opens.failed refl),
-    h.opens.reads ∙ calm.reads,
-    still_writes p q h.output ∙ calm.writes,
-  );
-  tried = record { tried = 1; may = refl; wanted = λ one. wants_one old h.name h.opening; opened = h.opens.counted };
+  causes = λ s o calm.
+      because_opening s t o q (rose_from s.open_faults m.open_faults t.open_faults calm.opens (h.opens.failed refl)) (h.opens.reads ∙ calm.reads) (still_writes p q h.output ∙ calm.writes);
+  tried = record { tried = 1; once = omega arith; wanted = λ one. (wants_one old h.name h.opening, inl refl); failed = λ is. refl; opened = h.opens.counted };
   texts = h.opens.texts;
 }
 
 -- ---- want of memory
+
+-- memory was wanting before anything was read, at an opening, after which nothing is open, or in the open file
+abbrev LacksMemory : Type 0 → Point → Option (List ℕ) → Type 0
+LacksMemory on p left = (left ≡ p.left) ⊎ (((name : List ℕ) × WantsStream on p name × (left ≡ Some [])) ⊎ AtStream on p left WantsMemory)
 
 opening_lacks : (old : Session) (m t : Seen) (name : List ℕ) (texts : Texts) (at : Point) → m.texts ≡ Some texts → StandsInStreams old m.left at → WantsStream (Asks old at) at name
     → OpensNext m name (Err opening.Memory) t
@@ -222,9 +218,13 @@ opening_calm m t name (inl same) = record { opens = ap (λ (x : Seen). x.open_fa
 opening_calm m t name (inr h) = record { opens = h.memory refl; reads = h.reads; texts = h.texts }
 
 opening_tried : (old : Session) (m t : Seen) (name : List ℕ) → IsOpening old name → OpensNext m name (Err opening.Memory) t
-    → AreTried fault.Memory (WantsFile old.is_open old.opened (length (plan_streams old.plan))) 0 m t
-opening_tried old m t name wants (inl same) = tried_none fault.Memory _ m t (omega arith) (ap (λ (x : Seen). x.openings) same)
-opening_tried old m t name wants (inr h) = record { tried = 1; may = omega arith; wanted = λ one. wants_one old name wants; opened = h.counted }
+    → AreTried (end.Fault fault.Memory) (WantsFile old.is_open old.opened (length (plan_streams old.plan))) 0 m t
+opening_tried old m t name wants (inl same) = tried_none (end.Fault fault.Memory) _ m t (λ is. cc) (ap (λ (x : Seen). x.openings) same)
+opening_tried old m t name wants (inr h) =
+    record { tried = 1; once = omega arith; wanted = λ one. (wants_one old name wants, inr refl); failed = λ is. refl; opened = h.counted }
+
+no_call : IsOfNoCall ended.Memory
+no_call = (λ is. cc, λ is. cc, λ is. cc)
 
 lacking : (name : List ℕ) (old new : Session) (m t : Seen) (p q : SinkSeen) → StepsAs old new → FailsAfter fault.Memory old new m t p q → HaltsAt fault.Memory old name m t p q
 lacking name old new m t p q steady (inl h) =
@@ -236,7 +236,8 @@ lacking name old new m t p q steady (inl h) =
       );
       output = h.output;
       prints = λ plan events a b g. g;
-      causes = λ s o before. calm_then s m t o p q before (record { opens = calm.opens; reads = calm.reads; writes = still_writes p q h.output });
+      causes = λ s o before.
+          because_calm ended.Memory s t o q no_call (calm_then s m t o p q before (record { opens = calm.opens; reads = calm.reads; writes = still_writes p q h.output }));
       tried = opening_tried old m t h.name h.opening h.opens;
       texts = calm.texts;
     }
@@ -244,8 +245,9 @@ lacking name old new m t p q steady (inr h) = record {
   halts = λ texts told at stands. reading_halts fault.Memory WantsMemory name old new m t p q steady (λ x s. inr (inr s)) h at stands;
   output = h.output;
   prints = λ plan events a b g. g;
-  causes = λ s o before. calm_then s m t o p q before (record { opens = h.moves.opens; reads = h.moves.reads; writes = still_writes p q h.output });
-  tried = tried_none fault.Memory _ m t (omega arith) h.moves.openings;
+  causes = λ s o before.
+      because_calm ended.Memory s t o q no_call (calm_then s m t o p q before (record { opens = h.moves.opens; reads = h.moves.reads; writes = still_writes p q h.output }));
+  tried = tried_none (end.Fault fault.Memory) _ m t (λ is. cc) h.moves.openings;
   texts = h.moves.texts;
 }
 
@@ -260,16 +262,17 @@ halted fault.ReadFault name old new m t p q n steady h is = record {
   halts = λ texts told at stands. named_halts fault.ReadFault name old new m t p q steady is (λ x s. s) h at stands;
   output = h.output;
   prints = λ plan events a b g. g;
-  causes = λ s o before. (h.moves.opens ∙ before.opens, rose_from s.read_faults m.read_faults t.read_faults before.reads h.moves.reads, still_writes p q h.output ∙ before.writes);
-  tried = tried_none fault.ReadFault _ m t refl h.moves.openings;
+  causes = λ s o before.
+      because_reading s t o q (h.moves.opens ∙ before.opens) (rose_from s.read_faults m.read_faults t.read_faults before.reads h.moves.reads) (still_writes p q h.output ∙ before.writes);
+  tried = tried_none (end.Fault fault.ReadFault) _ m t (λ is. cc) h.moves.openings;
   texts = h.moves.texts;
 }
-halted (fault.SyntaxAt k) name old new m t p q n steady h is = calm_halt (fault.SyntaxAt k) name old new m t p q steady is h.moves.reads (λ x s. s) (λ plan events a b g. g) (λ s o calm. calm) refl h
-halted fault.Truncated name old new m t p q n steady h is = calm_halt fault.Truncated name old new m t p q steady is h.moves.reads (λ x s. s) (λ plan events a b g. g) (λ s o calm. calm) refl h
+halted (fault.SyntaxAt k) name old new m t p q n steady h is = calm_halt (fault.SyntaxAt k) name old new m t p q steady is h.moves.reads (λ x s. s) (λ plan events a b g. g) (λ e. cc, λ e. cc, λ e. cc) (λ e. cc) h
+halted fault.Truncated name old new m t p q n steady h is = calm_halt fault.Truncated name old new m t p q steady is h.moves.reads (λ x s. s) (λ plan events a b g. g) (λ e. cc, λ e. cc, λ e. cc) (λ e. cc) h
 halted (fault.Invalid rule) name old new m t p q n steady h is = calm_halt (fault.Invalid rule) name old new m t p q steady is h.moves.reads (λ x s. s) (λ plan events a b g. g)
-    (λ s o calm. calm) refl h
+    (λ e. cc, λ e. cc, λ e. cc) (λ e. cc) h
 halted (fault.Limit which) name old new m t p q n steady h is =
-    calm_halt (fault.Limit which) name old new m t p q steady is (calm_limit which _ _ h.moves.reads) (limit_stops which name old t) (λ plan events a b g. g) (λ s o calm. calm) refl h
+    calm_halt (fault.Limit which) name old new m t p q steady is (calm_limit which _ _ h.moves.reads) (limit_stops which name old t) (λ plan events a b g. g) (λ e. cc, λ e. cc, λ e. cc) (λ e. cc) h
 
 -- ---- a failed write
 
@@ -312,7 +315,7 @@ last_of old new m t p q steady same h at stands =
       point = point;
       goes = record { stream = r.stream; is_open = r.is_open; next = r.next; stands = r.stands; few = r.few; to = refl };
       left = left;
-      counted = record { few = subst (λ (n : ℕ). n ≤ MOST_BYTES) (sym here) r.few; within = tt };
+      counted = counted fault.WriteFault point t.left (subst (λ (n : ℕ). n ≤ MOST_BYTES) (sym here) r.few) tt;
     }
 
 write_failed : (fresh old new : Session) (s m t : Seen) (o p q k l j : SinkSeen) (first noting : Bool) (name : List ℕ) → StepsAs old new → new.is_open ≡ old.is_open
@@ -338,17 +341,17 @@ write_failed fresh old new s m t o p q k l j first noting name steady same h par
               ends = (x.left, x.counted);
               numbered = λ is counts. absurd (never_both fresh.plan counts on);
             };
-        tallied = tt;
+        tallied = inl (fault.WriteFault, refl);
         named = (old.opened, opened_streams_push h.events event ∙ (append-nil (opened_streams h.events) ∙ h.named));
-        openings = tried_behind fault.WriteFault _ (length (opened_streams (h.events ++ event ∷ []))) s t t
+        openings = tried_behind (end.Fault fault.WriteFault) _ (length (opened_streams (h.events ++ event ∷ []))) s t t
             (opened_as _ _ s t (opened_push h.events event) (opened_then (length (opened_streams h.events)) (length (opened_stream event)) s m t h.openings part.moves.openings))
-            (tried_none fault.WriteFault _ t t refl refl);
+            (tried_none (end.Fault fault.WriteFault) _ t t (λ is. cc) refl);
         prints = inl (broken_off fresh.plan on h.events part.automaton part.text o.written p.written q.written h.gains part.gains);
       };
       noted = λ sink text before.
           notes_as sink j _ _ (ap (λ x. text ++ (x ++ line)) (sym (noted_push h.events event ∙ append-nil (all_noted h.events))))
           (closed fresh old s m o p k l j first noting line h closes sink text before);
-      causes = (part.moves.opens ∙ h.calm.opens, part.moves.reads ∙ h.calm.reads, rose_from o.faults p.faults q.faults h.calm.writes part.writes);
+      causes = because_writing s t o q (part.moves.opens ∙ h.calm.opens) (part.moves.reads ∙ h.calm.reads) (rose_from o.faults p.faults q.faults h.calm.writes part.writes);
       texts = part.moves.texts ∙ h.texts;
       asked = λ x. cc;
     }
@@ -392,8 +395,8 @@ kept_alike a b (Skipped name ∷ es) e = kept_alike (tally_with a (Skipped name)
 kept_alike a b (Ended ∷ es) e = kept_alike a b es e
 
 -- what is written at the end
-count_of : (fresh old : Session) (events : List Event) → old.plan ≡ fresh.plan → tally_after fresh.skipped events ≡ record { kept = old.kept; skipped = old.skipped }
-    → count_text old.plan old.kept ≡ count_text fresh.plan (tally events).kept
+count_of : (fresh old : Session) (events : List Event) → old.plan ≡ fresh.plan → tally fresh.skipped events ≡ record { kept = old.kept; skipped = old.skipped }
+    → count_text old.plan old.kept ≡ count_text fresh.plan (tally 0 events).kept
 count_of fresh old events plan e =
     ap (λ (x : Plan). count_text x old.kept) plan ∙ ap (λ (x : Tally). count_text fresh.plan x.kept) (sym e)
     ∙ ap (count_text fresh.plan) (kept_alike (record { kept = 0; skipped = fresh.skipped }) (record { kept = 0; skipped = 0 }) events refl)
@@ -418,13 +421,12 @@ within_at (Some t) old left at is h few =
 
 -- a run that read all, whichever of its ends it has
 all_read : (e : End) (name : List ℕ) (fresh old : Session) (s m : Seen) (o p q k l j : SinkSeen) (first noting : Bool) → HasRunEvents fresh old s m o p k l first noting → IsDoneWith old
-    → ((events : List Event) → e ≡ end_of (tally_after fresh.skipped events) → EndsByTally e fresh.skipped events)
     → ((at : Point) → IsDone fresh.plan at → m.left ≡ at.left → EndsAt fresh.plan (operands_in fresh) e name at m.left)
-    → ((events : List Event) (a b : Option (List ℕ)) → Gains a b (all_written events ++ count_text fresh.plan (tally events).kept) → PrintsRun fresh.plan e events a b)
-    → (AreCalm s m o q → EndsBecause (ended_of e) s m o q) → ((wants : Type 0) (n : ℕ) → AreOpened n s m → EndsOpened e wants n s m) → (e ≢ end.Usage)
+    → ((events : List Event) (a b : Option (List ℕ)) → Gains a b (all_written events ++ count_text fresh.plan (tally 0 events).kept) → PrintsRun fresh.plan e events a b)
+    → IsOfNoCall (ended_of e) → (e ≢ end.Fault fault.CannotOpen) → (e ≢ end.Usage)
     → FinishesWell e (count_text old.plan old.kept) (record { kept = old.kept; skipped = old.skipped }) p q
     → Closes (line_of e name) noting l j → Carries fresh first e s m o q k j
-all_read e name fresh old s m o p q k l j first noting h done tallied ends prints because opens asked f closes = record {
+all_read e name fresh old s m o p q k l j first noting h done ends prints none other asked f closes = record {
   events = h.events;
   name = name;
   runs = record {
@@ -437,15 +439,15 @@ all_read e name fresh old s m o p q k l j first noting h done tallied ends print
           ends = ends r.point (subst (λ (x : Plan). IsDone x r.point) h.same_plan (done_at old m r.point r.stands done)) (sym r.stands.at.left_is);
           numbered = λ is counts. subst (λ (x : Plan). IsDone x r.point) h.same_plan (done_at old m r.point r.stands done);
         };
-    tallied = tallied h.events (f.end ∙ ap end_of (sym h.tallied));
+    tallied = inr (f.end ∙ ap end_of (sym h.tallied));
     named = (old.opened, h.named);
-    openings = opens _ (length (opened_streams h.events)) h.openings;
+    openings = tried_behind e _ (length (opened_streams h.events)) s m m h.openings (tried_none e _ m m other refl);
     prints = prints h.events o.written q.written
-        (both o.written p.written q.written (all_written h.events) (count_text fresh.plan (tally h.events).kept) h.gains
+        (both o.written p.written q.written (all_written h.events) (count_text fresh.plan (tally 0 h.events).kept) h.gains
         (gains_as p.written q.written _ _ (count_of fresh old h.events h.same_plan h.tallied) f.gains));
   };
   noted = closed fresh old s m o p k l j first noting (line_of e name) h closes;
-  causes = because (record { opens = h.calm.opens; reads = h.calm.reads; writes = f.writes ∙ h.calm.writes });
+  causes = because_calm (ended_of e) s m o q none (record { opens = h.calm.opens; reads = h.calm.reads; writes = f.writes ∙ h.calm.writes });
   texts = h.texts;
   asked = asked;
 }
@@ -460,7 +462,7 @@ count_failed : (name : List ℕ) (fresh old : Session) (s m : Seen) (o p q k l j
     → IsDoneWith old → prints_count old.plan ≡ true → GainsPrefix p.written q.written (count_text old.plan old.kept) → Rose p.faults q.faults
     → Closes (line_of (end.Fault fault.WriteFault) name) noting l j → Carries fresh first (end.Fault fault.WriteFault) s m o q k j
 count_failed name fresh old s m o p q k l j first noting h done counts gains rose closes =
-    let text = count_text fresh.plan (tally h.events).kept in
+    let text = count_text fresh.plan (tally 0 h.events).kept in
     let part = part_after h.events text o.written p.written q.written h.gains (subst (λ (x : List ℕ). GainsPrefix p.written q.written x) (count_of fresh old h.events h.same_plan h.tallied) gains) in
     record {
       events = h.events;
@@ -473,17 +475,17 @@ count_failed name fresh old s m o p q k l j first noting h done counts gains ros
               point = r.point;
               happen = r.happen;
               ends =
-                  (sym r.stands.at.left_is, record { few = within_at r.point.stream old m.left r.point refl r.stands.at.stream (taken_few old); within = tt });
+                  (sym r.stands.at.left_is, counted fault.WriteFault r.point m.left (within_at r.point.stream old m.left r.point refl r.stands.at.stream (taken_few old)) tt);
               numbered =
                   λ is on. subst (λ (x : Plan). IsDone x r.point) h.same_plan (done_at old m r.point r.stands done);
             };
-        tallied = tt;
+        tallied = inl (fault.WriteFault, refl);
         named = (old.opened, h.named);
-        openings = tried_behind fault.WriteFault _ (length (opened_streams h.events)) s m m h.openings (tried_none fault.WriteFault _ m m refl refl);
+        openings = tried_behind (end.Fault fault.WriteFault) _ (length (opened_streams h.events)) s m m h.openings (tried_none (end.Fault fault.WriteFault) _ m m (λ is. cc) refl);
         prints = inr (record { prints = subst (λ (x : Plan). prints_count x ≡ true) h.same_plan counts; part = part.0; gains = part.1 });
       };
       noted = closed fresh old s m o p k l j first noting (line_of (end.Fault fault.WriteFault) name) h closes;
-      causes = (h.calm.opens, h.calm.reads, rose_from o.faults p.faults q.faults h.calm.writes rose);
+      causes = because_writing s m o q h.calm.opens h.calm.reads (rose_from o.faults p.faults q.faults h.calm.writes rose);
       texts = h.texts;
       asked = λ x. cc;
     }
@@ -496,9 +498,9 @@ finished e name fresh old s m o p q k l j first noting h done due (inl f) closes
     → Carries fresh first x s m o q k j in
     subst C (sym f.end)
     (end_is C
-    (λ g n. all_read end.Output name fresh old s m o p q k l j first noting h done (λ events x. x) (λ at d x. (d, x)) (λ events a b x. x) (λ x. x) (λ wants n x. x) (λ x. cc) g n)
-    (λ g n. all_read end.NoneOutput name fresh old s m o p q k l j first noting h done (λ events x. x) (λ at d x. (d, x)) (λ events a b x. x) (λ x. x) (λ wants n x. x) (λ x. cc) g n)
-    (λ g n. all_read end.Aborts name fresh old s m o p q k l j first noting h done (λ events x. x) (λ at d x. (d, x)) (λ events a b x. x) (λ x. x) (λ wants n x. x) (λ x. cc) g n)
+    (λ g n. all_read end.Output name fresh old s m o p q k l j first noting h done (λ at d x. (d, x)) (λ events a b x. x) (λ x. cc, λ x. cc, λ x. cc) (λ x. cc) (λ x. cc) g n)
+    (λ g n. all_read end.NoneOutput name fresh old s m o p q k l j first noting h done (λ at d x. (d, x)) (λ events a b x. x) (λ x. cc, λ x. cc, λ x. cc) (λ x. cc) (λ x. cc) g n)
+    (λ g n. all_read end.Aborts name fresh old s m o p q k l j first noting h done (λ at d x. (d, x)) (λ events a b x. x) (λ x. cc, λ x. cc, λ x. cc) (λ x. cc) (λ x. cc) g n)
     (old.skipped == 0) (old.kept == 0)) f closes
 finished e name fresh old s m o p q k l j first noting h done due (inr f) closes =
     let C : End → Type 0 = λ x. Closes (line_of x name) noting l j → Carries fresh first x s m o q k j in

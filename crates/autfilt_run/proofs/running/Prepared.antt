@@ -10,12 +10,12 @@ use Rattle.autfilt_run.proofs.running.Ending.{Closes}
 use Rattle.autfilt_run.proofs.running.Running.{Adds}
 use Rattle.autfilt_run.specs.Noted.{HasNoted, Notes}
 use Rattle.autfilt_run.specs.Notes.{aborted_line, line_of}
-use Rattle.autfilt_run.specs.Run.{WantsOperandFile, passed_noted}
+use Rattle.autfilt_run.specs.Run.{WantsOperandFile}
 use Rattle.autfilt_run.specs.declared.ended.End.{End}
 use Rattle.autfilt_run.specs.declared.ended.End.TheVariants as end
-use Rattle.autfilt_run.specs.inner.Running.{FailsPreparing, HasPrepared, IsNew, IsPrepared}
+use Rattle.autfilt_run.specs.inner.Running.{FailsPreparing, HasPrepared, IsNew, IsPrepared, passed_noted}
 use Rattle.autfilt_run.proofs.printing.Gains.{nothing}
-use Rattle.autfilt_run.proofs.turns.Openings.{opened_as, opened_then, tried_as, tried_for, tried_then}
+use Rattle.autfilt_run.proofs.turns.Openings.{opened_as, opened_then, tried_as, tried_for, tried_of, tried_then}
 use Rattle.autfilt_run.proofs.turns.Preparing.{counts_then, file_open_then, passed_push}
 use Rattle.autfilt_run.specs.Events.{Point, start_of}
 use Rattle.autfilt_run.specs.OperandEvents.{AreRead, OperandEvent, PassedOver, all_passed, file_open_after, opened_file, opened_files, operand_of, operands_read, passed_of}
@@ -179,6 +179,7 @@ prepared_fails f e plan old new s m t k l j noting is h failed closes = record {
     flat_map-append opened_file h.taken failed.events ∙ (ap (λ x. x ++ opened_files failed.events) (sym h.named)
         ∙ (failed.named.1 ∙ ap (λ (p : Plan). take failed.named.0 (operands p)) h.same_plan)),
   );
-  openings = tried_for f _ _ _ s t (wants_operand f plan old new s m t k l noting h failed)
-      (tried_as f _ _ _ s t (opened_files_then h.taken failed.events) (tried_then f _ (length (opened_files h.taken)) (length (opened_files failed.events)) s m t h.openings failed.openings));
+  openings = tried_of e (end.Fault f) _ _ s t is (tried_for (end.Fault f) _ _ _ s t (wants_operand f plan old new s m t k l noting h failed)
+      (tried_as (end.Fault f) _ _ _ s t (opened_files_then h.taken failed.events)
+      (tried_then (end.Fault f) _ (length (opened_files h.taken)) (length (opened_files failed.events)) s m t h.openings failed.openings)));
 }

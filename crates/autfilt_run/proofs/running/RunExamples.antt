@@ -1,14 +1,21 @@
 -- The worked examples of runs.
-use Rattle.std.proofs.Common.{◌≡◌, ◌∙◌, ℕ, ◌+◌, ◌<◌, ◌≤◌, refl, sym, ap, subst, lit<, lit≤, List, ◌∷◌, [], length, Option, unwrap_or, inl, inr, arith, codes}
+use Rattle.std.proofs.Common.{◌≡◌, ◌∙◌, ℕ, ◌+◌, ◌<◌, ◌≤◌, refl, sym, ap, subst, lit<, lit≤, List, ◌∷◌, [], length, None, Option, Some, unwrap_or, inl, inr, arith, codes}
 use Rattle.std.specs.List.{slice_index_or}
 use Rattle.std.proofs.lemmas.Bool.{false≢true, true≢false}
 use Rattle.std.proofs.lemmas.Fmt.{decimal_digit}
 use Rattle.std.proofs.lemmas.Option.{none-some, same_Some}
+use Rattle.aut_base.specs.declared.limit.Limit.TheVariants as limit
 use Rattle.aut_base.specs.declared.limit.TheConstants.{MOST_BYTES}
 use Rattle.aut_io.specs.Outside.{Texts, text_of}
-use Rattle.autfilt_run.specs.Events.{Ended, Event, Happen, Opened, Point, Stream, at_stream_end, opened_at}
-use Rattle.autfilt_run.specs.RunExamples.{AreBlank, RunExamples, WhatHappens, WhatIsAnswered, WhatIsWritten, WhyItEnds, before_both, behind_both, one, x, y}
+use Rattle.autfilt_run.proofs.running.Causes.{because_calm, because_opening, because_reading, because_writing}
+use Rattle.autfilt_run.proofs.turns.Counted.{counted}
+use Rattle.autfilt_run.proofs.turns.Points.{at_stream_end}
+use Rattle.autfilt_run.specs.Events.{Ended, Event, Happen, Opened, Point, Stream, opened_at}
+use Rattle.autfilt_run.specs.RunExamples.{AreBlank, RunExamples, WhatHappens, WhatIsAnswered, WhatIsWritten, WhyItEnds, before_both, behind_both}
+use Rattle.autfilt_run.specs.RunExamples.{calm, calm_sink, failed_write, no_open, no_read, one, x, y}
 use Rattle.autfilt_run.specs.Runs.{IsDone}
+use Rattle.autfilt_run.specs.declared.ended.Ended.TheVariants as ended
+use Rattle.autfilt_run.specs.declared.fault.RunFault.TheVariants as fault
 use Rattle.hoa_lexer.specs.Blanks.{IsBlanks}
 use Rattle.hoa_lexer.specs.Blanks.IsBlanks.{nothing, space, comment}
 use Rattle.hoa_lexer.specs.Bytes.{is_space}
@@ -100,6 +107,9 @@ happens = record {
 
 -- ---- why it ends
 
+apart : {m n : ℕ} → m < n → m ≡ n → ⊥
+apart less same = absurd (omega arith)
+
 not_done : IsDone plain before_both → ⊥
 not_done (inl h) = true≢false h
 not_done (inr h) = let e : 2 ≡ 0 = ap length h.1 in absurd (omega (arith, e))
@@ -112,7 +122,7 @@ ends = record {
   all_read = (inr (refl, refl), refl);
   not_all_read = λ h. not_done h.0;
   none_asked = (inl refl, refl);
-  cannot_open = ((record { asks = refl; closed = refl; others = y ∷ []; next = refl }, refl), record { few = lit≤ tt; within = tt });
+  cannot_open = ((record { asks = refl; closed = refl; others = y ∷ []; next = refl }, refl), counted fault.CannotOpen before_both (Some []) (lit≤ tt) tt);
   not_other = λ h. not_y_first h.0.0.others h.0.0.next;
   not_behind = λ name left h. no_name name h.0.0.others h.0.0.next;
   not_closed = λ name left h. none-some h.0.at.stream h.0.at.is_open;
@@ -120,9 +130,8 @@ ends = record {
   no_operand = inr (space refl nothing, refl);
   no_text = λ start rest left h. h;
   no_write = λ start rest left h. h;
-  depth = refl;
-  bytes = refl;
-  pairs = refl;
+  not_early = λ h. apart (lit< tt) (h.reached refl);
+  early = counted (fault.Limit limit.Pairs) before_both None (lit≤ tt) tt;
 }
 
 -- ---- what is written
@@ -130,9 +139,6 @@ ends = record {
 -- how many bytes were written
 abbrev size : Option (List ℕ) → ℕ
 size text = length (unwrap_or text [])
-
-apart : {m n : ℕ} → m < n → m ≡ n → ⊥
-apart less same = absurd (omega arith)
 
 written : WhatIsWritten
 written = record {
@@ -153,17 +159,17 @@ written = record {
 
 answered : WhatIsAnswered
 answered = record {
-  cannot_open = (refl, refl, refl);
-  not_open = λ h. apart (lit< tt) h.0;
-  not_open_read = λ h. apart (lit< tt) h.0;
-  read_fault = (refl, refl, refl);
-  not_read = λ h. apart (lit< tt) h.1;
-  write_fault = (refl, refl, refl);
-  not_write = λ h. apart (lit< tt) h.2;
-  output = record { opens = refl; reads = refl; writes = refl };
-  not_output = λ h. apart (lit< tt) (sym h.writes);
-  not_syntax = λ h. apart (lit< tt) (sym h.reads);
-  not_memory = λ h. apart (lit< tt) (sym h.opens);
+  cannot_open = because_opening calm no_open calm_sink calm_sink refl refl refl;
+  not_open = λ h. apart (lit< tt) (h.opens.0 refl);
+  not_open_read = λ h. apart (lit< tt) (h.opens.0 refl);
+  read_fault = because_reading calm no_read calm_sink calm_sink refl refl refl;
+  not_read = λ h. apart (lit< tt) (h.reads.0 refl);
+  write_fault = because_writing calm calm calm_sink failed_write refl refl refl;
+  not_write = λ h. apart (lit< tt) (h.writes.0 refl);
+  output = because_calm ended.Output calm calm calm_sink calm_sink (λ is. cc, λ is. cc, λ is. cc) (record { opens = refl; reads = refl; writes = refl });
+  not_output = λ h. apart (lit< tt) (sym (h.writes.1 (λ is. cc)));
+  not_syntax = λ h. apart (lit< tt) (sym (h.reads.1 (λ is. cc)));
+  not_memory = λ h. apart (lit< tt) (sym (h.opens.1 (λ is. cc)));
   some_kept = λ w. refl;
   none_kept = λ w. refl;
   one_skipped = λ w. refl;

@@ -11,9 +11,9 @@ use Rattle.autfilt_run.proofs.running.Noting.{notes_nothing}
 use Rattle.autfilt_run.proofs.running.Stepped.{Stepped}
 use Rattle.autfilt_run.proofs.running.Stepping.{happen_push}
 use Rattle.autfilt_run.specs.Noted.{HasNoted}
-use Rattle.autfilt_run.specs.Run.{AreCalm, all_noted, noted}
+use Rattle.autfilt_run.specs.Run.{noted_of}
 use Rattle.autfilt_run.specs.declared.ended.End.{End}
-use Rattle.autfilt_run.specs.inner.Running.{Carries, FinishesRun, HasRunEvents, IsFresh}
+use Rattle.autfilt_run.specs.inner.Running.{AreCalm, Carries, FinishesRun, HasRunEvents, IsFresh, all_noted}
 use Rattle.autfilt_run.proofs.printing.Gains.{both, nothing}
 use Rattle.autfilt_run.proofs.turns.Openings.{opened_as, opened_then}
 use Rattle.autfilt_run.specs.Events.{Event, Tally, IsEventJudged, Point, all_written, tally_with, open_after, open_by, opened_stream, opened_streams, start_of, tally_from, written_of}
@@ -29,9 +29,9 @@ written_push : (events : List Event) (event : Event) → all_written (events ++ 
 written_push [] event = append-nil (written_of event)
 written_push (e ∷ es) event = ap (λ x. written_of e ++ x) (written_push es event) ∙ sym (append_assoc (written_of e) (all_written es) (written_of event))
 
-pub noted_push : (events : List Event) (event : Event) → all_noted (events ++ event ∷ []) ≡ all_noted events ++ noted event
-noted_push [] event = append-nil (noted event)
-noted_push (e ∷ es) event = ap (λ x. noted e ++ x) (noted_push es event) ∙ sym (append_assoc (noted e) (all_noted es) (noted event))
+pub noted_push : (events : List Event) (event : Event) → all_noted (events ++ event ∷ []) ≡ all_noted events ++ noted_of event
+noted_push [] event = append-nil (noted_of event)
+noted_push (e ∷ es) event = ap (λ x. noted_of e ++ x) (noted_push es event) ∙ sym (append_assoc (noted_of e) (all_noted es) (noted_of event))
 
 pub opened_streams_push : (events : List Event) (event : Event) → opened_streams (events ++ event ∷ []) ≡ opened_streams events ++ opened_stream event
 opened_streams_push [] event = append-nil (opened_stream event)
@@ -77,7 +77,7 @@ open_then before (e ∷ es) others = open_then (open_by before e) es others
 -- another event
 pub run_more : (event : Event) (fresh old new : Session) (s m t : Seen) (o p q k l j : SinkSeen) (first noting noting' : Bool) → new.plan ≡ old.plan → new.operands ≡ old.operands
     → asks_on old.plan old.kept ≡ true
-    → HasRunEvents fresh old s m o p k l first noting → Stepped event old new m t p q → Adds (noted event) noting noting' l j → HasRunEvents fresh new s t o q k j first noting'
+    → HasRunEvents fresh old s m o p k l first noting → Stepped event old new m t p q → Adds (noted_of event) noting noting' l j → HasRunEvents fresh new s t o q k j first noting'
 run_more event fresh old new s m t o p q k l j first noting noting' plan operands asks h step notes = record {
   events = h.events ++ event ∷ [];
   same_plan = plan ∙ h.same_plan;
@@ -94,7 +94,7 @@ run_more event fresh old new s m t o p q k l j first noting noting' plan operand
       };
   gains = gains_as o.written q.written _ _ (sym (written_push h.events event)) (both o.written p.written q.written (all_written h.events) (written_of event) h.gains step.gains);
   noted = λ sink text before.
-      noted_as sink j _ _ noting' (append_assoc text (all_noted h.events) (noted event) ∙ ap (λ x. text ++ x) (sym (noted_push h.events event)))
+      noted_as sink j _ _ noting' (append_assoc text (all_noted h.events) (noted_of event) ∙ ap (λ x. text ++ x) (sym (noted_push h.events event)))
       (notes sink (text ++ all_noted h.events) (h.noted sink text before));
   named = opened_streams_push h.events event ∙ (ap (λ xs. xs ++ opened_stream event) h.named
       ∙ sym (subst (λ (p : Plan). take new.opened (plan_streams p) ≡ take old.opened (plan_streams p) ++ opened_stream event) h.same_plan step.named));

@@ -4,7 +4,6 @@ use Rattle.aut_base.specs.declared.limit.TheConstants.{MOST_BYTES}
 use Rattle.aut_io.specs.Outside.{Gains, Texts}
 use Rattle.aut_io.specs.Seen.{Seen, SinkSeen}
 use Rattle.autfilt_run.proofs.running.Stepping.{GoesOn, stands_in_same_streams, opens_next}
-use Rattle.autfilt_run.specs.Run.{AreCalm}
 use Rattle.autfilt_run.proofs.printing.Gains.{nothing}
 use Rattle.autfilt_run.proofs.turns.Preparing.{taken_few, take_named}
 use Rattle.autfilt_run.proofs.turns.Stepping.{KeepsOn, ends_stream, is_open, name_as, one_name, reads_on}
@@ -14,6 +13,7 @@ use Rattle.autfilt_run.specs.Plans.{plan_streams}
 use Rattle.autfilt_run.specs.Points.{StandsInStreams, name_in, operands_in}
 use Rattle.autfilt_run.specs.Turns as turns
 use Rattle.autfilt_run.specs.Turns.{Progress, progress_after, progress}
+use Rattle.autfilt_run.specs.inner.Running.{AreCalm}
 use Rattle.autfilt_run.specs.declared.session.Session.{Session}
 use Rattle.autfilt_run.specs.declared.session.Turn.TheVariants as turn
 use Rattle.hoa_lexer.specs.Moves.{Elsewhere, MovesLexer}

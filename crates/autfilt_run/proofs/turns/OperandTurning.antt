@@ -64,7 +64,7 @@ not_taken (fault.Limit which) w old new s t r hand same whole moves h = record {
   reads = record {
     was_open = r;
     in_hand = hand;
-    read = is_past none_over which w old.lexer.since s.left t.left (counts_pass which w h) (inl h) whole;
+    read = is_past none_over which w old.lexer.since s.left t.left (inl h) whole;
     moves = subst (λ (x : Stop). MovesLexer x old.lexer new.lexer s t) (sym (elsewhere which (counts_pass which w h))) moves;
   };
   skipped = same;

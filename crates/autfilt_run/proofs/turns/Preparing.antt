@@ -10,21 +10,24 @@ use Rattle.std.specs.Prelude.{map, slice_get}
 use Rattle.std.specs.Result.{IsErrAnd}
 use Rattle.aut_base.specs.declared.fault.OpenFail.TheVariants as opening
 use Rattle.aut_base.specs.declared.limit.Limit.{Limit}
+use Rattle.aut_base.specs.declared.limit.Limit.TheVariants as limit
 use Rattle.aut_base.specs.declared.limit.TheConstants.{MOST_BYTES}
 use Rattle.aut_core.specs.SymbolicAutomata.{automaton_of}
 use Rattle.aut_io.specs.Outside.{Closed, Texts}
 use Rattle.aut_io.specs.Seen.{Seen}
-use Rattle.autfilt_run.proofs.turns.Openings.{opened_as, opened_then, tried_behind, tried_for, tried_none, wants_next}
+use Rattle.autfilt_run.proofs.turns.Counted.{counted}
+use Rattle.autfilt_run.proofs.turns.Openings.{fault_in, opened_as, opened_then, tried_behind, tried_for, tried_none, wants_next}
 use Rattle.autfilt_run.proofs.turns.Stepping.{KeepsOn, closed_counted, is_closed, name_as, one_name, opens_stream, reads_on, rest_from, stops_at, stops_named, stream_counted, takes_operand}
 use Rattle.autfilt_run.proofs.printing.Writing.{rose_from}
 use Rattle.autfilt_run.specs.Events.{Point, ReadsOn}
-use Rattle.autfilt_run.specs.Faults.{Told, AtToken, AtByte, OfWhole, stop_of_run_fault, stop_of_limit, when_told}
-use Rattle.autfilt_run.specs.Openings.{AreOpened, AreTried, MayEnd, WantsFile}
+use Rattle.autfilt_run.specs.Openings.{AreOpened, AreTried, WantsFile}
 use Rattle.autfilt_run.specs.OperandEvents.{AreRead, FileOpened, OperandEvent, PassedOver, Proceeds, Taken, all_passed, file_open_after, file_open_by}
 use Rattle.autfilt_run.specs.OperandEvents.{opened_file, opened_files, operand_of, operands_read, passed_of}
 use Rattle.autfilt_run.specs.Points.{IsAt, StandsIn, name_in, open_count, operands_in}
 use Rattle.autfilt_run.specs.Preparing.{CountsAt, FailsToPrepare, HasReadOperands, HasSkipped, HasAllOperands, Prepares, WantsOperand, opened_names}
 use Rattle.autfilt_run.specs.Runs.{AtNamed, IsCounted, StopsAtOperand, StopsInOperands, WantsMemory, WantsStream, taken_until}
+use Rattle.autfilt_run.specs.Turns.{stop_of_run_fault}
+use Rattle.autfilt_run.specs.declared.ended.End.TheVariants as end
 use Rattle.autfilt_run.specs.declared.fault.RunFault.{RunFault}
 use Rattle.autfilt_run.specs.declared.fault.RunFault.TheVariants as fault
 use Rattle.autfilt_run.specs.declared.session.Prep.{Prep}
@@ -268,7 +271,7 @@ record HaltsAt (f : RunFault) (old new : Session) (m t : Seen) : Type 0 where
   halts : (texts : Texts) → m.texts ≡ Some texts → (q : Point) → StandsIn old m.left q → StopsInOperands f (name_in new) q t.left × IsCounted f q t.left
   skipped : new.skipped ≡ old.skipped
   counts : CountsAt f m t
-  tried : AreTried f (WantsFile old.is_open (length old.operands) (length (operands old.plan))) 0 m t
+  tried : AreTried (end.Fault f) (WantsFile old.is_open (length old.operands) (length (operands old.plan))) 0 m t
 
 pub untold_closed : (texts : Option Texts) (left : Option (List ℕ)) (t : Texts) → texts ≡ Some t → Closed texts left → left ≡ Some []
 untold_closed None left t e h = cc
@@ -276,10 +279,9 @@ untold_closed (Some x) left t e h = h
 
 tries_counted : (f : RunFault) (old : Session) (left left' : Option (List ℕ)) (q : Point) → IsAt old left q → old.is_open ≡ false → old.lexer.taken ≤ MOST_BYTES → stop_of_run_fault f ≡ Elsewhere
     → IsCounted f q left'
-tries_counted f old left left' q stands closed few stop = record {
-  few = subst (λ (n : ℕ). n ≤ MOST_BYTES) (sym (closed_counted old left left' q stands closed)) few;
-  within = subst (λ (x : Stop). IsWithinByteLimit x (taken_until q left') MOST_BYTES) (sym stop) tt;
-}
+tries_counted f old left left' q stands closed few stop =
+    counted f q left' (subst (λ (n : ℕ). n ≤ MOST_BYTES) (sym (closed_counted old left left' q stands closed)) few)
+    (subst (λ (x : Stop). IsWithinByteLimit x (taken_until q left') MOST_BYTES) (sym stop) tt)
 
 wants : (old new : Session) (left : Option (List ℕ)) (q : Point) (name : List ℕ) → StandsIn old left q → old.is_open ≡ false → slice_get (operands old.plan) (length old.operands) ≡ Some name
     → WantsStream (Unit {0}) q name
@@ -302,7 +304,7 @@ unopened old new m t few h = record {
   );
   skipped = h.skipped;
   counts = (h.opens.failed refl, h.opens.reads);
-  tried = record { tried = 1; may = refl; wanted = λ one. wants_one old h.name h.closed h.next; opened = h.opens.counted };
+  tried = record { tried = 1; once = omega arith; wanted = λ one. (wants_one old h.name h.closed h.next, inl refl); failed = λ is. refl; opened = h.opens.counted };
 }
 
 unopened_for_memory : (old new : Session) (m t : Seen) → old.lexer.taken ≤ MOST_BYTES → TriesFile (Err opening.Memory) old new m t → HaltsAt fault.Memory old new m t
@@ -313,39 +315,33 @@ unopened_for_memory old new m t few h = record {
   );
   skipped = h.skipped;
   counts = (h.opens.memory refl, h.opens.reads);
-  tried = record { tried = 1; may = omega arith; wanted = λ one. wants_one old h.name h.closed h.next; opened = h.opens.counted };
+  tried = record { tried = 1; once = omega arith; wanted = λ one. (wants_one old h.name h.closed h.next, inr refl); failed = λ is. refl; opened = h.opens.counted };
 }
 
 file_counted : (f : RunFault) (old new : Session) (m t : Seen) (q : Point) → new.lexer.most ≡ MOST_BYTES → new.lexer.taken ≤ MOST_BYTES → old.is_open ≡ true → IsAt old m.left q
     → MovesLexer (stop_of_run_fault f) old.lexer new.lexer m t → IsCounted f q t.left
 file_counted f old new m t q most few opened_so stands moves =
     let same = stream_counted old new m t q (stop_of_run_fault f) stands opened_so moves in
-    record {
-      few = subst (λ (n : ℕ). n ≤ MOST_BYTES) (sym same) few;
-      within = subst (λ (n : ℕ). IsWithinByteLimit (stop_of_run_fault f) n MOST_BYTES) (sym same) (subst (λ (n : ℕ). IsWithinByteLimit (stop_of_run_fault f) new.lexer.taken n) most moves.within);
-    }
+    counted f q t.left (subst (λ (n : ℕ). n ≤ MOST_BYTES) (sym same) few)
+    (subst (λ (n : ℕ). IsWithinByteLimit (stop_of_run_fault f) n MOST_BYTES) (sym same) (subst (λ (n : ℕ). IsWithinByteLimit (stop_of_run_fault f) new.lexer.taken n) most moves.within))
 
 -- what is next in the open file
 named : (f : RunFault) (old new : Session) (m t : Seen) → KeepsAll old new → new.lexer.most ≡ MOST_BYTES → new.lexer.taken ≤ MOST_BYTES
-    → ((q : Point) → AtNamed (Unit {0}) q (name_in new) t.left (StopsAtOperand f) → StopsInOperands f (name_in new) q t.left) → CountsAt f m t → MayEnd f 0 → FailsReading f old new m t
+    → ((q : Point) → AtNamed (Unit {0}) q (name_in new) t.left (StopsAtOperand f) → StopsInOperands f (name_in new) q t.left) → CountsAt f m t → f ≢ fault.CannotOpen → FailsReading f old new m t
     → HaltsAt f old new m t
-named f old new m t keeps most few stops counts may h = record {
+named f old new m t keeps most few stops counts other h = record {
   halts = λ texts told q stands. (
     stops q (stops_named (Unit {0}) (StopsAtOperand f) old m t q (name_in new) (name_as old new keeps.plan h.reads.in_hand) stands.at h.reads.was_open tt h.reads.read),
     file_counted f old new m t q most few h.reads.was_open stands.at h.reads.moves,
   );
   skipped = h.skipped;
   counts = counts;
-  tried = tried_none f _ m t may h.reads.moves.openings;
+  tried = tried_none (end.Fault f) _ m t (λ is. other (fault_in is)) h.reads.moves.openings;
 }
 
 pub calm_limit : (which : Limit) (a b : ℕ) → CountsReads (stop_of_run_fault (fault.Limit which)) a b → b ≡ a
-calm_limit which a b h = by_cases (when_told which) h
-  where
-    by_cases : (t : Told) → CountsReads (stop_of_limit t) a b → b ≡ a
-    by_cases AtToken h = h
-    by_cases AtByte h = h
-    by_cases OfWhole h = h
+calm_limit limit.Bytes a b h = h
+calm_limit _ a b h = h
 
 halted : (f : RunFault) (old new : Session) (m t : Seen) → KeepsAll old new → new.lexer.most ≡ MOST_BYTES → old.lexer.taken ≤ MOST_BYTES → new.lexer.taken ≤ MOST_BYTES
     → FailsOperand f old new m t → HaltsAt f old new m t
@@ -359,13 +355,13 @@ halted fault.Memory old new m t keeps most few few' (inr h) = record {
   );
   skipped = h.skipped;
   counts = (h.reads.moves.opens, h.reads.moves.reads);
-  tried = tried_none fault.Memory _ m t (omega arith) h.reads.moves.openings;
+  tried = tried_none (end.Fault fault.Memory) _ m t (λ is. cc) h.reads.moves.openings;
 }
-halted fault.ReadFault old new m t keeps most few few' h = named fault.ReadFault old new m t keeps most few' (λ q x. x) (h.reads.moves.opens, h.reads.moves.reads) refl h
-halted (fault.SyntaxAt k) old new m t keeps most few few' h = named (fault.SyntaxAt k) old new m t keeps most few' (λ q x. x) (h.reads.moves.opens, h.reads.moves.reads) refl h
-halted fault.Truncated old new m t keeps most few few' h = named fault.Truncated old new m t keeps most few' (λ q x. x) (h.reads.moves.opens, h.reads.moves.reads) refl h
-halted (fault.Invalid rule) old new m t keeps most few few' h = named (fault.Invalid rule) old new m t keeps most few' (λ q x. x) (h.reads.moves.opens, h.reads.moves.reads) refl h
-halted (fault.Limit which) old new m t keeps most few few' h = named (fault.Limit which) old new m t keeps most few' (λ q x. x) (h.reads.moves.opens, calm_limit which _ _ h.reads.moves.reads) refl h
+halted fault.ReadFault old new m t keeps most few few' h = named fault.ReadFault old new m t keeps most few' (λ q x. x) (h.reads.moves.opens, h.reads.moves.reads) (λ is. cc) h
+halted (fault.SyntaxAt k) old new m t keeps most few few' h = named (fault.SyntaxAt k) old new m t keeps most few' (λ q x. x) (h.reads.moves.opens, h.reads.moves.reads) (λ is. cc) h
+halted fault.Truncated old new m t keeps most few few' h = named fault.Truncated old new m t keeps most few' (λ q x. x) (h.reads.moves.opens, h.reads.moves.reads) (λ is. cc) h
+halted (fault.Invalid rule) old new m t keeps most few few' h = named (fault.Invalid rule) old new m t keeps most few' (λ q x. x) (h.reads.moves.opens, h.reads.moves.reads) (λ is. cc) h
+halted (fault.Limit which) old new m t keeps most few few' h = named (fault.Limit which) old new m t keeps most few' (λ q x. x) (h.reads.moves.opens, calm_limit which _ _ h.reads.moves.reads) (λ is. cc) h
 
 pub counts_then : (f : RunFault) (s m t : Seen) → m.open_faults ≡ s.open_faults → m.read_faults ≡ s.read_faults → CountsAt f m t → CountsAt f s t
 counts_then fault.CannotOpen s m t a b h = (rose_from s.open_faults m.open_faults t.open_faults a h.0, h.1 ∙ b)
@@ -407,7 +403,7 @@ fails f first old new s m t most few few' h keeps failed =
         length old.operands + open_count old.is_open,
         sym h.read.named ∙ ap (λ (p : Plan). take (length old.operands + open_count old.is_open) (operands p)) h.keeps.plan,
       );
-      openings = tried_for f _ _ _ s t (wants_operand first old s m h) (tried_behind f _ (length (opened_files h.events)) s m t h.read.openings at.tried);
+      openings = tried_for (end.Fault f) _ _ _ s t (wants_operand first old s m h) (tried_behind (end.Fault f) _ (length (opened_files h.events)) s m t h.read.openings at.tried);
     }
 
 -- a fault that `?` returns

@@ -1,15 +1,15 @@
 -- What the reader answers, in terms of a session.
-use Rattle.std.proofs.Common.{◌≡◌, ◌⊎◌, ℕ, ◌-◌, List, Option, None, Result, Ok, Err, sym, subst, inl, inr, arith}
+use Rattle.std.proofs.Common.{◌≡◌, ◌⊎◌, ℕ, ◌-◌, List, Option, None, Result, Ok, Err, refl, sym, subst, inl, inr, arith}
 use Rattle.aut_base.specs.declared.limit.Limit.{Limit}
-use Rattle.autfilt_run.proofs.handling.PassedLimits.{IsOfWhole}
 use Rattle.autfilt_run.specs.Events.{IsGood}
-use Rattle.autfilt_run.specs.Faults.{Told, fault_of_reading}
-use Rattle.autfilt_run.specs.Runs.{IsAllRead, StandsWith, StopsReading, StopsAtLimit, WantsMemory}
+use Rattle.autfilt_run.specs.Faults.{fault_of_reading}
+use Rattle.autfilt_run.specs.Runs.{StopsReading, WantsMemory}
+use Rattle.autfilt_run.specs.Turns.{IsAllRead}
 use Rattle.autfilt_run.specs.declared.fault.RunFault.TheVariants as run
 use Rattle.hoa_lexer.proofs.next_token.Between.{between_as, between_both}
 use Rattle.hoa_lexer.specs.Reading.{Between, held_count, unread}
 use Rattle.hoa_parser.specs.Raw.{Written, written}
-use Rattle.hoa_parser.specs.Reads.{AnswersFront, HoldsBehind, Shows}
+use Rattle.hoa_parser.specs.Reads.{AnswersFront, AsksOn, HoldsBehind, Shows}
 use Rattle.hoa_parser.specs.Standing.{Aborted, Stands, Whole}
 use Rattle.hoa_parser.specs.declared.fault.ReadFault.{ReadFault}
 use Rattle.hoa_parser.specs.declared.fault.ReadFault.TheVariants as fault
@@ -52,8 +52,8 @@ stops_reading : (over : Limit → Written → Type 0) (f : ReadFault) (start : �
     → StopsReading over (fault_of_reading f) start old new
 stops_reading over (fault.Syntax k) start held' old new n h = record { bad = h.0; shown = h.1.0; last = h.1.1 }
 stops_reading over fault.Truncated start held' old new n h = record { cut = h.0; nothing = h.1.0; asks = h.1.1 }
-stops_reading over fault.Depth start held' old new n h = record { deep = h.0; ends = h.1.0; last = h.1.1 }
-stops_reading over fault.Bytes start held' old new n h = subst (λ (x : Option ℕ). StopsReading over (fault_of_reading fault.Bytes) start old (unread x new)) n h.0
+stops_reading over fault.Depth start held' old new n h = inl (refl, record { deep = h.0; ends = h.1.0; last = h.1.1 })
+stops_reading over fault.Bytes start held' old new n h = inr (inl (refl, subst (λ (x : Option ℕ). AsksOn start old (unread x new)) n h.0))
 stops_reading over fault.Read start held' old new n h = subst (λ (x : Option ℕ). StopsReading over run.ReadFault start old (unread x new)) n h.0
 stops_reading over fault.Memory start held' old new n h = inl (held', h.0)
 
@@ -97,20 +97,15 @@ is_good w start left left' valid within h =
     between_as left left' (λ old new. Stands (Whole w new) start old) (λ old new. IsGood start old w new)
     (λ old new whole. record { whole = whole; valid = valid; within = within }) h
 
--- a limit that is noticed at an automaton that was read whole
-pub past : (over : Limit → Written → Type 0) (which : Limit) (start : ℕ) (old new : List ℕ) → IsOfWhole which → StandsWith (λ w. PassesLimit which w ⊎ over which w) start old new
-    → StopsReading over (run.Limit which) start old new
-past over which start old new whole h = subst (λ (t : Told). StopsAtLimit t (λ w. PassesLimit which w ⊎ over which w) start old new) (sym whole) h
-
 -- it was read whole, and is not valid, passes a limit, or memory was wanting for it
 pub is_broken : (over : Limit → Written → Type 0) (rule : Rule) (w : Written) (start : ℕ) (left left' : Option (List ℕ)) → IsFirstBroken rule w
     → Between left left' (λ old new. Stands (Whole w new) start old) → Between left left' (StopsReading over (run.Invalid rule) start)
 is_broken over rule w start left left' broken h = between_as left left' _ (StopsReading over (run.Invalid rule) start) (λ old new s. record { automaton = w; whole = s; holds = broken }) h
 
-pub is_past : (over : Limit → Written → Type 0) (which : Limit) (w : Written) (start : ℕ) (left left' : Option (List ℕ)) → IsOfWhole which → PassesLimit which w ⊎ over which w
+pub is_past : (over : Limit → Written → Type 0) (which : Limit) (w : Written) (start : ℕ) (left left' : Option (List ℕ)) → PassesLimit which w ⊎ over which w
     → Between left left' (λ old new. Stands (Whole w new) start old) → Between left left' (StopsReading over (run.Limit which) start)
-is_past over which w start left left' n p h =
-    between_as left left' _ (StopsReading over (run.Limit which) start) (λ old new s. past over which start old new n (record { automaton = w; whole = s; holds = p })) h
+is_past over which w start left left' p h =
+    between_as left left' _ (StopsReading over (run.Limit which) start) (λ old new s. inr (inr (record { automaton = w; whole = s; holds = p }))) h
 
 pub is_wanting : (w : Written) (start : ℕ) (left left' : Option (List ℕ))
     → Between left left' (λ old new. Stands (Whole w new) start old) → Between left left' (WantsMemory start)

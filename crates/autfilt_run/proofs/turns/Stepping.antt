@@ -4,12 +4,13 @@ use Rattle.std.proofs.lemmas.Bool.{false≢true}
 use Rattle.aut_base.specs.declared.limit.TheConstants.{MOST_BYTES}
 use Rattle.aut_io.specs.Outside.{Opened, Texts, text_of}
 use Rattle.aut_io.specs.Seen.{Opens, Seen}
-use Rattle.autfilt_run.specs.Events.{EndsStream, IsGood, OpensStream, Point, ReadsOn, Stream, at_stream_end, opened_at, bytes_before, read_on}
-use Rattle.autfilt_run.specs.OperandEvents.{TakesOperand, taken_at}
+use Rattle.autfilt_run.proofs.turns.Points.{at_stream_end, read_on, taken_at}
+use Rattle.autfilt_run.specs.Events.{EndsStream, IsGood, OpensStream, Point, ReadsOn, Stream, opened_at, bytes_before}
+use Rattle.autfilt_run.specs.OperandEvents.{TakesOperand}
 use Rattle.autfilt_run.specs.Plans.{files_of, tried_name}
 use Rattle.autfilt_run.specs.Points.{IsAt, IsInStream, name_in}
-use Rattle.autfilt_run.specs.Runs.{AtNamed, AtStream, IsAllRead, taken_in, taken_until}
-use Rattle.autfilt_run.specs.Turns.{BeginsText}
+use Rattle.autfilt_run.specs.Runs.{AtNamed, AtStream, taken_in, taken_until}
+use Rattle.autfilt_run.specs.Turns.{BeginsText, IsAllRead}
 use Rattle.autfilt_run.specs.declared.session.Session.{Session}
 use Rattle.filter_plan.specs.declared.plan.Plan.{Plan}
 use Rattle.hoa_lexer.specs.Moves.{AtEnd, MovesLexer, Stop}

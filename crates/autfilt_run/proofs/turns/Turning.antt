@@ -71,7 +71,7 @@ not_handled (fault.Invalid rule) w old new s t o o' r hand whole moves h =
 not_handled (fault.Limit which) w old new s t o o' r hand whole moves h = record {
   reading = r;
   in_hand = hand;
-  read = is_past (over_in old) which w old.lexer.since s.left t.left (both_ways which old.plan (operands_in old) w h.0) h.0 whole;
+  read = is_past (over_in old) which w old.lexer.since s.left t.left h.0 whole;
   moves = subst (λ (x : Stop). MovesLexer x old.lexer new.lexer s t) (sym (elsewhere which (both_ways which old.plan (operands_in old) w h.0))) moves;
   output = h.1;
 }

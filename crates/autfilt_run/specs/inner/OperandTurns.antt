@@ -5,10 +5,9 @@ use Rattle.aut_base.specs.declared.fault.OpenFail.{OpenFail}
 use Rattle.aut_base.specs.declared.fault.OpenFail.TheVariants as opening
 use Rattle.aut_io.specs.Seen.{Opens, Seen}
 use Rattle.autfilt_run.specs.Events.{IsGood}
-use Rattle.autfilt_run.specs.Faults.{stop_of_run_fault}
 use Rattle.autfilt_run.specs.Points.{name_in, operands_in}
 use Rattle.autfilt_run.specs.Runs.{StopsAtOperand}
-use Rattle.autfilt_run.specs.Turns.{BeginsText}
+use Rattle.autfilt_run.specs.Turns.{BeginsText, stop_of_run_fault}
 use Rattle.autfilt_run.specs.declared.fault.RunFault.{RunFault}
 use Rattle.autfilt_run.specs.declared.fault.RunFault.TheVariants as fault
 use Rattle.autfilt_run.specs.declared.session.Session.{Session}

@@ -1,14 +1,14 @@
 -- Invariants of the loops over operands and over steps.
-use Rattle.std.specs.Prelude.{◌≡◌, ◌≢◌, ◌⊎◌, ℕ, ◌++◌, Bool, false, List, [], length, take, Option, Some, Result, Ok, Err}
+use Rattle.std.specs.Prelude.{◌≡◌, ◌≢◌, ◌⊎◌, ℕ, ◌++◌, Bool, false, List, [], flat_map, length, take, Option, Some, Result, Ok, Err}
 use Rattle.aut_io.specs.Outside.{Gains, GainsPrefix, Rose, Texts}
 use Rattle.aut_io.specs.Seen.{Seen, SinkSeen}
 use Rattle.autfilt_run.specs.Ends.{ended_of}
 use Rattle.autfilt_run.specs.Noted.{HasNoted, Notes}
 use Rattle.autfilt_run.specs.Notes.{aborted_line, line_of}
-use Rattle.autfilt_run.specs.Run.{AreCalm, EndsBecause, EndsInOperands, Runs, WantsOperandFile, all_noted, end_of, passed_noted, tally_after}
+use Rattle.autfilt_run.specs.Run.{EndsBecause, EndsInOperands, Runs, WantsOperandFile, end_of, noted_of}
 use Rattle.autfilt_run.specs.declared.ended.End.{End}
 use Rattle.autfilt_run.specs.declared.ended.End.TheVariants as end
-use Rattle.autfilt_run.specs.Events.{AreJudged, Event, Happen, Point, Tally, all_written, open_after, opened_streams, start_of}
+use Rattle.autfilt_run.specs.Events.{AreJudged, Event, Happen, Point, Tally, all_written, open_after, opened_streams, start_of, tally}
 use Rattle.autfilt_run.specs.Openings.{AreOpened, AreTried}
 use Rattle.autfilt_run.specs.OperandEvents.{AreRead, OperandEvent, all_passed, file_open_after, opened_files, operands_read}
 use Rattle.autfilt_run.specs.Plans.{plan_streams}
@@ -22,6 +22,19 @@ use Rattle.autfilt_run.specs.declared.session.Turn.{Turn}
 use Rattle.autfilt_run.specs.declared.session.Turn.TheVariants as turn
 use Rattle.filter_plan.specs.Words.{operands}
 use Rattle.filter_plan.specs.declared.plan.Plan.{Plan}
+
+-- what is noted of the automata that are skipped in the streams, and in the files of operands
+abbrev pub all_noted : List Event → List ℕ
+all_noted = flat_map noted_of
+
+abbrev pub passed_noted : List (List ℕ) → List ℕ
+passed_noted = flat_map aborted_line
+
+-- no count of I/O faults rose
+pub record AreCalm (seen seen' : Seen) (out out' : SinkSeen) : Type 0 where
+  pub opens : seen'.open_faults ≡ seen.open_faults
+  pub reads : seen'.read_faults ≡ seen.read_faults
+  pub writes : out'.faults ≡ out.faults
 
 -- no count of the inputs' faults rose
 pub record AreCalmInputs (seen seen' : Seen) : Type 0 where
@@ -78,7 +91,7 @@ pub record FailsPreparing (plan : Plan) (e : End) (seen seen' : Seen) (notes not
   pub noted : Notes (passed_noted (all_passed taken) ++ line_of e name) notes notes'
   pub counts : CountsAt fault seen seen'
   pub named : (k : ℕ) × (opened_files taken ≡ take k (operands plan))
-  pub openings : AreTried fault (WantsOperandFile plan taken) (length (opened_files taken)) seen seen'
+  pub openings : AreTried e (WantsOperandFile plan taken) (length (opened_files taken)) seen seen'
 
 -- what preparing answers: whether notes are still taken, or how the run ended
 abbrev pub Preparing : Result Bool End → Plan → Session → Seen → Seen → SinkSeen → SinkSeen → Type 0
@@ -118,7 +131,7 @@ pub record HasRunEvents (fresh s : Session) (seen seen' : Seen) (out out' notes 
   pub happened : (texts : Texts) → seen.texts ≡ Some texts → Reached fresh.plan fresh.lexer.taken texts events seen.left seen'.left s
   pub gains : Gains out.written out'.written (all_written events)
   pub noted : (sink : SinkSeen) (text : List ℕ) → HasNoted text first sink notes → HasNoted (text ++ all_noted events) noting sink notes'
-  pub tallied : tally_after fresh.skipped events ≡ record { kept = s.kept; skipped = s.skipped }
+  pub tallied : tally fresh.skipped events ≡ record { kept = s.kept; skipped = s.skipped }
   pub named : opened_streams events ≡ take s.opened (plan_streams fresh.plan)
   pub still : s.is_open ≡ open_after false events
   pub openings : AreOpened (length (opened_streams events)) seen seen'
