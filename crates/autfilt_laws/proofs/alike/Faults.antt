@@ -173,7 +173,8 @@ asking_bytes : (over : Limit → Written → Type 0) → AreOfWhole over → (f 
     → AsksOn start rest now
 asking_bytes over whole f is start rest now h = asks_at_bytes over whole start rest now (subst (λ (g : RunFault). StopsReading over g start rest now) is h)
 
-pub stopped : (on : Type 0) (a : Asking) → AreOfWhole (λ which w. a.over which w) → (f : RunFault) (p : Point) (left : Option (List ℕ)) → IsByText (end.Fault f) → IsFitted p → AtStream on p left (StopsReading (λ which w. a.over which w) f)
+pub stopped : (on : Type 0) (a : Asking) → AreOfWhole (λ which w. a.over which w)
+    → (f : RunFault) (p : Point) (left : Option (List ℕ)) → IsByText (end.Fault f) → IsFitted p → AtStream on p left (StopsReading (λ which w. a.over which w) f)
     → IsCounted f p left → Stopped on a p f
 stopped on a whole f p left by fitted h c = go (is_bytes f)
   where

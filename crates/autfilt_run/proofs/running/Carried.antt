@@ -148,7 +148,12 @@ wanting plan s o = record {
   fault = fault.Memory;
   ends = refl;
   no_write = λ x. cc;
-  happened = λ texts told. record { point = start_of (operands plan) s.left 0; read = refl; stops = inl refl; counted = counted fault.Memory (start_of (operands plan) s.left 0) s.left (omega arith) tt };
+  happened = λ texts told. record {
+    point = start_of (operands plan) s.left 0;
+    read = refl;
+    stops = inl refl;
+    counted = counted fault.Memory (start_of (operands plan) s.left 0) s.left (omega arith) tt;
+  };
   named = (0, refl);
   openings = tried_none (end.Fault fault.Memory) _ s s (λ is. cc) refl;
   none = refl;

@@ -267,8 +267,10 @@ halted fault.ReadFault name old new m t p q n steady h is = record {
   tried = tried_none (end.Fault fault.ReadFault) _ m t (λ is. cc) h.moves.openings;
   texts = h.moves.texts;
 }
-halted (fault.SyntaxAt k) name old new m t p q n steady h is = calm_halt (fault.SyntaxAt k) name old new m t p q steady is h.moves.reads (λ x s. s) (λ plan events a b g. g) (λ e. cc, λ e. cc, λ e. cc) (λ e. cc) h
-halted fault.Truncated name old new m t p q n steady h is = calm_halt fault.Truncated name old new m t p q steady is h.moves.reads (λ x s. s) (λ plan events a b g. g) (λ e. cc, λ e. cc, λ e. cc) (λ e. cc) h
+halted (fault.SyntaxAt k) name old new m t p q n steady h is =
+    calm_halt (fault.SyntaxAt k) name old new m t p q steady is h.moves.reads (λ x s. s) (λ plan events a b g. g) (λ e. cc, λ e. cc, λ e. cc) (λ e. cc) h
+halted fault.Truncated name old new m t p q n steady h is =
+    calm_halt fault.Truncated name old new m t p q steady is h.moves.reads (λ x s. s) (λ plan events a b g. g) (λ e. cc, λ e. cc, λ e. cc) (λ e. cc) h
 halted (fault.Invalid rule) name old new m t p q n steady h is = calm_halt (fault.Invalid rule) name old new m t p q steady is h.moves.reads (λ x s. s) (λ plan events a b g. g)
     (λ e. cc, λ e. cc, λ e. cc) (λ e. cc) h
 halted (fault.Limit which) name old new m t p q n steady h is =

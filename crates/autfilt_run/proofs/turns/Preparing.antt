@@ -361,7 +361,8 @@ halted fault.ReadFault old new m t keeps most few few' h = named fault.ReadFault
 halted (fault.SyntaxAt k) old new m t keeps most few few' h = named (fault.SyntaxAt k) old new m t keeps most few' (λ q x. x) (h.reads.moves.opens, h.reads.moves.reads) (λ is. cc) h
 halted fault.Truncated old new m t keeps most few few' h = named fault.Truncated old new m t keeps most few' (λ q x. x) (h.reads.moves.opens, h.reads.moves.reads) (λ is. cc) h
 halted (fault.Invalid rule) old new m t keeps most few few' h = named (fault.Invalid rule) old new m t keeps most few' (λ q x. x) (h.reads.moves.opens, h.reads.moves.reads) (λ is. cc) h
-halted (fault.Limit which) old new m t keeps most few few' h = named (fault.Limit which) old new m t keeps most few' (λ q x. x) (h.reads.moves.opens, calm_limit which _ _ h.reads.moves.reads) (λ is. cc) h
+halted (fault.Limit which) old new m t keeps most few few' h =
+    named (fault.Limit which) old new m t keeps most few' (λ q x. x) (h.reads.moves.opens, calm_limit which _ _ h.reads.moves.reads) (λ is. cc) h
 
 pub counts_then : (f : RunFault) (s m t : Seen) → m.open_faults ≡ s.open_faults → m.read_faults ≡ s.read_faults → CountsAt f m t → CountsAt f s t
 counts_then fault.CannotOpen s m t a b h = (rose_from s.open_faults m.open_faults t.open_faults a h.0, h.1 ∙ b)

@@ -55,7 +55,8 @@ factors_same : (names : List (List ℕ)) (room : ℕ) {v w : List Token} {ts us 
 factors_same names room {v} {w} {ts} {us} p q h =
     subst (λ (x : List Token). AreFactors (letters_over names) room x ts) (sym p) (subst (λ (ys : List LabelTree). AreFactors (letters_over names) room w ys) (sym q) h)
 
-products_same : (names : List (List ℕ)) (room : ℕ) {v w : List Token} {ts us : List LabelTree} → v ≡ w → ts ≡ us → AreProducts (letters_over names) room w us → AreProducts (letters_over names) room v ts
+products_same : (names : List (List ℕ)) (room : ℕ) {v w : List Token} {ts us : List LabelTree} → v ≡ w → ts ≡ us
+    → AreProducts (letters_over names) room w us → AreProducts (letters_over names) room v ts
 products_same names room {v} {w} {ts} {us} p q h =
     subst (λ (x : List Token). AreProducts (letters_over names) room x ts) (sym p) (subst (λ (ys : List LabelTree). AreProducts (letters_over names) room w ys) (sym q) h)
 

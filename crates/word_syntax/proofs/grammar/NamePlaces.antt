@@ -16,6 +16,10 @@ use Rattle.word_syntax.specs.declared.token.Token.{Token}
 use Rattle.word_syntax.specs.declared.token.Token.TheVariants as token
 use Rattle.std.proofs.lemmas.Cmp.{nat_list_eq_equiv}
 
+-- the names in the order of their first occurrence
+abbrev pub each_once : List (List ℕ) → List (List ℕ)
+each_once = distinct same_text
+
 same_itself : (n : List ℕ) → same_text n n ≡ true
 same_itself n = nat_list_eq_equiv.refl n
 
@@ -55,10 +59,10 @@ others_has m n (k ∷ ks) has = elim (cases_same m k) [
   ])
 ]
 
-pub has_distinct : (n : List ℕ) (ns : List (List ℕ)) → Has n ns → Has n (distinct same_text ns)
+pub has_distinct : (n : List ℕ) (ns : List (List ℕ)) → Has n ns → Has n (each_once ns)
 has_distinct n [] has = has
 has_distinct n (m ∷ ms) (inl e) = inl e
-has_distinct n (m ∷ ms) (inr later) = elim (cases_same m n) [ inl e ↦ inl e | inr f ↦ inr (has_others m n (distinct same_text ms) f (has_distinct n ms later)) ]
+has_distinct n (m ∷ ms) (inr later) = elim (cases_same m n) [ inl e ↦ inl e | inr f ↦ inr (has_others m n (each_once ms) f (has_distinct n ms later)) ]
 
 -- no name occurs twice
 abbrev pub Differ : List (List ℕ) → Type 0
@@ -72,9 +76,9 @@ differ_others m (k ∷ ks) d = elim (cases_same m k) [
   | inr f ↦ subst (λ (x : List (List ℕ)). Differ x) (sym (kept m k ks f)) (λ has. d.0 (others_has m k ks has).1, differ_others m ks d.1)
 ]
 
-pub distinct_differ : (ns : List (List ℕ)) → Differ (distinct same_text ns)
+pub distinct_differ : (ns : List (List ℕ)) → Differ (each_once ns)
 distinct_differ [] = tt
-distinct_differ (n ∷ ns) = (λ has. (others_has n n (distinct same_text ns) has).0 refl, differ_others n (distinct same_text ns) (distinct_differ ns))
+distinct_differ (n ∷ ns) = (λ has. (others_has n n (each_once ns) has).0 refl, differ_others n (each_once ns) (distinct_differ ns))
 
 -- the index of a name
 abbrev pub place_in : List (List ℕ) → List ℕ → ℕ
@@ -106,24 +110,25 @@ decided n (m ∷ ms) = elim (cases_same m n) [
   | inr f ↦ (elim (decided n ms) [ inl h ↦ inl (inr h) | inr g ↦ inr (λ has. elim has [ inl e ↦ f e | inr h ↦ g h ]) ])
 ]
 
-pub mutual_push : (n : List ℕ) (ns : List (List ℕ)) → (Has n (distinct same_text ns) → distinct same_text (ns ++ n ∷ []) ≡ distinct same_text ns) × ((Has n (distinct same_text ns) → ⊥) → distinct same_text (ns ++ n ∷ []) ≡ distinct same_text ns ++ n ∷ [])
+pub mutual_push : (n : List ℕ) (ns : List (List ℕ))
+    → (Has n (each_once ns) → each_once (ns ++ n ∷ []) ≡ each_once ns) × ((Has n (each_once ns) → ⊥) → each_once (ns ++ n ∷ []) ≡ each_once ns ++ n ∷ [])
 mutual_push n [] = (λ has. absurd has, λ none. refl)
 mutual_push n (m ∷ ms) =
     let before = mutual_push n ms in
     elim (cases_same m n) [
       | inl e ↦ (
-        λ has. ap (λ (x : List (List ℕ)). m ∷ x) (elim (decided n (distinct same_text ms)) [
+        λ has. ap (λ (x : List (List ℕ)). m ∷ x) (elim (decided n (each_once ms)) [
           | inl h ↦ ap (others m) (before.0 h)
-          | inr g ↦ ap (others m) (before.1 g) ∙ (filter-append (λ k. not (same_text m k)) (distinct same_text ms) (n ∷ [])
-              ∙ (ap (λ (x : List (List ℕ)). others m (distinct same_text ms) ++ x) (dropped m n [] e) ∙ append-nil (others m (distinct same_text ms))))
+          | inr g ↦ ap (others m) (before.1 g) ∙ (filter-append (λ k. not (same_text m k)) (each_once ms) (n ∷ [])
+              ∙ (ap (λ (x : List (List ℕ)). others m (each_once ms) ++ x) (dropped m n [] e) ∙ append-nil (others m (each_once ms))))
         ]),
         λ none. absurd (none (inl e)),
       )
       | inr f ↦ (
-        λ has. (let later : Has n (distinct same_text ms) = elim has [ inl e ↦ absurd (f e) | inr h ↦ (others_has m n (distinct same_text ms) h).1 ] in ap (λ (x : List (List ℕ)). m ∷ others m x) (before.0 later)),
-        λ none. (let g : Has n (distinct same_text ms) → ⊥ = λ h. none (inr (has_others m n (distinct same_text ms) f h)) in
+        λ has. (let later : Has n (each_once ms) = elim has [ inl e ↦ absurd (f e) | inr h ↦ (others_has m n (each_once ms) h).1 ] in ap (λ (x : List (List ℕ)). m ∷ others m x) (before.0 later)),
+        λ none. (let g : Has n (each_once ms) → ⊥ = λ h. none (inr (has_others m n (each_once ms) f h)) in
             ap (λ (x : List (List ℕ)). m ∷ x) (ap (others m) (before.1 g)
-            ∙ (filter-append (λ k. not (same_text m k)) (distinct same_text ms) (n ∷ []) ∙ ap (λ (x : List (List ℕ)). others m (distinct same_text ms) ++ x) (kept m n [] f)))),
+            ∙ (filter-append (λ k. not (same_text m k)) (each_once ms) (n ∷ []) ∙ ap (λ (x : List (List ℕ)). others m (each_once ms) ++ x) (kept m n [] f)))),
       )
     ]
 
@@ -138,12 +143,12 @@ has_contains (m ∷ ms) n (inl e) = (0, omega arith, e)
 has_contains (m ∷ ms) n (inr later) = let there = has_contains ms n later in (suc there.0, omega (arith, there.1), there.2)
 
 -- a list of names that grows by a name, and the names of tokens
-pub distinct_grows : (ns old new : List (List ℕ)) (n : List ℕ) → old ≡ distinct same_text ns → GrowsBy n old new → new ≡ distinct same_text (ns ++ n ∷ [])
+pub distinct_grows : (ns old new : List (List ℕ)) (n : List ℕ) → old ≡ each_once ns → GrowsBy n old new → new ≡ each_once (ns ++ n ∷ [])
 distinct_grows ns old new n is (inl (there, same)) =
-    let has : Has n (distinct same_text ns) = subst (λ (x : List (List ℕ)). Has n x) is (contains_has old n there.0 there.1 there.2) in
+    let has : Has n (each_once ns) = subst (λ (x : List (List ℕ)). Has n x) is (contains_has old n there.0 there.1 there.2) in
     same ∙ (is ∙ sym ((mutual_push n ns).0 has))
 distinct_grows ns old new n is (inr (none, same)) =
-    let lacks : Has n (distinct same_text ns) → ⊥ = λ h. All-contains (λ other. other ≢ n) old n none (has_contains old n (subst (λ (x : List (List ℕ)). Has n x) (sym is) h)) refl in
+    let lacks : Has n (each_once ns) → ⊥ = λ h. All-contains (λ other. other ≢ n) old n none (has_contains old n (subst (λ (x : List (List ℕ)). Has n x) (sym is) h)) refl in
     same ∙ (ap (λ (x : List (List ℕ)). x ++ n ∷ []) is ∙ sym ((mutual_push n ns).1 lacks))
 
 pub names_of-append : (v w : List Token) → token_names (v ++ w) ≡ token_names v ++ token_names w
@@ -161,13 +166,13 @@ names_of-append (token.Cycle ∷ v) w = names_of-append v w
 names_of-append (token.LeftBrace ∷ v) w = names_of-append v w
 names_of-append (token.RightBrace ∷ v) w = names_of-append v w
 
-plain_go : (tokens : List Token) (old new : List (List ℕ)) (t : Token) → token_names (t ∷ []) ≡ [] → old ≡ distinct same_text (token_names tokens) → new ≡ old → new ≡ distinct same_text (token_names (tokens ++ t ∷ []))
+plain_go : (tokens : List Token) (old new : List (List ℕ)) (t : Token) → token_names (t ∷ []) ≡ [] → old ≡ each_once (token_names tokens) → new ≡ old → new ≡ each_once (token_names (tokens ++ t ∷ []))
 plain_go tokens old new t none is same = same
-    ∙ (is ∙ ap (distinct same_text) (sym (names_of-append tokens (t ∷ []) ∙ (ap (λ (x : List (List ℕ)). token_names tokens ++ x) none ∙ append-nil (token_names tokens)))))
+    ∙ (is ∙ ap each_once (sym (names_of-append tokens (t ∷ []) ∙ (ap (λ (x : List (List ℕ)). token_names tokens ++ x) none ∙ append-nil (token_names tokens)))))
 
 -- the names after a token
-pub names_go : (tokens : List Token) (old new : List (List ℕ)) (t : Token) → old ≡ distinct same_text (token_names tokens) → NamesGo t old new → new ≡ distinct same_text (token_names (tokens ++ t ∷ []))
-names_go tokens old new (token.Name n) is go = distinct_grows (token_names tokens) old new n is go ∙ ap (distinct same_text) (sym (names_of-append tokens (token.Name n ∷ [])))
+pub names_go : (tokens : List Token) (old new : List (List ℕ)) (t : Token) → old ≡ each_once (token_names tokens) → NamesGo t old new → new ≡ each_once (token_names (tokens ++ t ∷ []))
+names_go tokens old new (token.Name n) is go = distinct_grows (token_names tokens) old new n is go ∙ ap each_once (sym (names_of-append tokens (token.Name n ∷ [])))
 names_go tokens old new token.True is go = plain_go tokens old new token.True refl is go
 names_go tokens old new token.False is go = plain_go tokens old new token.False refl is go
 names_go tokens old new token.Not is go = plain_go tokens old new token.Not refl is go
@@ -181,25 +186,25 @@ names_go tokens old new token.LeftBrace is go = plain_go tokens old new token.Le
 names_go tokens old new token.RightBrace is go = plain_go tokens old new token.RightBrace refl is go
 
 -- when more names follow, those so far keep their indices
-pub distinct_front : (ns more : List (List ℕ)) → (others : List (List ℕ)) × (distinct same_text (ns ++ more) ≡ distinct same_text ns ++ others)
-distinct_front ns [] = ([], ap (distinct same_text) (append-nil ns) ∙ sym (append-nil (distinct same_text ns)))
+pub distinct_front : (ns more : List (List ℕ)) → (others : List (List ℕ)) × (each_once (ns ++ more) ≡ each_once ns ++ others)
+distinct_front ns [] = ([], ap each_once (append-nil ns) ∙ sym (append-nil (each_once ns)))
 distinct_front ns (n ∷ more) =
     let rest = distinct_front (ns ++ n ∷ []) more in
-    let same : distinct same_text (ns ++ (n ∷ more)) ≡ distinct same_text (ns ++ n ∷ []) ++ rest.0 = ap (distinct same_text) (sym (append_assoc ns (n ∷ []) more)) ∙ rest.1 in
-    elim (decided n (distinct same_text ns)) [
+    let same : each_once (ns ++ (n ∷ more)) ≡ each_once (ns ++ n ∷ []) ++ rest.0 = ap each_once (sym (append_assoc ns (n ∷ []) more)) ∙ rest.1 in
+    elim (decided n (each_once ns)) [
       | inl h ↦ (rest.0, same ∙ ap (λ (x : List (List ℕ)). x ++ rest.0) ((mutual_push n ns).0 h))
-      | inr g ↦ (n ∷ rest.0, same ∙ (ap (λ (x : List (List ℕ)). x ++ rest.0) ((mutual_push n ns).1 g) ∙ append_assoc (distinct same_text ns) (n ∷ []) rest.0))
+      | inr g ↦ (n ∷ rest.0, same ∙ (ap (λ (x : List (List ℕ)). x ++ rest.0) ((mutual_push n ns).1 g) ∙ append_assoc (each_once ns) (n ∷ []) rest.0))
     ]
 
 pub agrees_front : (place : List ℕ → ℕ) (ns more : List (List ℕ)) → Agrees place (ns ++ more) → Agrees place ns
 agrees_front place ns more agrees i n e = agrees i n (slice_get-append_left ns more i (slice_get_within ns i n e) ∙ e)
 
 -- the names of tokens have indices among the distinct ones
-pub knows_all : (v w : List Token) (t : Token) (all : List Token) → all ≡ v ++ (t ∷ w) → Knows (place_in (distinct same_text (token_names all))) (distinct same_text (token_names all)) t
+pub knows_all : (v w : List Token) (t : Token) (all : List Token) → all ≡ v ++ (t ∷ w) → Knows (place_in (each_once (token_names all))) (each_once (token_names all)) t
 knows_all v w (token.Name n) all e =
     let there : Has n (token_names all) = subst (λ (x : List Token). Has n (token_names x)) (sym e)
     (subst (λ (x : List (List ℕ)). Has n x) (sym (names_of-append v (token.Name n ∷ w))) (behind (token_names v) (token_names w) n)) in
-    place_stands (distinct same_text (token_names all)) n (has_distinct n (token_names all) there)
+    place_stands (each_once (token_names all)) n (has_distinct n (token_names all) there)
   where
     behind : (xs ys : List (List ℕ)) (n : List ℕ) → Has n (xs ++ (n ∷ ys))
     behind [] ys n = inl refl

@@ -5,10 +5,9 @@ use Rattle.std.proofs.lemmas.Bool.Decides.{nat_tests}
 use Rattle.std.proofs.lemmas.List.{append_assoc, append-nil}
 use Rattle.std.proofs.lemmas.Option.{cond_some, none-some, option_and_then_some, same_Some}
 use Rattle.std.specs.Option.{option_map}
-use Rattle.aut_base.specs.Lists.{distinct}
-use Rattle.aut_base.specs.Text.{same_text}
 use Rattle.aut_base.specs.declared.limit.TheConstants.{MOST_DEPTH}
 use Rattle.aut_base.specs.Label.{LabelTree}
+use Rattle.word_syntax.proofs.grammar.NamePlaces.{each_once}
 use Rattle.word_syntax.proofs.grammar.LetterParts.{IsLevel, IsPart, Knows, Surrounds, level_letter, nots, part_fresh, part_step}
 use Rattle.word_syntax.specs.Grammar.{AreLetters, IsWord, letter, token_names, no_letter}
 use Rattle.word_syntax.proofs.grammar.FromLeft.{AreConjunctions, AreConjuncts, IsLetter, alternative, no_conjunction, no_operand, operand, letter_sum}
@@ -101,7 +100,7 @@ pub record CyclePart (names : List (List ℕ)) (s : WordState) (tokens : List To
 
 -- after the closing brace: a word, where the names are those of its tokens
 abbrev pub EndPart : List (List ℕ) → WordState → List Token → Type 0
-EndPart names s tokens = names ≡ distinct same_text (token_names tokens) → IsWord tokens (record { names = names; stem = s.stem; cycle = s.cycle })
+EndPart names s tokens = names ≡ each_once (token_names tokens) → IsWord tokens (record { names = names; stem = s.stem; cycle = s.cycle })
 
 abbrev pub PartAt : Stage → List (List ℕ) → WordState → List Token → Type 0
 PartAt Stem names s tokens = StemPart names s tokens

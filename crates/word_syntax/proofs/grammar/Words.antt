@@ -2,10 +2,9 @@
 use Rattle.std.proofs.Common.{◌≡◌, ◌≢◌, ◌∙◌, ◌∷◌, ◌++◌, List, None, Some, [], ap, arith, refl, subst, sym, ℕ}
 use Rattle.std.proofs.lemmas.List.{append_assoc, append-nil}
 use Rattle.std.specs.List.{AllByRecursion}
-use Rattle.aut_base.specs.Lists.{distinct}
-use Rattle.aut_base.specs.Text.{same_text}
 use Rattle.aut_base.specs.declared.limit.TheConstants.{MOST_DEPTH}
 use Rattle.aut_base.specs.Label.{LabelTree}
+use Rattle.word_syntax.proofs.grammar.NamePlaces.{each_once}
 use Rattle.word_syntax.proofs.grammar.Completions.{lifted, word_end}
 use Rattle.word_syntax.proofs.grammar.LetterParts.{Knows}
 use Rattle.word_syntax.proofs.grammar.LetterRuns.{ended, letter_runs}
@@ -78,28 +77,28 @@ run_part place names s last v (t ∷ w) known part runs =
     let Q : List Token → Type 0 = λ x. IsWordPart names last x in
     subst Q (append_assoc v (t ∷ []) w) (run_part place names runs.0 last (v ++ t ∷ []) w known.1 (word_part_step place names s runs.0 t v known.0 part runs.1) runs.2)
 
-known_from : (all v w : List Token) → all ≡ v ++ w → AllByRecursion (Knows (place_in (distinct same_text (token_names all))) (distinct same_text (token_names all))) w
+known_from : (all v w : List Token) → all ≡ v ++ w → AllByRecursion (Knows (place_in (each_once (token_names all))) (each_once (token_names all))) w
 known_from all v [] e = tt
 known_from all v (t ∷ w) e = (knows_all v w t all e, known_from all (v ++ t ∷ []) w (e ∙ sym (append_assoc v (t ∷ []) w)))
 
-own_places : (tokens : List Token) → Agrees (place_in (distinct same_text (token_names tokens))) (distinct same_text (token_names tokens))
-own_places tokens = places_agree (distinct same_text (token_names tokens)) (distinct_differ (token_names tokens))
+own_places : (tokens : List Token) → Agrees (place_in (each_once (token_names tokens))) (each_once (token_names tokens))
+own_places tokens = places_agree (each_once (token_names tokens)) (distinct_differ (token_names tokens))
 
-ran_word : (tokens : List Token) (s : WordState) → RunsTokens (word_step (place_in (distinct same_text (token_names tokens)))) word_start tokens s → s.stage ≡ End
-    → IsWord tokens (record { names = distinct same_text (token_names tokens); stem = s.stem; cycle = s.cycle })
+ran_word : (tokens : List Token) (s : WordState) → RunsTokens (word_step (place_in (each_once (token_names tokens)))) word_start tokens s → s.stage ≡ End
+    → IsWord tokens (record { names = each_once (token_names tokens); stem = s.stem; cycle = s.cycle })
 ran_word tokens s runs is_end =
-    let names = distinct same_text (token_names tokens) in
+    let names = each_once (token_names tokens) in
     let part = run_part (place_in names) names word_start s [] tokens (known_from tokens [] tokens refl) (word_part_start names) runs in
     let P : Stage → Type 0 = λ x. PartAt x names s tokens in
     subst P is_end part refl
 
-pub whole_word : (tokens : List Token) (s : WordState) → HasReadTokens tokens s → s.stage ≡ End → IsWord tokens (record { names = distinct same_text (token_names tokens); stem = s.stem; cycle = s.cycle })
-whole_word tokens s read is_end = ran_word tokens s (read (place_in (distinct same_text (token_names tokens))) (own_places tokens)) is_end
+pub whole_word : (tokens : List Token) (s : WordState) → HasReadTokens tokens s → s.stage ≡ End → IsWord tokens (record { names = each_once (token_names tokens); stem = s.stem; cycle = s.cycle })
+whole_word tokens s read is_end = ran_word tokens s (read (place_in (each_once (token_names tokens))) (own_places tokens)) is_end
 
 pub no_word : (tokens : List Token) (s : WordState) (p : WordPattern) → HasReadTokens tokens s → s.stage ≢ End → IsWord tokens p → ⊥
 no_word tokens s p read not_end w =
-    let P : List (List ℕ) → Type 0 = λ x. Agrees (place_in (distinct same_text (token_names tokens))) x in
-    let place = place_in (distinct same_text (token_names tokens)) in
+    let P : List (List ℕ) → Type 0 = λ x. Agrees (place_in (each_once (token_names tokens))) x in
+    let place = place_in (each_once (token_names tokens)) in
     let same = runs_once (word_step place) word_start s (word p.stem p.cycle End fresh) tokens (read place (own_places tokens))
     (word_runs place tokens p (subst P (sym w.names) (own_places tokens)) w) in
     not_end (ap (λ (x : WordState). x.stage) same)
@@ -107,15 +106,15 @@ no_word tokens s p read not_end w =
 -- some word begins with the tokens that were read
 pub begins : (tokens : List Token) (s : WordState) → HasReadTokens tokens s → IsPrefixOfWord tokens
 begins tokens s read =
-    let rest = word_end (place_in (distinct same_text (token_names tokens))) s in
+    let rest = word_end (place_in (each_once (token_names tokens))) s in
     let all : List Token = tokens ++ rest.more in
     let same : token_names tokens ≡ token_names all = sym (names_of-append tokens rest.more ∙ (ap (λ (x : List (List ℕ)). token_names tokens ++ x) rest.nameless ∙ append-nil (token_names tokens))) in
-    let P : List (List ℕ) → Type 0 = λ x. RunsTokens (word_step (place_in (distinct same_text x))) word_start all rest.last in
+    let P : List (List ℕ) → Type 0 = λ x. RunsTokens (word_step (place_in (each_once x))) word_start all rest.last in
     record {
       more = rest.more;
-      pattern = record { names = distinct same_text (token_names all); stem = rest.last.stem; cycle = rest.last.cycle };
+      pattern = record { names = each_once (token_names all); stem = rest.last.stem; cycle = rest.last.cycle };
       word = ran_word all rest.last (subst P same
-          (runs_then (word_step (place_in (distinct same_text (token_names tokens)))) word_start s rest.last tokens rest.more (read (place_in (distinct same_text (token_names tokens))) (own_places tokens))
+          (runs_then (word_step (place_in (each_once (token_names tokens)))) word_start s rest.last tokens rest.more (read (place_in (each_once (token_names tokens))) (own_places tokens))
           rest.runs)) rest.stage;
     }
 
@@ -123,19 +122,19 @@ begins tokens s read =
 pub begins_not : (tokens : List Token) (s : WordState) (t : Token) → HasReadTokens tokens s → ((place : List ℕ → ℕ) → word_step place s t ≡ None) → IsPrefixOfWord (tokens ++ t ∷ []) → ⊥
 begins_not tokens s t read stuck b =
     let all : List Token = (tokens ++ t ∷ []) ++ b.more in
-    let place = place_in (distinct same_text (token_names all)) in
+    let place = place_in (each_once (token_names all)) in
     let P : List (List ℕ) → Type 0 = λ x. Agrees place x in
     let front = distinct_front (token_names tokens) (token_names (t ∷ b.more)) in
-    let whole : distinct same_text (token_names all) ≡ distinct same_text (token_names tokens) ++ front.0 = ap (λ (x : List Token). distinct same_text (token_names x)) (append_assoc tokens (t ∷ []) b.more)
-    ∙ (ap (distinct same_text) (names_of-append tokens (t ∷ b.more)) ∙ front.1) in
+    let whole : each_once (token_names all) ≡ each_once (token_names tokens) ++ front.0 = ap (λ (x : List Token). each_once (token_names x)) (append_assoc tokens (t ∷ []) b.more)
+    ∙ (ap each_once (names_of-append tokens (t ∷ b.more)) ∙ front.1) in
     runs_stuck (word_step place) word_start s (word b.pattern.stem b.pattern.cycle End fresh) tokens t b.more
-    (read place (agrees_front place (distinct same_text (token_names tokens)) front.0 (subst P whole (own_places all))))
+    (read place (agrees_front place (each_once (token_names tokens)) front.0 (subst P whole (own_places all))))
     (stuck place) (word_runs place all b.pattern (subst P (sym b.word.names) (own_places all)) b.word)
 
 -- tokens are the word of one pattern at most
 pub one_pattern : (tokens : List Token) (p q : WordPattern) → IsWord tokens p → IsWord tokens q → p ≡ q
 one_pattern tokens p q w x =
-    let place = place_in (distinct same_text (token_names tokens)) in
+    let place = place_in (each_once (token_names tokens)) in
     let P : List (List ℕ) → Type 0 = λ ns. Agrees place ns in
     let same : word p.stem p.cycle End fresh ≡ word q.stem q.cycle End fresh = runs_once (word_step place) word_start (word p.stem p.cycle End fresh) (word q.stem q.cycle End fresh) tokens
     (word_runs place tokens p (subst P (sym w.names) (own_places tokens)) w) (word_runs place tokens q (subst P (sym x.names) (own_places tokens)) x) in

@@ -7,7 +7,6 @@ use Rattle.std.proofs.lemmas.List.{append_assoc, append-nil, map-append}
 use Rattle.std.specs.FinSet.{contains}
 use Rattle.std.specs.List.{AllByRecursion, list_all}
 use Rattle.std.specs.Option.{option_map_or}
-use Rattle.aut_base.specs.Lists.{distinct}
 use Rattle.aut_base.specs.declared.limit.TheConstants.{MOST_DEPTH}
 use Rattle.aut_base.proofs.lists.AllByRecursion.{AllByRecursion-append}
 use Rattle.aut_base.proofs.canonical.CanonicalTruth.{truth-all_of}
@@ -22,6 +21,7 @@ use Rattle.aut_base.specs.Chains.{IsSum}
 use Rattle.aut_base.specs.Label.{LabelTree, holds_at, trees, truth}
 use Rattle.aut_base.specs.Text.{same_text}
 use Rattle.aut_base.specs.Word.{NameSet, SpellsSame, copies}
+use Rattle.word_syntax.proofs.grammar.NamePlaces.{each_once}
 use Rattle.word_syntax.proofs.lassos.Cyclic.{at_cycle, copies_at, mod_of_multiple}
 use Rattle.word_syntax.proofs.grammar.NamePlaces.{Differ, Has, contains_has, has_contains, mutual_push, names_of-append, others}
 use Rattle.word_syntax.proofs.printing.PrintedTokens.{cycle_tokens, letter_tokens, literal_tokens, literals_tokens, printed_tokens, stem_tokens, word_tokens}
@@ -169,15 +169,15 @@ others_all n ns lacks = all_kept (λ m. not (same_text n m)) ns (each ns (λ m h
     each [] other = tt
     each (m ∷ ms) other = (not_from_false (same_text n m) (differ_texts n m (other m (inl refl))), each ms (λ k h. other k (inr h)))
 
-distinct_own : (ns : List (List ℕ)) → Differ ns → distinct same_text ns ≡ ns
+distinct_own : (ns : List (List ℕ)) → Differ ns → each_once ns ≡ ns
 distinct_own [] d = refl
 distinct_own (n ∷ ns) d = ap (λ (w : List (List ℕ)). n ∷ others n w) (distinct_own ns d.1) ∙ ap (λ (w : List (List ℕ)). n ∷ w) (others_all n ns d.0)
 
-distinct_more : (names ns more : List (List ℕ)) → distinct same_text ns ≡ names → Within names more → distinct same_text (ns ++ more) ≡ names
-distinct_more names ns [] is all = ap (distinct same_text) (append-nil ns) ∙ is
+distinct_more : (names ns more : List (List ℕ)) → each_once ns ≡ names → Within names more → each_once (ns ++ more) ≡ names
+distinct_more names ns [] is all = ap each_once (append-nil ns) ∙ is
 distinct_more names ns (m ∷ ms) is all =
-    let here : distinct same_text (ns ++ m ∷ []) ≡ distinct same_text ns = (mutual_push m ns).0 (subst (λ (w : List (List ℕ)). Has m w) (sym is) all.0) in
-    ap (distinct same_text) (sym (append_assoc ns (m ∷ []) ms)) ∙ distinct_more names (ns ++ m ∷ []) ms (here ∙ is) all.1
+    let here : each_once (ns ++ m ∷ []) ≡ each_once ns = (mutual_push m ns).0 (subst (λ (w : List (List ℕ)). Has m w) (sym is) all.0) in
+    ap each_once (sym (append_assoc ns (m ∷ []) ms)) ∙ distinct_more names (ns ++ m ∷ []) ms (here ∙ is) all.1
 
 differ_from : (ns : List (List ℕ)) → Pairs (λ a b. a ≡ b → ⊥) ns → Differ ns
 differ_from [] p = tt
@@ -189,12 +189,12 @@ differ_from (n ∷ ns) p = (lacks ns p.0, differ_from ns p.1)
     lacks (m ∷ ms) all (inr h) = lacks ms all.1 h
 
 -- the first letter's names and those that follow
-letter_first : (names : List (List ℕ)) (x : NameSet) (ts all : List Token) → Differ names → all ≡ letter_tokens names x ++ ts → Within names (token_names ts) → distinct same_text (token_names all) ≡ names
-letter_first names x ts all d is within = ap (λ (w : List Token). distinct same_text (token_names w)) is
-    ∙ (ap (distinct same_text) (names_of-append (letter_tokens names x) ts ∙ ap (λ (w : List (List ℕ)). w ++ token_names ts) (letter_names names x))
+letter_first : (names : List (List ℕ)) (x : NameSet) (ts all : List Token) → Differ names → all ≡ letter_tokens names x ++ ts → Within names (token_names ts) → each_once (token_names all) ≡ names
+letter_first names x ts all d is within = ap (λ (w : List Token). each_once (token_names w)) is
+    ∙ (ap each_once (names_of-append (letter_tokens names x) ts ∙ ap (λ (w : List (List ℕ)). w ++ token_names ts) (letter_names names x))
     ∙ distinct_more names names (token_names ts) (distinct_own names d) within)
 
-word_names : (names : List (List ℕ)) (u : List NameSet) (x : NameSet) (xs : List NameSet) → Differ names → distinct same_text (token_names (word_tokens names u (x ∷ xs))) ≡ names
+word_names : (names : List (List ℕ)) (u : List NameSet) (x : NameSet) (xs : List NameSet) → Differ names → each_once (token_names (word_tokens names u (x ∷ xs))) ≡ names
 word_names names [] x [] d = letter_first names x (token.RightBrace ∷ []) (cycle_tokens names (x ∷ []) ++ token.RightBrace ∷ []) d refl tt
 word_names names [] x (y ∷ ys) d = letter_first names x (token.Semicolon ∷ (cycle_tokens names (y ∷ ys) ++ token.RightBrace ∷ [])) (cycle_tokens names (x ∷ y ∷ ys) ++ token.RightBrace ∷ [])
     d (append_assoc (letter_tokens names x) (token.Semicolon ∷ cycle_tokens names (y ∷ ys)) (token.RightBrace ∷ [])) (cycle_within names y ys (token.RightBrace ∷ []) tt)

@@ -4,9 +4,8 @@ use Rattle.std.proofs.Common.{inl, inr, length, length-append, length-drop, map,
 use Rattle.std.proofs.lemmas.List.{append-nil, length-map}
 use Rattle.std.proofs.lemmas.Option.{none-some, option_and_then_some, same_Some}
 use Rattle.std.specs.Option.{option_map}
-use Rattle.aut_base.specs.Lists.{distinct}
-use Rattle.aut_base.specs.Text.{same_text}
 use Rattle.aut_base.specs.Label.{LabelTree, label_tree}
+use Rattle.word_syntax.proofs.grammar.NamePlaces.{each_once}
 use Rattle.word_syntax.proofs.grammar.NamePlaces.{agrees_front, distinct_differ, distinct_front, names_go, names_of-append, place_in, places_agree}
 use Rattle.word_syntax.proofs.texts.Readings.{bad_writes_nothing}
 use Rattle.word_syntax.proofs.grammar.Runs.{runs_push}
@@ -31,13 +30,14 @@ lexes_push text [] rest bytes next t l a f = subst (λ (x : List ℕ). LexesWord
 lexes_push text (u ∷ ts) rest bytes next t l a f = (l.0, l.1, l.2, l.3, lexes_push l.1 ts rest bytes next t l.4 a f)
 
 -- another token, whatever the indices of names are
-read_push : (tokens : List Token) (s next : WordState) (t : Token) (old new : List (List ℕ)) → old ≡ distinct same_text (token_names tokens) → NamesGo t old new → HasReadTokens tokens s
+read_push : (tokens : List Token) (s next : WordState) (t : Token) (old new : List (List ℕ)) → old ≡ each_once (token_names tokens) → NamesGo t old new → HasReadTokens tokens s
     → ((place : List ℕ → ℕ) → Agrees place new → word_step place s t ≡ Some next) → HasReadTokens (tokens ++ t ∷ []) next
 read_push tokens s next t old new is go read step place agrees =
     let more = distinct_front (token_names tokens) (token_names (t ∷ [])) in
     let P : List (List ℕ) → Type 0 = λ x. Agrees place x in
     let here : Agrees place new = subst P (sym (names_go tokens old new t is go)) agrees in
-    let before : Agrees place (distinct same_text (token_names tokens)) = agrees_front place (distinct same_text (token_names tokens)) more.0 (subst P (ap (distinct same_text) (names_of-append tokens (t ∷ [])) ∙ more.1) agrees) in
+    let before : Agrees place (each_once (token_names tokens)) =
+        agrees_front place (each_once (token_names tokens)) more.0 (subst P (ap each_once (names_of-append tokens (t ∷ [])) ∙ more.1) agrees) in
     runs_push (word_step place) word_start s next tokens t (read place before) (step place here)
 
 -- a token adds at most one name, and at most one letter
@@ -116,7 +116,7 @@ midway_more text at start end before after t m n taken =
     let names = names_go m.tokens before.names after.names t m.names taken.names in
     let place = place_in after.names in
     let P : List (List ℕ) → Type 0 = λ x. Agrees (place_in x) x in
-    let agrees : Agrees (place_in after.names) after.names = subst P (sym names) (places_agree (distinct same_text (token_names (m.tokens ++ t ∷ []))) (distinct_differ (token_names (m.tokens ++ t ∷ [])))) in
+    let agrees : Agrees (place_in after.names) after.names = subst P (sym names) (places_agree (each_once (token_names (m.tokens ++ t ∷ []))) (distinct_differ (token_names (m.tokens ++ t ∷ [])))) in
     let longer = one_letter (place_in after.names) (word_state before) (word_state after) t (taken.steps (place_in after.names) agrees) in
     let more = grown t before.names after.names taken.names in
     let a = length-map before.stem label_tree in
