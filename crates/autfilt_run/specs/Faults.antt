@@ -1,7 +1,6 @@
 -- Which fault of a session each fault of the crates below becomes.
 use Rattle.aut_base.specs.declared.fault.OpenFail.{OpenFail}
 use Rattle.aut_base.specs.declared.fault.OpenFail.TheVariants as opening
-use Rattle.aut_base.specs.declared.limit.Limit.{Limit}
 use Rattle.aut_base.specs.declared.limit.Limit.TheVariants as limit
 use Rattle.autfilt_run.specs.declared.fault.RunFault.{RunFault}
 use Rattle.autfilt_run.specs.declared.fault.RunFault.TheVariants as fault

@@ -160,7 +160,7 @@ pub data IsState (room : ℕ) : List Token → WrittenState → Type 0 where
   state : {u v w : List Token} {label : Option RawTree} {marks : List ℕ} {edges : List WrittenEdge} (number : ℕ) (name : Option (List ℕ))
       → IsOptionalLabel room u label → AreMarks v marks → Each (IsEdge room) w edges
       → IsState room (token.HeaderName (codes "State") ∷ (u ++ (token.Int number ∷ (optional_text name ++ (v ++ w)))))
-        (record { label = label; number = number; marks = marks; edges = edges })
+      (record { label = label; number = number; marks = marks; edges = edges })
 
 -- automaton = "HOA:" IDENTIFIER item* "--BODY--" state* "--END--"
 -- The tokens spell what is written, and never more than `most` of the `(` and `!` of a label or formula are open.

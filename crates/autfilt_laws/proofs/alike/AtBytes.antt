@@ -1,6 +1,5 @@
 -- No automaton that was read whole passes the limit of depth or that of bytes, so these two are told where a text is read.
-use Rattle.std.proofs.Common.{◌≡◌, ◌≢◌, ◌⊎◌, ℕ, List, inl, inr, refl}
-use Rattle.aut_base.specs.Automaton.{Automaton}
+use Rattle.std.proofs.Common.{◌≡◌, ◌⊎◌, ℕ, List, inl, inr, refl}
 use Rattle.aut_base.specs.declared.limit.Limit.{Limit}
 use Rattle.aut_base.specs.declared.limit.Limit.TheVariants as limit
 use Rattle.autfilt_laws.specs.Places.{WholePassesOthers}

@@ -64,7 +64,7 @@ module _ (over : Limit → Written → Type 0) (start : ℕ) (rest : List ℕ) w
   found_so shown (standing.Whole w next) h = whole_found w next h (keeps_or_breaks w)
   found_so shown standing.Deep h =
       let place = shown.deep start rest h in
-      OneRefused (record { fault = run.Limit limit.Depth; by_text = tt; other = λ e. cc; left = place.0; stops = record { deep = h; ends = place.1; last = place.2 } })
+      OneRefused (record { fault = run.Limit limit.Depth; by_text = tt; other = λ e. cc; left = place.0; stops = inl (refl, record { deep = h; ends = place.1; last = place.2 }) })
   found_so shown (standing.Bad k) h =
       let place = shown.bad start k rest h in
       OneRefused (record { fault = run.SyntaxAt k; by_text = tt; other = λ e. cc; left = place.0; stops = record { bad = h; shown = place.1; last = place.2 } })

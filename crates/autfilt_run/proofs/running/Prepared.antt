@@ -22,7 +22,6 @@ use Rattle.autfilt_run.specs.OperandEvents.{AreRead, OperandEvent, PassedOver, a
 use Rattle.autfilt_run.specs.Points.{StandsIn, name_in, open_count}
 use Rattle.autfilt_run.specs.Preparing.{FailsToPrepare, HasReadOperands, HasSkipped, HasAllOperands, WantsOperand, opened_names}
 use Rattle.autfilt_run.specs.declared.fault.RunFault.{RunFault}
-use Rattle.autfilt_run.specs.declared.fault.RunFault.TheVariants as fault
 use Rattle.autfilt_run.specs.declared.session.Session.{Session}
 use Rattle.autfilt_run.specs.declared.session.Stage.TheVariants.{Prepared}
 use Rattle.filter_plan.specs.Words.{operands}

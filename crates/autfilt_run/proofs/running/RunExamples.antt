@@ -1,5 +1,5 @@
 -- The worked examples of runs.
-use Rattle.std.proofs.Common.{◌≡◌, ◌∙◌, ℕ, ◌+◌, ◌<◌, ◌≤◌, refl, sym, ap, subst, lit<, lit≤, List, ◌∷◌, [], length, None, Option, Some, unwrap_or, inl, inr, arith, codes}
+use Rattle.std.proofs.Common.{◌≡◌, ◌∙◌, ℕ, ◌+◌, ◌<◌, refl, sym, ap, subst, lit<, lit≤, List, ◌∷◌, [], length, None, Option, Some, unwrap_or, inl, inr, arith, codes}
 use Rattle.std.specs.List.{slice_index_or}
 use Rattle.std.proofs.lemmas.Bool.{false≢true, true≢false}
 use Rattle.std.proofs.lemmas.Fmt.{decimal_digit}

@@ -37,7 +37,7 @@ read_push tokens s next t old new is go read step place agrees =
     let P : List (List ℕ) → Type 0 = λ x. Agrees place x in
     let here : Agrees place new = subst P (sym (names_go tokens old new t is go)) agrees in
     let before : Agrees place (each_once (token_names tokens)) =
-        agrees_front place (each_once (token_names tokens)) more.0 (subst P (ap each_once (names_of-append tokens (t ∷ [])) ∙ more.1) agrees) in
+    agrees_front place (each_once (token_names tokens)) more.0 (subst P (ap each_once (names_of-append tokens (t ∷ [])) ∙ more.1) agrees) in
     runs_push (word_step place) word_start s next tokens t (read place before) (step place here)
 
 -- a token adds at most one name, and at most one letter

@@ -7,8 +7,7 @@ use Rattle.hoa_reader.proofs.elaborate.broken.first_broken.Goals as goal
 pub returns-then-not-branch : goal.returns-then-not-branch
 returns-then-not-branch c =
     let k = c.rules.rule-index in
-    let within : k < length rules = omega arith in
-    (
+    let within : k < length rules = omega arith in (
       record {
         before = take k rules;
         after = drop (k + 1) rules;
