@@ -49,7 +49,7 @@ level_edges k edges watch = flat_map (λ level. map (edge_at_level k watch level
 abbrev pub with_counters : ℕ → (ℕ → Watch) → Automaton → Automaton
 with_counters k watch a = record {
   names = a.names;
-  starts = map (λ start. start * k) a.starts;
+  starts = map (λ start. start * k + 0) a.starts;
   states = a.states * k;
   edges = flat_map (λ state. level_edges k (edges_from state a.edges) (watch state)) (range_with_len 0 a.states);
   sets = 1;

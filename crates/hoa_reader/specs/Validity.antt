@@ -5,7 +5,7 @@ use Rattle.std.specs.Prelude.{filter_map, count_by, codes, get_or, Option, Some,
 use Rattle.std.specs.List.{AllByRecursion, list_any, list_all}
 use Rattle.aut_base.specs.Formula as formula
 use Rattle.aut_base.specs.Formula.{FormulaTree, FormulaTrees}
-use Rattle.hoa_reader.specs.Lists.{FirstIn}
+use Rattle.aut_base.specs.Lists.{FirstIn}
 use Rattle.aut_base.specs.Text.{same_text}
 use Rattle.hoa_parser.specs.Raw as raw
 use Rattle.hoa_parser.specs.Raw.{RawTree, RawTrees, Written, WrittenEdge, WrittenItem, WrittenState, States, Start, Ap, AliasOf, Acceptance, AccName, Tool, Name, Properties, Other}

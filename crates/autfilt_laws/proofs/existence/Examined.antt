@@ -3,7 +3,7 @@ use Rattle.std.proofs.Common.{◌≡◌, ◌⊎◌, true, false, List, [], ◌�
 use Rattle.std.proofs.lemmas.Bool.{cases_Bool}
 use Rattle.std.specs.List.{AllByRecursion}
 use Rattle.std.specs.Prelude.{nat_lt}
-use Rattle.hoa_reader.specs.Lists.{FirstIn}
+use Rattle.aut_base.specs.Lists.{FirstIn}
 use Rattle.aut_base.specs.declared.limit.Limit.{Limit}
 use Rattle.hoa_parser.specs.Raw.{Written}
 use Rattle.hoa_reader.specs.Counts.{Counted, IsCountWithin, PassesFirst, PassesNone, limit_counts}
