@@ -1,19 +1,20 @@
 -- The text that is due of an automaton that is kept.
-use Rattle.std.specs.Prelude.{◌≡◌, ℕ, MatchBool, if◌then◌else◌, List, [], MatchOption, Option, None}
+use Rattle.std.specs.Prelude.{◌≡◌, ℕ, MatchBool, if◌then◌else◌, List, [], map, MatchOption, Option, None}
 use Rattle.ap_project.specs.Laws.{SayTheSame}
 use Rattle.aut_base.specs.Acceptance.{Accepts}
 use Rattle.aut_base.specs.Automaton.{Automaton}
 use Rattle.aut_base.specs.CanonicalLabel.{canonical}
 use Rattle.autfilt_run.specs.Figures.{IsLine}
 use Rattle.autfilt_run.specs.Plans.{prints_each}
-use Rattle.autfilt_run.specs.RefutationLine.{IsRefutationLine}
+use Rattle.autfilt_run.specs.RefutationLine.{SaysOfInclusion}
 use Rattle.filter_plan.specs.Words.{changes}
 use Rattle.filter_plan.specs.declared.format.Piece.{Piece}
 use Rattle.filter_plan.specs.declared.plan.Form.TheVariants as form
 use Rattle.filter_plan.specs.declared.plan.Output.{Output}
 use Rattle.filter_plan.specs.declared.plan.Output.TheVariants.{Hoa, Stats, Refute}
 use Rattle.filter_plan.specs.declared.plan.Plan.{Plan}
-use Rattle.hoa_lexer.specs.Laws.{HasTokens}
+use Rattle.hoa_lexer.specs.Blanks.{IsBlanks}
+use Rattle.hoa_lexer.specs.Text.{Lexes}
 use Rattle.hoa_lexer.specs.declared.token.Token.{Token}
 use Rattle.hoa_parser.specs.Grammar.{SpellsAutomaton}
 use Rattle.hoa_parser.specs.Naming.{name_of}
@@ -22,17 +23,20 @@ use Rattle.hoa_reader.specs.Described.{described}
 use Rattle.hoa_reader.specs.Validity.{IsValid}
 use Rattle.hoa_writer.specs.CanonicalText.{canonical_text}
 use Rattle.plan_meaning.specs.Changes.{Language, MakesAll, changes_of, set_operation}
+use Rattle.plan_meaning.specs.Limits.{IsWithinInclusion}
 use Rattle.plan_meaning.specs.Operands.{refuted_operand}
 use Rattle.plan_meaning.specs.Promises.{HasFewSetsUnder, KeepsPromises}
 
 -- The text's tokens spell one automaton and no other. It is valid, and accepts exactly the lasso words that `says` holds of.
 pub record ReadsAs (text : List ℕ) (says : Language) : Type 0 where
-  pub tokens : List Token
-  pub lexes : HasTokens text 0 tokens
+  pub placed : List (Token × ℕ)
+  pub rest : List ℕ
+  pub lexes : Lexes text 0 placed rest
+  pub blanks : IsBlanks rest
   pub spelled : Written
   pub most : ℕ
-  pub spells : SpellsAutomaton most tokens spelled
-  pub alone : (n : ℕ) (v : Written) → SpellsAutomaton n tokens v → v ≡ spelled
+  pub spells : SpellsAutomaton most (map (λ p. p.0) placed) spelled
+  pub alone : (n : ℕ) (v : Written) → SpellsAutomaton n (map (λ p. p.0) placed) v → v ≡ spelled
   pub valid : IsValid spelled
   pub accepts : SayTheSame (λ u v. Accepts (described spelled) u v) says
 
@@ -56,17 +60,13 @@ pub record IsCanonicalResult (p : Plan) (ops : List Automaton) (w : Written) (te
   pub same : text ≡ canonical_text made (name_due p w)
   pub reads_as : ReadsAs text (set_operation p ops (described w))
 
--- the line of figures of what is made
-pub record IsFigures (p : Plan) (ops : List Automaton) (w : Written) (pieces : List Piece) (text : List ℕ) : Type 0 where
-  pub made : Automaton
-  pub is_made : IsResult p ops w made
-  pub line : IsLine pieces made text
-
--- What is printed of an automaton that was read. A refutation is one of the automaton as it was read, before any change.
+-- What is printed of an automaton that was read: the canonical text of what is made, the line of its figures, or a word that refutes
+-- inclusion, where the search for it passed no limit. A refutation is one of the automaton as it was read, before any change.
 abbrev pub IsPrinted : Output → Plan → List Automaton → Written → List ℕ → Type 0
 IsPrinted Hoa p ops w text = IsCanonicalResult p ops w text
-IsPrinted (Stats pieces) p ops w text = IsFigures p ops w pieces text
-IsPrinted (Refute file) p ops w text = MatchOption (refuted_operand p ops) ⊥ (λ b. IsRefutationLine (described w) b text)
+IsPrinted (Stats pieces) p ops w text = (made : Automaton) × IsResult p ops w made × IsLine pieces made text
+IsPrinted (Refute file) p ops w text =
+    MatchOption (refuted_operand p ops) ⊥ (λ b. IsWithinInclusion (canonical (described w)) b × SaysOfInclusion (described w) b text)
 
 -- Under `-c` and `-q` nothing is due.
 abbrev pub IsDue : Plan → List Automaton → Written → List ℕ → Type 0

@@ -1,5 +1,5 @@
 -- What happens in a run over streams, as a list of events, and the point that a run is at between two of them.
-use Rattle.std.specs.Prelude.{◌≡◌, ℕ, ◌+◌, ◌-◌, ◌<◌, ◌≤◌, Bool, true, false, List, [], ◌∷◌, length, flat_map, Option, Some, None}
+use Rattle.std.specs.Prelude.{◌≡◌, ℕ, ◌+◌, ◌-◌, ◌<◌, ◌≤◌, Bool, true, false, List, [], ◌∷◌, length, flat_map, Option, Some, None, fold}
 use Rattle.std.specs.List.{AllByRecursion}
 use Rattle.aut_base.specs.Automaton.{Automaton}
 use Rattle.aut_base.specs.declared.limit.TheConstants.{MOST_BYTES}
@@ -9,7 +9,7 @@ use Rattle.autfilt_run.specs.Plans.{asks_on}
 use Rattle.filter_plan.specs.declared.plan.Plan.{Plan}
 use Rattle.hoa_lexer.specs.Blanks.{IsBlanks}
 use Rattle.hoa_parser.specs.Raw.{Written}
-use Rattle.hoa_parser.specs.Standing.{Stands, Whole, Aborted}
+use Rattle.hoa_parser.specs.Standing.{IsAborted, IsWhole}
 use Rattle.hoa_reader.specs.Counts.{PassesNone}
 use Rattle.hoa_reader.specs.Described.{described}
 use Rattle.hoa_reader.specs.Validity.{IsValid}
@@ -22,7 +22,7 @@ bytes_before text rest = length text - length rest
 -- A whole automaton is next in the rest, which begins `start` bytes after the start of the text. It is valid and within the
 -- limits, and `next` follows it.
 pub record IsGood (start : ℕ) (rest : List ℕ) (w : Written) (next : List ℕ) : Type 0 where
-  pub whole : Stands (Whole w next) start rest
+  pub whole : IsWhole start rest w next
   pub valid : IsValid w
   pub within : PassesNone w
 
@@ -76,7 +76,7 @@ pub record ReadsOn (p : Point) (read : ℕ → List ℕ → List ℕ → Type 0)
 
 -- An abandoned automaton of the stream of this name is skipped.
 pub record PassesOver (name : List ℕ) (p q : Point) : Type 0 where
-  pub reads : ReadsOn p (λ start rest next. Stands (Aborted next) start rest) p.kept q
+  pub reads : ReadsOn p IsAborted p.kept q
   pub named : reads.stream.name ≡ name
 
 -- no stream is open, and the next one has this name
@@ -145,10 +145,6 @@ open_by before (Dropped w) = before
 open_by before (Skipped name) = before
 open_by before Ended = false
 
-abbrev pub open_after : Bool → List Event → Bool
-open_after before [] = before
-open_after before (event ∷ events) = open_after (open_by before event) events
-
 -- how many automata were kept, and how many were skipped
 pub record Tally : Type 0 where
   pub kept : ℕ
@@ -159,10 +155,6 @@ tally_with t (Kept w text) = record t { kept = t.kept + 1 }
 tally_with t (Skipped name) = record t { skipped = t.skipped + 1 }
 tally_with t _ = t
 
-abbrev pub tally_from : Tally → List Event → Tally
-tally_from t [] = t
-tally_from t (event ∷ events) = tally_from (tally_with t event) events
-
 -- where none was kept before, and so many were skipped: in the files of operands
 abbrev pub tally : ℕ → List Event → Tally
-tally passed events = tally_from (record { kept = 0; skipped = passed }) events
+tally passed events = fold tally_with (record { kept = 0; skipped = passed }) events

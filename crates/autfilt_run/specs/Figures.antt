@@ -1,5 +1,6 @@
 -- The line that `--stats` prints of an automaton.
 use Rattle.std.specs.Prelude.{◌≡◌, ◌⊎◌, ℕ, List, [], ◌∷◌, ◌++◌, length, codes}
+use Rattle.std.specs.List.{AllZip, concat}
 use Rattle.std.specs.Fmt.{decimal}
 use Rattle.aut_base.specs.Automaton.{Automaton}
 use Rattle.aut_base.specs.declared.letter.Lasso.{Lasso}
@@ -29,15 +30,8 @@ IsShownAs Edges a text = ShowsReached (λ t. length t.edges) a text
 IsShownAs Sets a text = text ≡ decimal a.sets
 IsShownAs Word a text = ShowsWord a text ⊎ (AcceptsNothing a × (text ≡ []))
 
--- `P` of the first part of a text, and `Q` of the rest
-pub record IsFollowed (P Q : List ℕ → Type 0) (text : List ℕ) : Type 0 where
-  pub front : List ℕ
-  pub rest : List ℕ
-  pub all : text ≡ front ++ rest
-  pub first : P front
-  pub behind : Q rest
-
--- The pieces one after the other, and a line feed.
-abbrev pub IsLine : List Piece → Automaton → List ℕ → Type 0
-IsLine [] a text = text ≡ codes "\n"
-IsLine (piece ∷ pieces) a text = IsFollowed (IsShownAs piece a) (IsLine pieces a) text
+-- What the pieces become, one after the other, and a line feed.
+pub record IsLine (pieces : List Piece) (a : Automaton) (text : List ℕ) : Type 0 where
+  pub shown : List (List ℕ)
+  pub each : AllZip (λ piece part. IsShownAs piece a part) pieces shown
+  pub all : text ≡ concat shown ++ codes "\n"

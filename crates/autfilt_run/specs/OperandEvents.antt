@@ -60,10 +60,6 @@ file_open_by before (FileOpened name) = true
 file_open_by before (Taken w) = false
 file_open_by before (PassedOver name) = before
 
-abbrev pub file_open_after : Bool → List OperandEvent → Bool
-file_open_after before [] = before
-file_open_after before (event ∷ events) = file_open_after (file_open_by before event) events
-
 -- the names of the files in which abandoned automata were skipped
 abbrev pub passed_of : OperandEvent → List (List ℕ)
 passed_of (PassedOver name) = name ∷ []

@@ -1,10 +1,10 @@
 -- What a call of `prepare` does: it reads operands.
-use Rattle.std.specs.Prelude.{◌≡◌, ◌≢◌, ℕ, ◌+◌, ◌<◌, true, List, [], ◌∷◌, ◌++◌, length, take, Some, Result, Ok, Err}
+use Rattle.std.specs.Prelude.{◌≡◌, ◌≢◌, ℕ, ◌+◌, ◌<◌, true, List, [], ◌∷◌, ◌++◌, length, take, Some, Result, Ok, Err, fold}
 use Rattle.aut_io.specs.Outside.{Rose, Texts}
 use Rattle.aut_io.specs.Seen.{Seen}
 use Rattle.autfilt_run.specs.Events.{Point}
 use Rattle.autfilt_run.specs.Openings.{AreOpened, AreTried, WantsFile}
-use Rattle.autfilt_run.specs.OperandEvents.{AreRead, OperandEvent, PassedOver, all_passed, file_open_after, opened_files, operands_read}
+use Rattle.autfilt_run.specs.OperandEvents.{AreRead, OperandEvent, PassedOver, all_passed, file_open_by, opened_files, operands_read}
 use Rattle.autfilt_run.specs.Points.{StandsIn, name_in, open_count, operands_in}
 use Rattle.autfilt_run.specs.Runs.{IsCounted, StopsInOperands}
 use Rattle.autfilt_run.specs.declared.ended.End.TheVariants as end
@@ -25,7 +25,7 @@ pub record HasReadOperands (events : List OperandEvent) (old new : Session) (see
   -- where the inputs' texts are known
   pub happened : (texts : Texts) → seen.texts ≡ Some texts → (p : Point) → StandsIn old seen.left p → (q : Point) × AreRead texts events p q × StandsIn new seen'.left q
   pub named : opened_names new ≡ opened_names old ++ opened_files events
-  pub still : new.is_open ≡ file_open_after old.is_open events
+  pub still : new.is_open ≡ fold file_open_by old.is_open events
   pub openings : AreOpened (length (opened_files events)) seen seen'
   pub opens : seen'.open_faults ≡ seen.open_faults
   pub reads : seen'.read_faults ≡ seen.read_faults
@@ -57,7 +57,7 @@ CountsAt _ seen seen' = (seen'.open_faults ≡ seen.open_faults) × (seen'.read_
 
 -- After these events the file of the next operand is to be opened.
 abbrev pub WantsOperand : Session → List OperandEvent → Type 0
-WantsOperand old events = WantsFile (file_open_after old.is_open events) (length (opened_names old ++ opened_files events)) (length (operands old.plan))
+WantsOperand old events = WantsFile (fold file_open_by old.is_open events) (length (opened_names old ++ opened_files events)) (length (operands old.plan))
 
 -- These events happened, and then the fault came.
 pub record FailsToPrepare (f : RunFault) (old new : Session) (seen seen' : Seen) : Type 0 where

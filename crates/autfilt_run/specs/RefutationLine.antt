@@ -1,10 +1,9 @@
 -- The line that `--refute` prints of an automaton.
 use Rattle.std.specs.Prelude.{◌≡◌, ◌⊎◌, ℕ, List, ◌++◌, codes}
 use Rattle.aut_base.specs.Automaton.{Automaton}
-use Rattle.aut_base.specs.CanonicalLabel.{canonical}
 use Rattle.aut_base.specs.declared.letter.Lasso.{Lasso}
 use Rattle.aut_core.specs.OtherNames.{joined_names}
-use Rattle.plan_meaning.specs.Limits.{IsIncluded, IsWithinInclusion}
+use Rattle.plan_meaning.specs.Limits.{IsIncluded}
 use Rattle.plan_meaning.specs.Refutations.{Refutes}
 use Rattle.word_syntax.specs.Printing.{word_text}
 
@@ -17,7 +16,3 @@ pub record ShowsRefutation (a b : Automaton) (text : List ℕ) : Type 0 where
 -- the text shows such a word; or it is `included`, and the second automaton accepts all that the first does
 abbrev pub SaysOfInclusion : Automaton → Automaton → List ℕ → Type 0
 SaysOfInclusion a b text = ShowsRefutation a b text ⊎ (IsIncluded a b × (text ≡ codes "included\n"))
-
--- The same, where the search passed no limit. Labels are in canonical form.
-abbrev pub IsRefutationLine : Automaton → Automaton → List ℕ → Type 0
-IsRefutationLine a b text = IsWithinInclusion (canonical a) b × SaysOfInclusion a b text

@@ -1,5 +1,5 @@
 -- The run of the command: what was read, what was written, and what ended it.
-use Rattle.std.specs.Prelude.{◌≡◌, ◌≢◌, ℕ, ◌==◌, ◌⊎◌, if◌then◌else◌, List, [], ◌∷◌, ◌++◌, length, flat_map, take, true, false, Option, Some, None}
+use Rattle.std.specs.Prelude.{◌≡◌, ◌≢◌, ℕ, ◌==◌, ◌⊎◌, if◌then◌else◌, List, [], ◌∷◌, ◌++◌, length, flat_map, take, true, false, Option, Some, None, fold}
 use Rattle.aut_base.specs.Automaton.{Automaton}
 use Rattle.aut_io.specs.Outside.{Gains, Rose, Texts}
 use Rattle.aut_io.specs.Seen.{Seen, SinkSeen}
@@ -11,10 +11,10 @@ use Rattle.autfilt_run.specs.declared.ended.End.{End}
 use Rattle.autfilt_run.specs.declared.ended.End.TheVariants as end
 use Rattle.autfilt_run.specs.declared.ended.Ended.{Ended}
 use Rattle.autfilt_run.specs.declared.ended.Ended.TheVariants as ended
-use Rattle.autfilt_run.specs.Events.{AreJudged, Event, Happen, Kept, Point, Skipped, Tally, all_written, open_after, opened_streams, start_of, tally}
+use Rattle.autfilt_run.specs.Events.{AreJudged, Event, Happen, Kept, Point, Skipped, Tally, all_written, open_by, opened_streams, start_of, tally}
 use Rattle.made_stream.specs.Made.{seen_of_made}
 use Rattle.autfilt_run.specs.Openings.{AreOpened, AreTried, WantsFile}
-use Rattle.autfilt_run.specs.OperandEvents.{AreRead, OperandEvent, all_passed, file_open_after, opened_files, operands_read}
+use Rattle.autfilt_run.specs.OperandEvents.{AreRead, OperandEvent, all_passed, file_open_by, opened_files, operands_read}
 use Rattle.autfilt_run.specs.Plans.{count_text, prints_count, prints_each, plan_streams}
 use Rattle.autfilt_run.specs.Runs.{IsCounted, IsDone, StopsRun, StopsInOperands}
 use Rattle.autfilt_run.specs.declared.fault.RunFault.{RunFault}
@@ -44,11 +44,11 @@ EndsAt plan ops e name p left = IsDone plan p × (left ≡ p.left)
 
 -- after these events the next stream of the plan is to be opened
 abbrev pub WantsStreamFile : Plan → List Event → Type 0
-WantsStreamFile plan events = WantsFile (open_after false events) (length (opened_streams events)) (length (plan_streams plan))
+WantsStreamFile plan events = WantsFile (fold open_by false events) (length (opened_streams events)) (length (plan_streams plan))
 
 -- after these events the file of the next operand is to be opened
 abbrev pub WantsOperandFile : Plan → List OperandEvent → Type 0
-WantsOperandFile plan taken = WantsFile (file_open_after false taken) (length (opened_files taken)) (length (operands plan))
+WantsOperandFile plan taken = WantsFile (fold file_open_by false taken) (length (opened_files taken)) (length (operands plan))
 
 -- The events happened over these texts from this point on, and then the run ended this way.
 pub record RunsTo (plan : Plan) (ops : List Automaton) (texts : Texts) (first : Point) (left' : Option (List ℕ)) (events : List Event) (e : End) (name : List ℕ) : Type 0 where
@@ -168,8 +168,8 @@ pub record EndsBy (words : List (List ℕ)) (result : Ended) (seen seen' : Seen)
 abbrev pub RisesWhere : Type 0 → ℕ → ℕ → Type 0
 RisesWhere is before after = (is → Rose before after) × ((is → ⊥) → after ≡ before)
 
--- Why a run ended this way. An I/O fault is answered exactly where its count rose, and no other count rises. So any other
--- answer, want of memory among them, comes only where no call failed.
+-- Why a run ended this way. Where an I/O fault is answered, its count rose by one, unless it had reached its last value, and no
+-- other count rises. So any other answer, want of memory among them, comes only where no call failed.
 pub record EndsBecause (answer : Ended) (seen seen' : Seen) (out out' : SinkSeen) : Type 0 where
   pub opens : RisesWhere (answer ≡ ended.CannotOpen) seen.open_faults seen'.open_faults
   pub reads : RisesWhere (answer ≡ ended.ReadFault) seen.read_faults seen'.read_faults

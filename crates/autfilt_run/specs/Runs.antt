@@ -14,7 +14,7 @@ use Rattle.hoa_lexer.specs.Blanks.{IsBlanks}
 use Rattle.hoa_lexer.specs.Reading.{unread}
 use Rattle.hoa_parser.specs.Raw.{Written}
 use Rattle.hoa_parser.specs.Reads.{AskedForLast, AsksOn, EndsDeep, IsHopeless, MayHaveBegun}
-use Rattle.hoa_parser.specs.Standing.{Stands, Whole, Deep, Bad, Cut}
+use Rattle.hoa_parser.specs.Standing.{IsBad, IsCut, IsDeep, IsWhole}
 use Rattle.hoa_reader.specs.Elaborating.{PassesLimit}
 use Rattle.hoa_reader.specs.Validity.{IsFirstBroken}
 
@@ -24,24 +24,24 @@ use Rattle.hoa_reader.specs.Validity.{IsFirstBroken}
 -- A whole automaton is next, `fault` holds of it, and `next` follows it.
 pub record StandsWith (fault : Written → Type 0) (start : ℕ) (rest next : List ℕ) : Type 0 where
   pub automaton : Written
-  pub whole : Stands (Whole automaton next) start rest
+  pub whole : IsWhole start rest automaton next
   pub holds : fault automaton
 
 -- No token can be at offset k, and no byte is taken after the one that shows it.
 pub record IsSyntaxFault (k start : ℕ) (rest left : List ℕ) : Type 0 where
-  pub bad : Stands (Bad k) start rest
+  pub bad : IsBad start rest k
   pub shown : IsHopeless k start rest left
   pub last : AskedForLast start rest left
 
 -- The text ends inside an automaton, which is seen by asking for another byte.
 pub record IsTruncated (start : ℕ) (rest left : List ℕ) : Type 0 where
-  pub cut : Stands Cut start rest
+  pub cut : IsCut start rest
   pub nothing : left ≡ []
   pub asks : AsksOn start rest left
 
 -- A token nests too deep, and what is left is what follows it.
 pub record IsTooDeep (start : ℕ) (rest left : List ℕ) : Type 0 where
-  pub deep : Stands Deep start rest
+  pub deep : IsDeep start rest
   pub ends : EndsDeep start rest left
   pub last : AskedForLast start rest left
 

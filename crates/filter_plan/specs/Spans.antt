@@ -1,5 +1,5 @@
 -- Ranges of numbers: how they are written, and what is in them.
-use Rattle.std.specs.Prelude.{◌≡◌, ◌≤◌, ⊤, ℕ, List, ◌++◌, Option, Some, None, codes}
+use Rattle.std.specs.Prelude.{◌≡◌, ◌≤◌, ℕ, List, ◌++◌, Some, None, IfSome, codes}
 use Rattle.filter_plan.specs.Numbers.{IsNumber}
 use Rattle.filter_plan.specs.declared.range.Range.{Range}
 
@@ -10,10 +10,6 @@ pub data IsRange (text : List ℕ) (r : Range) : Type 0 where
   from : (a : List ℕ) (n : ℕ) → text ≡ a ++ codes ".." → IsNumber a n → r ≡ record { low = n; high = None } → IsRange text r
   up_to : (b : List ℕ) (m : ℕ) → text ≡ codes ".." ++ b → IsNumber b m → r ≡ record { low = 0; high = Some m } → IsRange text r
 
-abbrev pub IsAtMost : ℕ → Option ℕ → Type 0
-IsAtMost n None = ⊤
-IsAtMost n (Some high) = n ≤ high
-
 -- the number is in the range, both ends included; a range whose end is below its beginning is empty
 abbrev pub IsInRange : Range → ℕ → Type 0
-IsInRange r n = (r.low ≤ n) × IsAtMost n r.high
+IsInRange r n = (r.low ≤ n) × IfSome r.high (λ high. n ≤ high)

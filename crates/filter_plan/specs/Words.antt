@@ -17,9 +17,6 @@ action_at (Flag at) = SetTrue
 action_at (FormFlag form) = SetTrue
 action_at _ = Set
 
-abbrev pub option_rule : OptionRow → Rule
-option_rule o = record (new_rule o.long) { long = Some o.long; short = o.short; action = Some (action_at o.place) }
-
 -- the files that are given without an option, any number of them
 abbrev pub operands_rule : List ℕ → Rule
 operands_rule id = record (new_rule id) { action = Some Append }
@@ -39,7 +36,7 @@ command_of rules = record {
 
 unfoldable pub autfilt : App
 unfolding table
-autfilt = command_of (map option_rule table ++ operands_rule (codes "FILE") ∷ [])
+autfilt = command_of (map (λ o. record (new_rule o.long) { long = Some o.long; short = o.short; action = Some (action_at o.place) }) table ++ operands_rule (codes "FILE") ∷ [])
 
 -- ---- streams
 

@@ -28,7 +28,7 @@ use Rattle.fin_removal.specs.Copies.{HasTooManyTerms, without_fin}
 use Rattle.monitor_form.specs.Subsets.{IsMonitorAutomaton, MeetsLimit}
 use Rattle.parity_det.specs.Complements.{IsComplementAutomaton}
 use Rattle.parity_det.specs.Determinisation.{IsParityAutomatonOf}
-use Rattle.plan_meaning.specs.Limits.{PassesBuchi, PassesOfBoth, PassesOfEither, PassesOfSum, PassesParityLimit, PassesUnlessDeterministic, limits_of_parity, limits_of_product}
+use Rattle.plan_meaning.specs.Limits.{HaveManyNames, PassesBuchi, PassesOfBoth, PassesOfEither, PassesParityLimit, PassesUnlessDeterministic, limits_of_parity, limits_of_product}
 use Rattle.plan_meaning.specs.Operands.{operand_at, place_of_product, place_of_product_or, place_of_sum}
 use Rattle.plan_meaning.specs.Standing.{those_standing}
 use Rattle.plan_meaning.specs.declared.fault.PlanFault.{PlanFault}
@@ -86,7 +86,7 @@ PassesForm which form.Monitor a = PassesMonitor which a
 abbrev pub PassesIn : Limit → Change → Automaton → Type 0
 PassesIn which (Product b) a = PassesOfBoth which a b
 PassesIn which (ProductOr b) a = PassesOfEither which a b
-PassesIn which (Sum b) a = PassesOfSum which a b
+PassesIn which (Sum b) a = (which ≡ limit.Names) × HaveManyNames a b
 PassesIn which (RemoveAp h) a = ⊥
 PassesIn which Trim a = ⊥
 PassesIn which Complement a = PassesUnlessDeterministic which a

@@ -1,5 +1,5 @@
 -- What the filters of a plan ask of an automaton, and the verdict on it.
-use Rattle.std.specs.Prelude.{Bool, true, false, MatchBool, List, [], ◌∷◌, length, Option, Result, Ok, Err}
+use Rattle.std.specs.Prelude.{◌≡◌, Bool, true, false, MatchBool, List, [], ◌∷◌, length, Option, Result, Ok, Err}
 use Rattle.std.specs.Bool.{then_some}
 use Rattle.std.specs.List.{AllByRecursion}
 use Rattle.std.specs.Option.{option_map}
@@ -8,13 +8,15 @@ use Rattle.aut_base.specs.CanonicalLabel.{canonical}
 use Rattle.aut_base.specs.Lists.{FirstIn}
 use Rattle.aut_base.specs.declared.limit.Limit.{Limit}
 use Rattle.aut_base.specs.declared.limit.Limit.TheVariants as limit
+use Rattle.aut_base.specs.declared.limit.TheConstants.{MOST_PAIRS}
 use Rattle.aut_core.specs.Deterministic as core
 use Rattle.aut_core.specs.OtherNames.{AcceptTheSame}
+use Rattle.aut_ops.specs.Products.{HasMorePairs}
 use Rattle.filter_plan.specs.Spans.{IsInRange}
 use Rattle.filter_plan.specs.declared.plan.Plan.{Plan}
 use Rattle.filter_plan.specs.declared.range.Range.{Range}
 use Rattle.lasso_emptiness.specs.Emptiness.{AcceptsNothing}
-use Rattle.plan_meaning.specs.Limits.{IsIncluded, PassesOfBoth, PassesOfEquivalence, PassesOfInclusion, PassesOfSquare, PassesOfWord, limits_of_inclusion, limits_of_product}
+use Rattle.plan_meaning.specs.Limits.{IsIncluded, PassesOfBoth, PassesOfEquivalence, PassesOfInclusion, PassesOfWord, limits_of_inclusion, limits_of_product}
 use Rattle.plan_meaning.specs.Operands.{operand_at, place_of_equivalent_to, place_of_included_in, place_of_intersect}
 use Rattle.plan_meaning.specs.Standing.{those_standing}
 use Rattle.plan_meaning.specs.declared.fault.PlanFault.{PlanFault}
@@ -66,7 +68,8 @@ PassesLimitOf which (EquivalentTo b) a = PassesOfEquivalence which (canonical a)
 PassesLimitOf which IsEmpty a = ⊥
 PassesLimitOf which IsDeterministic a = ⊥
 PassesLimitOf which IsComplete a = ⊥
-PassesLimitOf which IsUnambiguous a = PassesOfSquare which (canonical a)
+-- the pairs of it with itself that are reached
+PassesLimitOf which IsUnambiguous a = (which ≡ limit.Pairs) × HasMorePairs MOST_PAIRS (canonical a) (canonical a)
 PassesLimitOf which (States r) a = ⊥
 PassesLimitOf which (Edges r) a = ⊥
 PassesLimitOf which (Sets r) a = ⊥

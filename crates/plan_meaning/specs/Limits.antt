@@ -51,14 +51,6 @@ PassesOfEither limit.Names a b = HaveManyNames a b
 PassesOfEither limit.Pairs a b = HaveFewNames a b × HasMorePairs MOST_PAIRS (over_both a b (completed a)) (over_both a b (completed b))
 PassesOfEither _ a b = ⊥
 
--- a sum of two automata: their names joined
-abbrev pub PassesOfSum : Limit → Automaton → Automaton → Type 0
-PassesOfSum which a b = (which ≡ limit.Names) × HaveManyNames a b
-
--- the square of an automaton: the pairs of it with itself that are reached
-abbrev pub PassesOfSquare : Limit → Automaton → Type 0
-PassesOfSquare which a = (which ≡ limit.Pairs) × HasMorePairs MOST_PAIRS a a
-
 -- a product with the automaton of a pattern: the names of the pattern come first
 abbrev pub PassesOfWord : Limit → Automaton → WordPattern → Type 0
 PassesOfWord which a p =

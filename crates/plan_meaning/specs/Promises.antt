@@ -15,31 +15,17 @@ use Rattle.filter_plan.specs.declared.plan.Plan.{Plan}
 use Rattle.plan_meaning.specs.Changes.{MakesAll, operation_options}
 use Rattle.plan_meaning.specs.Standing.{those_standing}
 
--- one set, and the condition `Inf(0)`
-pub record IsBuchi (a : Automaton) : Type 0 where
-  pub sets : a.sets ≡ 1
-  pub formula : a.formula ≡ FormulaTree.Inf 0 false
-
--- a disjunction of conjunctions of literals, or one of its trivial cases
-pub record IsDisjunctive (f : FormulaTree) : Type 0 where
-  pub terms : List (List Literal)
-  pub is : f ≡ of_terms terms
-
--- deterministic, and every run is accepting
-pub record IsDeterministicSafety (a : Automaton) : Type 0 where
-  pub deterministic : IsDeterministic a
-  pub sets : a.sets ≡ 0
-  pub formula : a.formula ≡ FormulaTree.True
-
 -- The automaton is of this form.
 abbrev pub IsOfForm : Form → Automaton → Type 0
 IsOfForm form.AsIs a = Unit {0}
 IsOfForm form.Deterministic a = IsDeterministic a
 IsOfForm form.Parity a = IsParityMinOdd a
-IsOfForm form.Buchi a = IsBuchi a
+IsOfForm form.Buchi a = (a.sets ≡ 1) × (a.formula ≡ FormulaTree.Inf 0 false)
 IsOfForm form.RemoveFin a = has_fin a.formula ≡ false
-IsOfForm form.Dnf a = IsDisjunctive a.formula
-IsOfForm form.Monitor a = IsDeterministicSafety a
+-- a disjunction of conjunctions of literals, or one of its trivial cases
+IsOfForm form.Dnf a = (terms : List (List Literal)) × (a.formula ≡ of_terms terms)
+-- every run is accepting
+IsOfForm form.Monitor a = IsDeterministic a × (a.sets ≡ 0) × (a.formula ≡ FormulaTree.True)
 
 -- An automaton of this form was completed by a sink with a set of its own, in which a run may be only finitely often.
 pub record HasSinkSet (f : Form) (made : Automaton) : Type 0 where
@@ -58,7 +44,7 @@ abbrev pub KeepsForm : Form → Bool → Automaton → Type 0
 KeepsForm form.AsIs complete made = Unit {0}
 KeepsForm form.Deterministic complete made = IsDeterministic made
 KeepsForm form.Parity complete made = IsParityMinOdd made
-KeepsForm form.Buchi complete made = IsBuchi made
+KeepsForm form.Buchi complete made = IsOfForm form.Buchi made
 KeepsForm form.RemoveFin complete made = OrHasSinkSet form.RemoveFin complete made
 KeepsForm form.Dnf complete made = OrHasSinkSet form.Dnf complete made
 KeepsForm form.Monitor complete made = IsDeterministic made × OrHasSinkSet form.Monitor complete made

@@ -57,12 +57,8 @@ token_names [] = []
 token_names (token.Name name ∷ ts) = name ∷ token_names ts
 token_names (_ ∷ ts) = token_names ts
 
--- the most `(` and `!` of a letter that may be open at once
-abbrev pub most_open : ℕ
-most_open = MOST_DEPTH
-
 -- word = (letter ";")* "cycle" "{" (letter ";")* letter "}"
--- The pattern's names are those that the tokens have, in the order in which they first appear.
+-- The pattern's names are those that the tokens have, in the order in which they first appear. No more than MOST_DEPTH of `(` and `!` are open.
 pub record IsWord (tokens : List Token) (p : WordPattern) : Type 0 where
   pub stem_tokens : List Token
   pub cycle_tokens : List Token
@@ -70,9 +66,9 @@ pub record IsWord (tokens : List Token) (p : WordPattern) : Type 0 where
   pub first : List LabelTree
   pub last : LabelTree
   pub names : p.names ≡ distinct same_text (token_names tokens)
-  pub stem : AreLetters p.names most_open stem_tokens p.stem
-  pub letters : AreLetters p.names most_open cycle_tokens first
-  pub last_letter : IsSum (letters_over p.names) most_open last_tokens last
+  pub stem : AreLetters p.names MOST_DEPTH stem_tokens p.stem
+  pub letters : AreLetters p.names MOST_DEPTH cycle_tokens first
+  pub last_letter : IsSum (letters_over p.names) MOST_DEPTH last_tokens last
   pub cycle : p.cycle ≡ first ++ last ∷ []
   pub spelled : tokens ≡ stem_tokens ++ (token.Cycle ∷ token.LeftBrace ∷ (cycle_tokens ++ (last_tokens ++ token.RightBrace ∷ [])))
 

@@ -1,5 +1,6 @@
 -- Which lasso words match a pattern, and the automaton of a pattern.
 use Rattle.std.specs.Prelude.{◌≡◌, ℕ, ◌+◌, ◌<◌, ◌==◌, true, if◌then◌else◌, List, [], ◌∷◌, ◌++◌, length}
+use Rattle.std.specs.List.{AllZip}
 use Rattle.aut_base.specs.Acceptance.{Accepts}
 use Rattle.aut_base.specs.Automaton.{Automaton, LabelledEdge}
 use Rattle.aut_base.specs.Formula as formula
@@ -9,10 +10,7 @@ use Rattle.word_syntax.specs.Grammar.{WordPattern}
 
 -- the lists are of one length, and each letter satisfies the formula at the same index
 abbrev pub AllMeet : List (List ℕ) → List NameSet → List LabelTree → Type 0
-AllMeet names [] [] = Unit {0}
-AllMeet names [] (t ∷ ts) = ⊥
-AllMeet names (x ∷ xs) [] = ⊥
-AllMeet names (x ∷ xs) (t ∷ ts) = (truth (holds_at names x) t ≡ true) × AllMeet names xs ts
+AllMeet names = AllZip (λ letter t. truth (holds_at names letter) t ≡ true)
 
 -- The lasso word matches the pattern: its stem is the pattern's stem and some copies of its cycle, and its cycle is one
 -- or more copies of the pattern's cycle.

@@ -22,17 +22,11 @@ pub record IsBareName (name : List ℕ) : Type 0 where
   pub not_false : name ≢ codes "false"
   pub not_cycle : name ≢ codes "cycle"
 
--- a name in quotes
-pub record IsQuotedName (name word : List ℕ) : Type 0 where
-  pub inner : List ℕ
-  pub quotes : Quotes inner name
-  pub is : word ≡ 34 ∷ (inner ++ 34 ∷ [])
-
 -- the bytes that spell a token
 abbrev pub SpellsWordToken : Token → List ℕ → Type 0
 SpellsWordToken True word = (word ≡ codes "1") ⊎ (word ≡ codes "true")
 SpellsWordToken False word = (word ≡ codes "0") ⊎ (word ≡ codes "false")
-SpellsWordToken (Name name) word = (IsBareName name × (word ≡ name)) ⊎ IsQuotedName name word
+SpellsWordToken (Name name) word = (IsBareName name × (word ≡ name)) ⊎ ((inner : List ℕ) × Quotes inner name × (word ≡ 34 ∷ (inner ++ 34 ∷ [])))
 SpellsWordToken Not word = word ≡ codes "!"
 SpellsWordToken And word = (word ≡ codes "&") ⊎ (word ≡ codes "&&")
 SpellsWordToken Or word = (word ≡ codes "|") ⊎ (word ≡ codes "||")

@@ -1,7 +1,7 @@
 -- Events that are equal up to texts that the plan doesn't determine.
-use Rattle.std.proofs.Common.{◌≡◌, ◌⊎◌, ◌∙◌, List, [], ◌∷◌, ap, inl, inr, refl, subst, sym}
+use Rattle.std.proofs.Common.{◌≡◌, ◌⊎◌, ◌∙◌, List, [], ◌∷◌, ap, inl, inr, refl, subst, sym, fold}
 use Rattle.autfilt_laws.specs.Runs.{AreFirst, AreLike, DecidesTexts, IsLike}
-use Rattle.autfilt_run.specs.Events.{Dropped, Ended, Event, Kept, Opened, Skipped, Tally, tally_with, tally_from}
+use Rattle.autfilt_run.specs.Events.{Dropped, Ended, Event, Kept, Opened, Skipped, Tally, tally_with}
 use Rattle.filter_plan.specs.declared.plan.Plan.{Plan}
 
 pub like_back : (plan : Plan) (e f : Event) → IsLike plan e f → IsLike plan f e
@@ -42,11 +42,11 @@ counted_like plan t (Dropped w) f h = ap (tally_with t) h
 counted_like plan t (Skipped name) f h = ap (tally_with t) h
 counted_like plan t Ended f h = ap (tally_with t) h
 
-pub tally_like : (plan : Plan) (t : Tally) (es fs : List Event) → AreLike plan es fs → tally_from t fs ≡ tally_from t es
+pub tally_like : (plan : Plan) (t : Tally) (es fs : List Event) → AreLike plan es fs → fold tally_with t fs ≡ fold tally_with t es
 tally_like plan t [] [] h = refl
 tally_like plan t [] (f ∷ fs) h = absurd h
 tally_like plan t (e ∷ es) [] h = absurd h
-tally_like plan t (e ∷ es) (f ∷ fs) h = ap (λ x. tally_from x fs) (counted_like plan t e f h.0) ∙ tally_like plan (tally_with t e) es fs h.1
+tally_like plan t (e ∷ es) (f ∷ fs) h = ap (λ x. fold tally_with x fs) (counted_like plan t e f h.0) ∙ tally_like plan (tally_with t e) es fs h.1
 
 -- ---- prefixes of a list
 

@@ -1,7 +1,7 @@
 -- The verdict of a plan on an automaton, and the text that is due of it, are unique.
-use Rattle.std.proofs.Common.{◌≡◌, ◌≢◌, ◌⊎◌, ℕ, Bool, true, false, List, [], ◌∷◌, ◌++◌, length, Option, Some, None, inl, inr, refl, true≢false, ap, ◌∙◌, sym, subst}
+use Rattle.std.proofs.Common.{◌≡◌, ◌≢◌, ◌⊎◌, ℕ, Bool, true, false, List, [], ◌∷◌, ◌++◌, length, codes, Option, Some, None, inl, inr, refl, true≢false, ap, ◌∙◌, sym, subst}
 use Rattle.std.specs.Fmt.{decimal}
-use Rattle.std.specs.List.{AllByRecursion}
+use Rattle.std.specs.List.{AllByRecursion, AllZip, concat}
 use Rattle.std.specs.Prelude.{MatchBool, MatchOption}
 use Rattle.aut_base.specs.Automaton.{Automaton}
 use Rattle.aut_base.specs.CanonicalLabel.{canonical}
@@ -12,7 +12,7 @@ use Rattle.autfilt_run.specs.Due.{IsDue, IsResult, IsPrinted, name_due}
 use Rattle.autfilt_run.specs.Figures.{IsLine, IsShownAs, ShowsReached}
 use Rattle.autfilt_run.specs.Over.{IsOverLimit, IsOverPrinting, StopsPrinting}
 use Rattle.autfilt_run.specs.Plans.{prints_each}
-use Rattle.autfilt_run.specs.RefutationLine.{IsRefutationLine}
+use Rattle.autfilt_run.specs.RefutationLine.{SaysOfInclusion}
 use Rattle.filter_plan.specs.declared.format.Piece.{Piece}
 use Rattle.filter_plan.specs.declared.format.Piece.TheVariants.{Byte, States, Edges, Sets, Word}
 use Rattle.filter_plan.specs.declared.plan.Output.{Output}
@@ -25,7 +25,7 @@ use Rattle.plan_meaning.specs.Changes.{changes_of}
 use Rattle.plan_meaning.specs.Filters.{IsDropped, IsKept, PassesAt, filters}
 use Rattle.plan_meaning.specs.Laws.{ChangesAreDetermined, OneLimitOfInclusion, VerdictIsOne}
 use Rattle.plan_meaning.specs.Laws as verdict
-use Rattle.plan_meaning.specs.Limits.{PassesOfInclusion}
+use Rattle.plan_meaning.specs.Limits.{IsWithinInclusion, PassesOfInclusion}
 use Rattle.plan_meaning.specs.Operands.{refuted_operand}
 
 -- uniqueness of what a plan says of an automaton
@@ -74,13 +74,20 @@ one_shown one Edges a t u other x y = one_reached one (λ (m : Automaton). lengt
 one_shown one Sets a t u other x y = x ∙ sym y
 one_shown one Word a t u other x y = absurd (other refl)
 
+one_each : AreOne → (pieces : List Piece) (a : Automaton) (ts us : List (List ℕ)) → AllByRecursion (λ (piece : Piece). piece ≢ Word) pieces
+    → AllZip (λ piece t. IsShownAs piece a t) pieces ts → AllZip (λ piece t. IsShownAs piece a t) pieces us → ts ≡ us
+one_each one [] a [] [] others x y = refl
+one_each one [] a (t ∷ ts) us others x y = absurd x
+one_each one [] a [] (u ∷ us) others x y = absurd y
+one_each one (piece ∷ pieces) a [] us others x y = absurd x
+one_each one (piece ∷ pieces) a (t ∷ ts) [] others x y = absurd y
+one_each one (piece ∷ pieces) a (t ∷ ts) (u ∷ us) others x y =
+    ap (λ (v : List ℕ). v ∷ ts) (one_shown one piece a t u others.0 x.0 y.0) ∙ ap (λ (vs : List (List ℕ)). u ∷ vs) (one_each one pieces a ts us others.1 x.1 y.1)
+
 one_line : AreOne → (pieces : List Piece) (a : Automaton) (t u : List ℕ) → AllByRecursion (λ (piece : Piece). piece ≢ Word) pieces
     → IsLine pieces a t → IsLine pieces a u → t ≡ u
-one_line one [] a t u others x y = x ∙ sym y
-one_line one (piece ∷ pieces) a t u others x y =
-    let first = one_shown one piece a x.front y.front others.0 x.first y.first in
-    let behind = one_line one pieces a x.rest y.rest others.1 x.behind y.behind in
-    x.all ∙ ap (λ (v : List ℕ). v ++ x.rest) first ∙ ap (λ (v : List ℕ). y.front ++ v) behind ∙ sym y.all
+one_line one pieces a t u others x y =
+    x.all ∙ ap (λ (ts : List (List ℕ)). concat ts ++ codes "\n") (one_each one pieces a x.shown y.shown others x.each y.each) ∙ sym y.all
 
 one_printed : AreOne → (o : Output) (p : Plan) (ops : List Automaton) (w : Written) (t u : List ℕ) → DecidesPrinted o
     → IsPrinted o p ops w t → IsPrinted o p ops w u → t ≡ u
@@ -88,8 +95,8 @@ one_printed one Hoa p ops w t u decides x y =
     let same = one_made one p ops w x.made y.made x.is_made y.is_made in
     x.same ∙ ap (λ (m : Automaton). canonical_text m (name_due p w)) same ∙ sym y.same
 one_printed one (Stats pieces) p ops w t u decides x y =
-    let same = one_made one p ops w x.made y.made x.is_made y.is_made in
-    one_line one pieces y.made t u decides (subst (λ (m : Automaton). IsLine pieces m t) same x.line) y.line
+    let same = one_made one p ops w x.0 y.0 x.1.0 y.1.0 in
+    one_line one pieces y.0 t u decides (subst (λ (m : Automaton). IsLine pieces m t) same x.1.1) y.1.1
 one_printed one (Refute file) p ops w t u decides x y = absurd decides
 
 due_where : AreOne → (b : Bool) (p : Plan) (ops : List Automaton) (w : Written) (t u : List ℕ) → DecidesPrinted p.output ⊎ (b ≡ false)
@@ -106,7 +113,7 @@ one_text one plan ops w v t u decides same a b =
 
 -- ---- the limits
 
-refuted_or_over : (operand : Option Automaton) (which : Limit) (w : Written) (text : List ℕ) → MatchOption operand ⊥ (λ b. IsRefutationLine (described w) b text)
+refuted_or_over : (operand : Option Automaton) (which : Limit) (w : Written) (text : List ℕ) → MatchOption operand ⊥ (λ b. IsWithinInclusion (canonical (described w)) b × SaysOfInclusion (described w) b text)
     → MatchOption operand ⊥ (λ b. PassesOfInclusion which (canonical (described w)) b) → ⊥
 refuted_or_over None which w text h k = h
 refuted_or_over (Some b) which w text h k = h.0 which k

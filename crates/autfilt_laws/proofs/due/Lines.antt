@@ -1,6 +1,7 @@
 -- There is a line of figures of each automaton.
 use Rattle.std.proofs.Common.{◌++◌, ℕ, List, [], ◌∷◌, All, append-nil, arith, codes, inl, inr, length, refl, subst}
 use Rattle.std.specs.Fmt.{decimal}
+use Rattle.std.specs.List.{concat}
 use Rattle.aut_base.proofs.lists.Members.{none_there}
 use Rattle.aut_base.proofs.order.Climbing.{climbs_in_order}
 use Rattle.aut_base.specs.Automaton.{Automaton, IsWellFormed}
@@ -47,8 +48,8 @@ some_shown Word a none =
     none [] (inr (nothing_accepted a (λ w accepted. none (word_text a.names w.stem w.cycle) (inl (record { word = w; accepted = accepted; shown = refl }))), refl))
 
 pub some_line : (pieces : List Piece) (a : Automaton) → ((text : List ℕ) → IsLine pieces a text → ⊥) → ⊥
-some_line [] a none = none (codes "\n") refl
+some_line [] a none = none (codes "\n") (record { shown = []; each = tt; all = refl })
 some_line (piece ∷ pieces) a none =
-    some_shown piece a (λ front first.
+    some_shown piece a (λ part shows.
     some_line pieces a (λ rest behind.
-    none (front ++ rest) (record { front = front; rest = rest; all = refl; first = first; behind = behind })))
+    none (concat (part ∷ behind.shown) ++ codes "\n") (record { shown = part ∷ behind.shown; each = (shows, behind.each); all = refl })))

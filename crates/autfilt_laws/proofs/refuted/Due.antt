@@ -18,7 +18,7 @@ use Rattle.autfilt_run.specs.Due.{IsDue, IsPrinted}
 use Rattle.autfilt_run.specs.OperandEvents.{FileOpened, OperandEvent, PassedOver, Taken, operands_read}
 use Rattle.autfilt_run.specs.Over.{IsOverLimit, IsOverPrinting, StopsPrinting}
 use Rattle.autfilt_run.specs.Plans.{prints_each}
-use Rattle.autfilt_run.specs.RefutationLine.{IsRefutationLine, SaysOfInclusion}
+use Rattle.autfilt_run.specs.RefutationLine.{SaysOfInclusion}
 use Rattle.filter_plan.specs.Table.{refuted}
 use Rattle.filter_plan.specs.Words.{file_list, operands}
 use Rattle.filter_plan.specs.declared.plan.Output.{Output}
@@ -99,7 +99,7 @@ module _ (p : Plan) (file : List ℕ) (output : p.output ≡ Refute file) (on : 
 
   line_is_due : IsWithinInclusion (canonical (described w)) r.operand → (text : List ℕ) → SaysOfInclusion (described w) r.operand text → IsDue p ops w text
   line_is_due limits text says =
-      let line = subst (λ (o : Option Automaton). MatchOption o ⊥ (λ b. IsRefutationLine (described w) b text)) (sym r.is) (limits, says) in
+      let line = subst (λ (o : Option Automaton). MatchOption o ⊥ (λ b. IsWithinInclusion (canonical (described w)) b × SaysOfInclusion (described w) b text)) (sym r.is) (limits, says) in
       subst (λ (c : Bool). MatchBool c (IsPrinted p.output p ops w text) (text ≡ [])) (sym on) (subst (λ (o : Output). IsPrinted o p ops w text) (sym output) line)
 
   -- the operand accepts all that the automaton accepts, where no word refutes that

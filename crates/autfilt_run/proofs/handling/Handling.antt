@@ -13,7 +13,7 @@ use Rattle.autfilt_run.proofs.handling.Taking.{accepts_read, core_is}
 use Rattle.autfilt_run.specs.Due.{IsDue, IsResult, IsPrinted, name_due}
 use Rattle.autfilt_run.specs.Faults.{fault_of_plan}
 use Rattle.autfilt_run.specs.Plans.{prints_each}
-use Rattle.autfilt_run.specs.RefutationLine.{IsRefutationLine, SaysOfInclusion}
+use Rattle.autfilt_run.specs.RefutationLine.{SaysOfInclusion}
 use Rattle.autfilt_run.specs.inner.Handling.{Handles, IsUnwanted, IsWanted, PrintsAutomaton, PrintsOrStops, ShowsInclusion, ShowsMade}
 use Rattle.autfilt_run.specs.inner.Taking.{IsReadAs}
 use Rattle.filter_plan.specs.Words.{changes}
@@ -23,6 +23,7 @@ use Rattle.filter_plan.specs.declared.plan.Plan.{Plan}
 use Rattle.hoa_parser.specs.Naming.{name_of}
 use Rattle.hoa_parser.specs.Raw.{Written}
 use Rattle.hoa_reader.specs.Described as reader
+use Rattle.aut_base.specs.CanonicalLabel.{canonical}
 use Rattle.hoa_writer.specs.CanonicalText.{canonical_text}
 use Rattle.hoa_writer.specs.CanonicalWritten.{ReadsBack}
 use Rattle.plan_meaning.proofs.filters.Canonical.{verdict_read}
@@ -91,7 +92,7 @@ said_of w core b text r (inl h) = inl (record {
 said_of w core b text r (inr h) = inr (λ u v accepts. h.0 u v ((accepts_read w core r u v).1 accepts), h.1)
 
 refuted_as : (operand : Option Automaton) (w : Written) (core : Automaton) (text : List ℕ) → IsReadAs w core
-    → MatchOption operand ⊥ (ShowsInclusion core text) → MatchOption operand ⊥ (λ b. IsRefutationLine (reader.described w) b text)
+    → MatchOption operand ⊥ (ShowsInclusion core text) → MatchOption operand ⊥ (λ b. IsWithinInclusion (canonical (reader.described w)) b × SaysOfInclusion (reader.described w) b text)
 refuted_as None w core text r h = h
 refuted_as (Some b) w core text r h = (subst (λ (x : Automaton). IsWithinInclusion x b) (core_is w core r) h.0, said_of w core b text r h.1)
 
@@ -108,7 +109,7 @@ printed_as Hoa p ops w core name text r named h =
       same = same;
       reads_as = reads_as text h.made (name_due p w) (set_operation p ops (reader.described w)) (subst (λ (x : List ℕ). ReadsBack x h.made (name_due p w)) (sym same) back) is_made.accepts;
     }
-printed_as (Stats pieces) p ops w core name text r named h = record { made = h.made; is_made = made_of p ops w core r h; line = h.shown }
+printed_as (Stats pieces) p ops w core name text r named h = (h.made, (made_of p ops w core r h, h.shown))
 printed_as (Refute file) p ops w core name text r named h = refuted_as (refuted_operand p ops) w core text r h
 
 due_text : (p : Plan) (ops : List Automaton) (w : Written) (b : Bool) (text : List ℕ) → b ≡ prints_each p → b ≡ true → IsPrinted p.output p ops w text → IsDue p ops w text

@@ -1,5 +1,5 @@
 -- Runs that end with a fault, and runs that read all.
-use Rattle.std.proofs.Common.{◌≡◌, ◌≢◌, ◌⊎◌, ℕ, ◌+◌, ◌<◌, ◌≤◌, ◌==◌, Bool, true, false, not, ◌&&◌, ◌||◌, if◌then◌else◌, List, [], ◌∷◌, ◌++◌, length, take, drop}
+use Rattle.std.proofs.Common.{◌≡◌, ◌≢◌, ◌⊎◌, ℕ, ◌+◌, ◌<◌, ◌≤◌, ◌==◌, Bool, true, false, not, ◌&&◌, ◌||◌, if◌then◌else◌, List, [], ◌∷◌, ◌++◌, length, take, drop, fold}
 use Rattle.std.proofs.Common.{Option, Some, None, Err, refl, sym, ap, ◌∙◌, subst, inl, inr, append_assoc, append-nil, arith}
 use Rattle.std.proofs.lemmas.Bool.{false≢true}
 use Rattle.std.proofs.lemmas.List.{drop_all}
@@ -31,7 +31,7 @@ use Rattle.autfilt_run.proofs.turns.Preparing.{calm_limit, taken_few, untold_clo
 use Rattle.autfilt_run.proofs.turns.Stepping.{closed_counted, is_closed, name_as, reads_on, stops_at, stops_named, stream_counted}
 use Rattle.autfilt_run.proofs.printing.Writing.{rose_from}
 use Rattle.autfilt_run.specs.Events.{Dropped, Ended, Event, IsGood, IsEventJudged, Kept, Opened, Point, ReadsOn, Skipped, Stream, Tally, all_written}
-use Rattle.autfilt_run.specs.Events.{tally_with, open_after, opened_stream, opened_streams, bytes_before, start_of, tally, tally_from}
+use Rattle.autfilt_run.specs.Events.{tally_with, open_by, opened_stream, opened_streams, bytes_before, start_of, tally}
 use Rattle.autfilt_run.specs.Openings.{AreTried, WantsFile}
 use Rattle.autfilt_run.specs.Over.{IsOverLimit}
 use Rattle.autfilt_run.specs.Plans.{asks_on, count_text, prints_count, prints_each, plan_streams}
@@ -86,7 +86,7 @@ wants_stream_file : (fresh old : Session) (s m : Seen) (o p k l : SinkSeen) (fir
     → WantsFile old.is_open old.opened (length (plan_streams old.plan)) → WantsStreamFile fresh.plan h.events
 wants_stream_file fresh old s m o p k l first noting h wants =
     let within : old.opened < length (plan_streams fresh.plan) = subst (λ (x : Plan). old.opened < length (plan_streams x)) h.same_plan wants.more in
-    wants_next (open_after false h.events) (plan_streams fresh.plan) old.opened (opened_streams h.events) (sym h.still ∙ wants.closed) within h.named
+    wants_next (fold open_by false h.events) (plan_streams fresh.plan) old.opened (opened_streams h.events) (sym h.still ∙ wants.closed) within h.named
 
 run_halted : (f : RunFault) → f ≢ fault.WriteFault → (name : List ℕ) (fresh old : Session) (s m t : Seen) (o p q k l j : SinkSeen) (first noting : Bool)
     → HasRunEvents fresh old s m o p k l first noting → HaltsAt f old name m t p q
@@ -388,7 +388,7 @@ done_at old m at stands (inr h) = inr (
 )
 
 -- the events keep the same automata, however many were skipped before
-kept_alike : (a b : Tally) (events : List Event) → a.kept ≡ b.kept → (tally_from a events).kept ≡ (tally_from b events).kept
+kept_alike : (a b : Tally) (events : List Event) → a.kept ≡ b.kept → (fold tally_with a events).kept ≡ (fold tally_with b events).kept
 kept_alike a b [] e = e
 kept_alike a b (Opened name ∷ es) e = kept_alike a b es e
 kept_alike a b (Kept w text ∷ es) e = kept_alike (tally_with a (Kept w text)) (tally_with b (Kept w text)) es (ap (λ (n : ℕ). n + 1) e)

@@ -1,5 +1,5 @@
 -- Preparing a session: some operands are read, then more of them, or a fault comes.
-use Rattle.std.proofs.Common.{◌≡◌, ℕ, ◌+◌, Bool, true, false, List, [], ◌∷◌, ◌++◌, length, drop, take, refl, sym, ap, ◌∙◌, subst, append-nil, arith}
+use Rattle.std.proofs.Common.{◌≡◌, ℕ, ◌+◌, Bool, true, false, List, [], ◌∷◌, ◌++◌, length, drop, take, refl, sym, ap, ◌∙◌, subst, append-nil, arith, fold}
 use Rattle.std.proofs.lemmas.Grind.{flat_map-append}
 use Rattle.std.proofs.lemmas.List.{length-append}
 use Rattle.std.specs.Prelude.{map}
@@ -18,7 +18,7 @@ use Rattle.autfilt_run.proofs.printing.Gains.{nothing}
 use Rattle.autfilt_run.proofs.turns.Openings.{opened_as, opened_then, tried_as, tried_for, tried_of, tried_then}
 use Rattle.autfilt_run.proofs.turns.Preparing.{counts_then, file_open_then, passed_push}
 use Rattle.autfilt_run.specs.Events.{Point, start_of}
-use Rattle.autfilt_run.specs.OperandEvents.{AreRead, OperandEvent, PassedOver, all_passed, file_open_after, opened_file, opened_files, operand_of, operands_read, passed_of}
+use Rattle.autfilt_run.specs.OperandEvents.{AreRead, OperandEvent, PassedOver, all_passed, file_open_by, opened_file, opened_files, operand_of, operands_read, passed_of}
 use Rattle.autfilt_run.specs.Points.{StandsIn, name_in, open_count}
 use Rattle.autfilt_run.specs.Preparing.{FailsToPrepare, HasReadOperands, HasSkipped, HasAllOperands, WantsOperand, opened_names}
 use Rattle.autfilt_run.specs.declared.fault.RunFault.{RunFault}
@@ -111,7 +111,7 @@ more events plan old new s m t k l j noting noting' h keeps read skipped noted =
       (b.0, are_read_then texts h.taken events (start_of (operands plan) s.left 0) a.0 b.0 a.1 b.1, b.2);
   noted = noted;
   named = read.named ∙ (ap (λ x. x ++ opened_files events) h.named ∙ sym (flat_map-append opened_file h.taken events));
-  still = read.still ∙ (ap (λ (b : Bool). file_open_after b events) h.still ∙ sym (file_open_then false h.taken events));
+  still = read.still ∙ (ap (λ (b : Bool). fold file_open_by b events) h.still ∙ sym (file_open_then false h.taken events));
   openings = opened_as _ _ s t (opened_files_then h.taken events) (opened_then (length (opened_files h.taken)) (length (opened_files events)) s m t h.openings read.openings);
   calm = record { opens = read.opens ∙ h.calm.opens; reads = read.reads ∙ h.calm.reads };
   texts = read.texts ∙ h.texts;
@@ -151,8 +151,8 @@ wants_operand : (f : RunFault) (plan : Plan) (old new : Session) (s m t : Seen) 
 wants_operand f plan old new s m t k l noting h failed wants =
     let names : opened_names old ++ opened_files failed.events ≡ opened_files (h.taken ++ failed.events) =
     ap (λ x. x ++ opened_files failed.events) h.named ∙ sym (flat_map-append opened_file h.taken failed.events) in
-    let still : file_open_after false (h.taken ++ failed.events) ≡ file_open_after old.is_open failed.events =
-    file_open_then false h.taken failed.events ∙ ap (λ (b : Bool). file_open_after b failed.events) (sym h.still) in
+    let still : fold file_open_by false (h.taken ++ failed.events) ≡ fold file_open_by old.is_open failed.events =
+    file_open_then false h.taken failed.events ∙ ap (λ (b : Bool). fold file_open_by b failed.events) (sym h.still) in
     let number = ap length names in
     let all = ap (λ (p : Plan). length (operands p)) h.same_plan in
     record { closed = still ∙ wants.closed; more = omega (arith, wants.more, number, all) }

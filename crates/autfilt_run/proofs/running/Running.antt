@@ -1,5 +1,5 @@
 -- The events of a run so far and another one, and the end.
-use Rattle.std.proofs.Common.{◌≡◌, ℕ, ◌+◌, Bool, true, false, List, [], ◌∷◌, ◌++◌, drop, length, take, Option, refl, sym, ap, ◌∙◌, subst, append_assoc, append-nil}
+use Rattle.std.proofs.Common.{◌≡◌, ℕ, ◌+◌, Bool, true, false, List, [], ◌∷◌, ◌++◌, drop, length, take, Option, refl, sym, ap, ◌∙◌, subst, append_assoc, append-nil, fold}
 use Rattle.std.proofs.lemmas.List.{length-append}
 use Rattle.std.specs.Prelude.{map}
 use Rattle.aut_base.proofs.lists.AllByRecursion.{AllByRecursion-push}
@@ -16,7 +16,7 @@ use Rattle.autfilt_run.specs.declared.ended.End.{End}
 use Rattle.autfilt_run.specs.inner.Running.{AreCalm, Carries, FinishesRun, HasRunEvents, IsFresh, all_noted}
 use Rattle.autfilt_run.proofs.printing.Gains.{both, nothing}
 use Rattle.autfilt_run.proofs.turns.Openings.{opened_as, opened_then}
-use Rattle.autfilt_run.specs.Events.{Event, Tally, IsEventJudged, Point, all_written, tally_with, open_after, open_by, opened_stream, opened_streams, start_of, tally_from, written_of}
+use Rattle.autfilt_run.specs.Events.{Event, Tally, IsEventJudged, Point, all_written, tally_with, open_by, opened_stream, opened_streams, start_of, written_of}
 use Rattle.autfilt_run.specs.Plans.{asks_on, count_text, plan_streams}
 use Rattle.autfilt_run.specs.Points.{StandsInStreams, operands_in}
 use Rattle.autfilt_run.specs.Turns.{Progress, progress}
@@ -40,7 +40,7 @@ opened_streams_push (e ∷ es) event = ap (λ x. opened_stream e ++ x) (opened_s
 pub opened_push : (events : List Event) (event : Event) → length (opened_streams events) + length (opened_stream event) ≡ length (opened_streams (events ++ event ∷ []))
 opened_push events event = sym (length-append (opened_streams events) (opened_stream event)) ∙ ap length (sym (opened_streams_push events event))
 
-tally_push : (t : Tally) (events : List Event) (event : Event) → tally_from t (events ++ event ∷ []) ≡ tally_with (tally_from t events) event
+tally_push : (t : Tally) (events : List Event) (event : Event) → fold tally_with t (events ++ event ∷ []) ≡ tally_with (fold tally_with t events) event
 tally_push t [] event = refl
 tally_push t (e ∷ es) event = tally_push (tally_with t e) es event
 
@@ -70,7 +70,7 @@ Adds added noting noting' k j = (sink : SinkSeen) (text : List ℕ) → HasNoted
 pub adds_nothing : (noting : Bool) (k : SinkSeen) → Adds [] noting noting k k
 adds_nothing noting k sink text h = notes_nothing sink k text noting h
 
-open_then : (before : Bool) (events others : List Event) → open_after before (events ++ others) ≡ open_after (open_after before events) others
+open_then : (before : Bool) (events others : List Event) → fold open_by before (events ++ others) ≡ fold open_by (fold open_by before events) others
 open_then before [] others = refl
 open_then before (e ∷ es) others = open_then (open_by before e) es others
 

@@ -1,10 +1,10 @@
 -- Sessions that differ only in which call is allowed next.
-use Rattle.std.proofs.Common.{◌≡◌, ℕ, ◌+◌, ◌<◌, Bool, List, [], ◌∷◌, ◌++◌, Option, Some, None, Ok, length, drop, take, sym, ap, ◌∙◌, subst}
+use Rattle.std.proofs.Common.{◌≡◌, ℕ, ◌+◌, ◌<◌, Bool, List, [], ◌∷◌, ◌++◌, Option, Some, None, Ok, length, drop, take, sym, ap, ◌∙◌, subst, fold}
 use Rattle.std.specs.Prelude.{map}
 use Rattle.aut_core.specs.SymbolicAutomata.{SymbolicAutomaton, automaton_of}
 use Rattle.aut_io.specs.Seen.{Seen}
 use Rattle.autfilt_run.specs.Events.{Point, Stream}
-use Rattle.autfilt_run.specs.OperandEvents.{OperandEvent, PassedOver, file_open_after, opened_files, operands_read}
+use Rattle.autfilt_run.specs.OperandEvents.{OperandEvent, PassedOver, file_open_by, opened_files, operands_read}
 use Rattle.autfilt_run.specs.Plans.{files_of, tried_name}
 use Rattle.autfilt_run.specs.Points.{IsInStream, StandsIn, name_in, open_count}
 use Rattle.autfilt_run.specs.Preparing.{HasReadOperands, HasSkipped, HasAllOperands, Prepares, opened_names}
@@ -59,7 +59,7 @@ has_read_as events old old' new new' s t a back b h = record {
       let x = h.happened texts told p (stands_in_as old' old s.left p back stands) in
       (x.0, x.1, stands_in_as new new' t.left x.0 b x.2);
   named = sym (names_as new new' b) ∙ (h.named ∙ ap (λ x. x ++ opened_files events) (names_as old old' a));
-  still = sym b.is_open ∙ (h.still ∙ ap (λ (i : Bool). file_open_after i events) a.is_open);
+  still = sym b.is_open ∙ (h.still ∙ ap (λ (i : Bool). fold file_open_by i events) a.is_open);
   openings = h.openings;
   opens = h.opens;
   reads = h.reads;

@@ -1,5 +1,5 @@
 -- What turns of the loop over operands mean as events of a run.
-use Rattle.std.proofs.Common.{◌≡◌, ◌≢◌, ℕ, suc, ◌+◌, ◌-◌, ◌<◌, ◌≤◌, Bool, true, false, List, [], ◌∷◌, ◌++◌, length, drop, get_or, take, Option, Some, None, Result}
+use Rattle.std.proofs.Common.{◌≡◌, ◌≢◌, ℕ, suc, ◌+◌, ◌-◌, ◌<◌, ◌≤◌, Bool, true, false, List, [], ◌∷◌, ◌++◌, length, drop, get_or, take, Option, Some, None, Result, fold}
 use Rattle.std.proofs.Common.{Err, refl, sym, ap, ◌∙◌, subst, inl, inr, append_assoc, append-nil, arith}
 use Rattle.std.proofs.Math.Numerals.{suc-eq-add-one}
 use Rattle.std.proofs.lemmas.List.{length-append}
@@ -21,7 +21,7 @@ use Rattle.autfilt_run.proofs.turns.Stepping.{KeepsOn, closed_counted, is_closed
 use Rattle.autfilt_run.proofs.printing.Writing.{rose_from}
 use Rattle.autfilt_run.specs.Events.{Point, ReadsOn}
 use Rattle.autfilt_run.specs.Openings.{AreOpened, AreTried, WantsFile}
-use Rattle.autfilt_run.specs.OperandEvents.{AreRead, FileOpened, OperandEvent, PassedOver, Proceeds, Taken, all_passed, file_open_after, file_open_by}
+use Rattle.autfilt_run.specs.OperandEvents.{AreRead, FileOpened, OperandEvent, PassedOver, Proceeds, Taken, all_passed, file_open_by}
 use Rattle.autfilt_run.specs.OperandEvents.{opened_file, opened_files, operand_of, operands_read, passed_of}
 use Rattle.autfilt_run.specs.Points.{IsAt, StandsIn, name_in, open_count, operands_in}
 use Rattle.autfilt_run.specs.Preparing.{CountsAt, FailsToPrepare, HasReadOperands, HasSkipped, HasAllOperands, Prepares, WantsOperand, opened_names}
@@ -62,7 +62,7 @@ opened_files_push (e ∷ es) event = ap (λ x. opened_file e ++ x) (opened_files
 opened_push : (events : List OperandEvent) (event : OperandEvent) → length (opened_files events) + length (opened_file event) ≡ length (opened_files (events ++ event ∷ []))
 opened_push events event = sym (length-append (opened_files events) (opened_file event)) ∙ ap length (sym (opened_files_push events event))
 
-pub file_open_then : (before : Bool) (events others : List OperandEvent) → file_open_after before (events ++ others) ≡ file_open_after (file_open_after before events) others
+pub file_open_then : (before : Bool) (events others : List OperandEvent) → fold file_open_by before (events ++ others) ≡ fold file_open_by (fold file_open_by before events) others
 file_open_then before [] others = refl
 file_open_then before (e ∷ es) others = file_open_then (file_open_by before e) es others
 
@@ -383,7 +383,7 @@ wants_operand first old s m h wants =
     let k = length old.operands in
     let front = sym h.read.named ∙ (names_of old first.plan k h.keeps.plan (counted_closed old k wants.closed refl)) in
     let within : k < length (operands first.plan) = subst (λ (p : Plan). k < length (operands p)) h.keeps.plan wants.more in
-    wants_next (file_open_after first.is_open h.events) (operands first.plan) k (opened_names first ++ opened_files h.events) (sym h.read.still ∙ wants.closed) within front
+    wants_next (fold file_open_by first.is_open h.events) (operands first.plan) k (opened_names first ++ opened_files h.events) (sym h.read.still ∙ wants.closed) within front
 
 pub fails : (f : RunFault) (first old new : Session) (s m t : Seen) → first.lexer.most ≡ MOST_BYTES → old.lexer.taken ≤ MOST_BYTES → new.lexer.taken ≤ MOST_BYTES → IsPreparing first old s m
     → KeepsAll old new → FailsOperand f old new m t

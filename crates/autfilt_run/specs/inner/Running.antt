@@ -1,5 +1,5 @@
 -- Invariants of the loops over operands and over steps.
-use Rattle.std.specs.Prelude.{◌≡◌, ◌≢◌, ◌⊎◌, ℕ, ◌++◌, Bool, false, List, [], flat_map, length, take, Option, Some, Result, Ok, Err}
+use Rattle.std.specs.Prelude.{◌≡◌, ◌≢◌, ◌⊎◌, ℕ, ◌++◌, Bool, false, List, [], flat_map, length, take, Option, Some, Result, Ok, Err, fold}
 use Rattle.aut_io.specs.Outside.{Gains, GainsPrefix, Rose, Texts}
 use Rattle.aut_io.specs.Seen.{Seen, SinkSeen}
 use Rattle.autfilt_run.specs.Ends.{ended_of}
@@ -8,9 +8,9 @@ use Rattle.autfilt_run.specs.Notes.{aborted_line, line_of}
 use Rattle.autfilt_run.specs.Run.{EndsBecause, EndsInOperands, Runs, WantsOperandFile, end_of, noted_of}
 use Rattle.autfilt_run.specs.declared.ended.End.{End}
 use Rattle.autfilt_run.specs.declared.ended.End.TheVariants as end
-use Rattle.autfilt_run.specs.Events.{AreJudged, Event, Happen, Point, Tally, all_written, open_after, opened_streams, start_of, tally}
+use Rattle.autfilt_run.specs.Events.{AreJudged, Event, Happen, Point, Tally, all_written, open_by, opened_streams, start_of, tally}
 use Rattle.autfilt_run.specs.Openings.{AreOpened, AreTried}
-use Rattle.autfilt_run.specs.OperandEvents.{AreRead, OperandEvent, all_passed, file_open_after, opened_files, operands_read}
+use Rattle.autfilt_run.specs.OperandEvents.{AreRead, OperandEvent, all_passed, file_open_by, opened_files, operands_read}
 use Rattle.autfilt_run.specs.Plans.{plan_streams}
 use Rattle.autfilt_run.specs.Points.{StandsInStreams, StandsIn, operands_in}
 use Rattle.autfilt_run.specs.Preparing.{CountsAt, opened_names}
@@ -62,7 +62,7 @@ pub record HasPrepared (plan : Plan) (s : Session) (seen seen' : Seen) (notes no
   pub happened : (texts : Texts) → seen.texts ≡ Some texts → (p : Point) × AreRead texts taken (start_of (operands plan) seen.left 0) p × StandsIn s seen'.left p
   pub noted : HasNoted (passed_noted (all_passed taken)) noting notes notes'
   pub named : opened_names s ≡ opened_files taken
-  pub still : s.is_open ≡ file_open_after false taken
+  pub still : s.is_open ≡ fold file_open_by false taken
   pub openings : AreOpened (length (opened_files taken)) seen seen'
   pub calm : AreCalmInputs seen seen'
   pub texts : seen'.texts ≡ seen.texts
@@ -133,7 +133,7 @@ pub record HasRunEvents (fresh s : Session) (seen seen' : Seen) (out out' notes 
   pub noted : (sink : SinkSeen) (text : List ℕ) → HasNoted text first sink notes → HasNoted (text ++ all_noted events) noting sink notes'
   pub tallied : tally fresh.skipped events ≡ record { kept = s.kept; skipped = s.skipped }
   pub named : opened_streams events ≡ take s.opened (plan_streams fresh.plan)
-  pub still : s.is_open ≡ open_after false events
+  pub still : s.is_open ≡ fold open_by false events
   pub openings : AreOpened (length (opened_streams events)) seen seen'
   pub calm : AreCalm seen seen' out out'
   pub texts : seen'.texts ≡ seen.texts

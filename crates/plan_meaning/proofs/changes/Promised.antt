@@ -4,7 +4,8 @@ use Rattle.std.specs.Bool.{then_some}
 use Rattle.std.proofs.lemmas.Bool.{false≢true}
 use Rattle.acc_forms.specs.Atoms.{has_fin}
 use Rattle.acc_forms.specs.Joined.{conj}
-use Rattle.acc_forms.specs.Terms.{terms}
+use Rattle.acc_forms.specs.Terms.{of_terms, terms}
+use Rattle.acc_forms.specs.declared.literal.Literal.{Literal}
 use Rattle.aut_base.specs.Automaton.{Automaton}
 use Rattle.aut_base.specs.Formula.{Fin, FormulaTree}
 use Rattle.aut_core.specs.Deterministic.{IsComplete, IsDeterministic}
@@ -20,25 +21,22 @@ use Rattle.plan_meaning.specs.Changes.{Bring, Change, Complete, IsMadeInForm, Ma
 use Rattle.degeneralise.specs.Buchi.{buchi}
 use Rattle.parity_det.proofs.ParityLaws.{parity_has_few_sets}
 use Rattle.parity_det.specs.Promises.{HasFewSets, IsParityMinOdd}
-use Rattle.plan_meaning.specs.Promises.{HasFewSetsUnder, IsBuchi, IsDeterministicSafety, IsDisjunctive, IsOfForm, KeepsForm, KeepsPromises, OrHasSinkSet}
+use Rattle.plan_meaning.specs.Promises.{HasFewSetsUnder, IsOfForm, KeepsForm, KeepsPromises, OrHasSinkSet}
 use Rattle.plan_meaning.specs.Standing.{those_standing}
 use Rattle.plan_meaning.specs.inner.Stepping.{MakesAsPromised, PromisesForm}
 
 -- ---- forms under completion
 
 -- the sink adds no set under a Büchi condition
-completed_buchi : (a : Automaton) → IsBuchi a → IsBuchi (completed a)
+completed_buchi : (a : Automaton) → IsOfForm form.Buchi a → IsOfForm form.Buchi (completed a)
 completed_buchi a is = by_cases (lacks_nothing a)
   where
     unmet : is_met_unmarked a.formula ≡ false
-    unmet = ap is_met_unmarked is.formula
+    unmet = ap is_met_unmarked is.1
 
-    by_cases : (b : Bool) → IsBuchi (cond b a (with_sink a))
+    by_cases : (b : Bool) → IsOfForm form.Buchi (cond b a (with_sink a))
     by_cases true = is
-    by_cases false = record {
-      sets = ap (λ (b : Bool). cond b (a.sets + 1) a.sets) unmet ∙ is.sets;
-      formula = ap (λ (b : Bool). cond b (conj a.formula (Fin a.sets false)) a.formula) unmet ∙ is.formula;
-    }
+    by_cases false = (ap (λ (b : Bool). cond b (a.sets + 1) a.sets) unmet ∙ is.0, ap (λ (b : Bool). cond b (conj a.formula (Fin a.sets false)) a.formula) unmet ∙ is.1)
 
 -- a form that depends on the condition alone
 completed_condition : (f : Form) (P : FormulaTree → Type 0) → ((x : Automaton) → P x.formula → IsOfForm f x) → (a : Automaton) → IsOfForm f a → P a.formula → OrHasSinkSet f true (completed a)
@@ -60,15 +58,15 @@ completed_condition f P of a formed holds = by_cases (lacks_nothing a)
 completed_no_fin : (a : Automaton) → has_fin a.formula ≡ false → OrHasSinkSet form.RemoveFin true (completed a)
 completed_no_fin a is = completed_condition form.RemoveFin (λ (f : FormulaTree). has_fin f ≡ false) (λ x h. h) a is is
 
-completed_disjunctive : (a : Automaton) → IsDisjunctive a.formula → OrHasSinkSet form.Dnf true (completed a)
-completed_disjunctive a is = completed_condition form.Dnf IsDisjunctive (λ x h. h) a is is
+completed_disjunctive : (a : Automaton) → IsOfForm form.Dnf a → OrHasSinkSet form.Dnf true (completed a)
+completed_disjunctive a is = completed_condition form.Dnf (λ f. (terms : List (List Literal)) × (f ≡ of_terms terms)) (λ x h. h) a is is
 
 -- the sink that is added to a monitor, where a letter meets no edge, has a set of its own
-completed_safety : (a : Automaton) → IsDeterministicSafety a → OrHasSinkSet form.Monitor true (completed a)
+completed_safety : (a : Automaton) → IsOfForm form.Monitor a → OrHasSinkSet form.Monitor true (completed a)
 completed_safety a is = by_cases (lacks_nothing a)
   where
     met_so : is_met_unmarked a.formula ≡ true
-    met_so = ap is_met_unmarked is.formula
+    met_so = ap is_met_unmarked is.1.1
 
     by_cases : (b : Bool) → OrHasSinkSet form.Monitor true (cond b a (with_sink a))
     by_cases true = inl is
@@ -88,21 +86,17 @@ no_fin a = by_cases (has_fin a.formula) refl
     by_cases true is = copied_no_fin a
     by_cases false is = is
 
-of_monitor : (a made : Automaton) → IsMonitorAutomaton a made → IsDeterministic made → IsDeterministicSafety made
-of_monitor a made is deterministic = record {
-  deterministic = deterministic;
-  sets = ap (λ (x : Automaton). x.sets) is.is.is;
-  formula = ap (λ (x : Automaton). x.formula) is.is.is;
-}
+of_monitor : (a made : Automaton) → IsMonitorAutomaton a made → IsDeterministic made → IsOfForm form.Monitor made
+of_monitor a made is deterministic = (deterministic, (ap (λ (x : Automaton). x.sets) is.is.is, ap (λ (x : Automaton). x.formula) is.is.is))
 
 -- what a change into a form makes is of that form
 of_form : (f : Form) (a made : Automaton) → IsMadeInForm f a made → PromisesForm f made → IsOfForm f made
 of_form form.AsIs a made h promised = tt
 of_form form.Deterministic a made h promised = promised
 of_form form.Parity a made h promised = promised
-of_form form.Buchi a made h promised = subst IsBuchi (sym h) (record { sets = refl; formula = refl })
+of_form form.Buchi a made h promised = subst (IsOfForm form.Buchi) (sym h) (refl, refl)
 of_form form.RemoveFin a made h promised = subst (λ (x : Automaton). has_fin x.formula ≡ false) (sym h) (no_fin a)
-of_form form.Dnf a made h promised = subst (λ (x : Automaton). IsDisjunctive x.formula) (sym h) (record { terms = terms a.formula; is = refl })
+of_form form.Dnf a made h promised = subst (IsOfForm form.Dnf) (sym h) (terms a.formula, refl)
 of_form form.Monitor a made h promised = of_monitor a made h promised
 
 -- as it is, or completed
@@ -117,14 +111,14 @@ keeps form.Deterministic false a made is (Left same) = subst IsDeterministic (sy
 keeps form.Deterministic true a made is (Completed same deterministic stays) = deterministic is
 keeps form.Parity false a made is (Left same) = subst IsParityMinOdd (sym same) is
 keeps form.Parity true a made is (Completed same deterministic stays) = subst IsParityMinOdd (sym (stays is.complete)) is
-keeps form.Buchi false a made is (Left same) = subst IsBuchi (sym same) is
-keeps form.Buchi true a made is (Completed same deterministic stays) = subst IsBuchi (sym same) (completed_buchi a is)
+keeps form.Buchi false a made is (Left same) = subst (IsOfForm form.Buchi) (sym same) is
+keeps form.Buchi true a made is (Completed same deterministic stays) = subst (IsOfForm form.Buchi) (sym same) (completed_buchi a is)
 keeps form.RemoveFin false a made is (Left same) = subst (OrHasSinkSet form.RemoveFin false) (sym same) is
 keeps form.RemoveFin true a made is (Completed same deterministic stays) = subst (OrHasSinkSet form.RemoveFin true) (sym same) (completed_no_fin a is)
 keeps form.Dnf false a made is (Left same) = subst (OrHasSinkSet form.Dnf false) (sym same) is
 keeps form.Dnf true a made is (Completed same deterministic stays) = subst (OrHasSinkSet form.Dnf true) (sym same) (completed_disjunctive a is)
-keeps form.Monitor false a made is (Left same) = subst (λ (x : Automaton). IsDeterministic x × IsDeterministicSafety x) (sym same) (is.deterministic, is)
-keeps form.Monitor true a made is (Completed same deterministic stays) = (deterministic is.deterministic, subst (OrHasSinkSet form.Monitor true) (sym same) (completed_safety a is))
+keeps form.Monitor false a made is (Left same) = subst (λ (x : Automaton). IsDeterministic x × IsOfForm form.Monitor x) (sym same) (is.0, is)
+keeps form.Monitor true a made is (Completed same deterministic stays) = (deterministic is.0, subst (OrHasSinkSet form.Monitor true) (sym same) (completed_safety a is))
 
 -- ---- the changes of a plan
 

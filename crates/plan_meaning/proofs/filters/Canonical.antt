@@ -12,12 +12,15 @@ use Rattle.aut_base.specs.Word.{NameSet}
 use Rattle.aut_core.specs.Deterministic as core
 use Rattle.aut_core.specs.Deterministic.{HasSuccessor, is_met}
 use Rattle.aut_base.specs.declared.limit.Limit.{Limit}
+use Rattle.aut_base.specs.declared.limit.Limit.TheVariants as limit
+use Rattle.aut_base.specs.declared.limit.TheConstants.{MOST_PAIRS}
+use Rattle.aut_ops.specs.Products.{HasMorePairs}
 use Rattle.filter_plan.specs.declared.plan.Plan.{Plan}
 use Rattle.plan_meaning.proofs.filters.CanonicalEdges.{same_met, settled}
 use Rattle.plan_meaning.proofs.filters.CanonicalRuns.{unambiguous_one, unambiguous_other}
 use Rattle.plan_meaning.specs.Filters.{AcceptsWord, AllHold, Edges, EquivalentTo, FailsAtFilter, Filter, Holds, HoldsWithin, IncludedIn, Intersects}
 use Rattle.plan_meaning.specs.Filters.{IsComplete, IsDeterministic, IsEmpty, IsUnambiguous, Judged, LacksWithin, Names, PassesAt, PassesLimitOf, RejectsWord, Sets, States, filters}
-use Rattle.plan_meaning.specs.Limits.{PassesOfBoth, PassesOfEquivalence, PassesOfInclusion, PassesOfSquare, PassesOfWord}
+use Rattle.plan_meaning.specs.Limits.{PassesOfBoth, PassesOfEquivalence, PassesOfInclusion, PassesOfWord}
 use Rattle.plan_meaning.specs.declared.fault.PlanFault.{PlanFault}
 use Rattle.plan_meaning.specs.declared.fault.PlanFault.TheVariants as fault
 use Rattle.word_syntax.specs.Grammar.{WordPattern}
@@ -127,7 +130,7 @@ passes_one which (RejectsWord p) a h = subst (λ (x : Automaton). PassesOfWord w
 passes_one which (IncludedIn b) a h = subst (λ (x : Automaton). PassesOfInclusion which x b) (canonical-twice a) h
 passes_one which (EquivalentTo b) a h = subst (λ (x : Automaton). PassesOfEquivalence which x b) (canonical-twice a) h
 passes_one which (Intersects b) a h = subst (λ (x : Automaton). PassesOfBoth which x b) (canonical-twice a) h
-passes_one which IsUnambiguous a h = subst (PassesOfSquare which) (canonical-twice a) h
+passes_one which IsUnambiguous a h = subst (λ (x : Automaton). (which ≡ limit.Pairs) × HasMorePairs MOST_PAIRS x x) (canonical-twice a) h
 passes_one which _ a h = absurd h
 
 passes_other : (which : Limit) (f : Filter) (a : Automaton) → PassesLimitOf which f a → PassesLimitOf which f (canonical a)
@@ -136,7 +139,7 @@ passes_other which (RejectsWord p) a h = subst (λ (x : Automaton). PassesOfWord
 passes_other which (IncludedIn b) a h = subst (λ (x : Automaton). PassesOfInclusion which x b) (sym (canonical-twice a)) h
 passes_other which (EquivalentTo b) a h = subst (λ (x : Automaton). PassesOfEquivalence which x b) (sym (canonical-twice a)) h
 passes_other which (Intersects b) a h = subst (λ (x : Automaton). PassesOfBoth which x b) (sym (canonical-twice a)) h
-passes_other which IsUnambiguous a h = subst (PassesOfSquare which) (sym (canonical-twice a)) h
+passes_other which IsUnambiguous a h = subst (λ (x : Automaton). (which ≡ limit.Pairs) × HasMorePairs MOST_PAIRS x x) (sym (canonical-twice a)) h
 passes_other which _ a h = absurd h
 
 holds_within : (f : Filter) (a : Automaton) → LabelsBelow a → HoldsWithin f (canonical a) → HoldsWithin f a

@@ -13,7 +13,7 @@ use Rattle.aut_base.specs.Text.{same_text}
 use Rattle.word_syntax.proofs.texts.Prefixes.{dropped, prefix_all, prefix_before, prefix_stops}
 use Rattle.word_syntax.specs.inner.Nexts.{StopsAtHead}
 use Rattle.word_syntax.proofs.texts.Strings.{unquoted_close, unquoted_escaped, unquoted_plain}
-use Rattle.word_syntax.specs.Tokens.{EndsWord, IsBare, IsBareName, IsWordFront, IsQuotedName, Quotes, SpellsWordToken, escaped, extends, is_letter, is_alphanumeric, nothing, plain}
+use Rattle.word_syntax.specs.Tokens.{EndsWord, IsBare, IsBareName, IsWordFront, Quotes, SpellsWordToken, escaped, extends, is_letter, is_alphanumeric, nothing, plain}
 use Rattle.word_syntax.specs.inner.Fronts.{bare_token, sign_count, front_token, quoted_more, sign_token, token_from, unquoted}
 use Rattle.word_syntax.specs.declared.token.Token.{Token}
 use Rattle.word_syntax.specs.declared.token.Token.TheVariants as token
@@ -211,7 +211,7 @@ string_holds bs (Some s) u =
       front = record {
         word = 34 ∷ (u.inner ++ 34 ∷ []);
         split = ap (λ (x : List ℕ). 34 ∷ x) (u.split ∙ sym (append_assoc u.inner (34 ∷ []) (drop s.1 bs))) ∙ ap (λ (n : ℕ). (34 ∷ (u.inner ++ 34 ∷ [])) ++ drop n (34 ∷ bs)) (sym next);
-        spells = inr (record { inner = u.inner; quotes = u.quotes; is = refl });
+        spells = inr (u.inner, (u.quotes, refl));
         ends = ends_anyhow (34 ∷ (u.inner ++ 34 ∷ [])) (drop (1 + s.1) (34 ∷ bs)) (string_alone u.inner);
       };
     }
@@ -272,15 +272,15 @@ quoted_found inner text rest (plain {b = b} {inner = more} {text = t} not_quote 
     let size : 1 + (1 + length more) ≡ 1 + length (b ∷ more) = omega arith in
     unquoted_plain b (more ++ (34 ∷ rest)) not_quote not_escape ∙ (ap (option_map (quoted_more b 1)) (quoted_found more t rest quotes) ∙ ap (λ (n : ℕ). Some (b ∷ t, n)) size)
 
-string_found : (name word rest : List ℕ) → IsQuotedName name word → Finds (word ++ rest) (token.Name name) rest
+string_found : (name word rest : List ℕ) → ((inner : List ℕ) × Quotes inner name × (word ≡ 34 ∷ (inner ++ 34 ∷ []))) → Finds (word ++ rest) (token.Name name) rest
 string_found name word rest q =
-    let split : (34 ∷ (q.inner ++ 34 ∷ [])) ++ rest ≡ 34 ∷ (q.inner ++ (34 ∷ rest)) = ap (λ (x : List ℕ). 34 ∷ x) (append_assoc q.inner (34 ∷ []) rest) in
-    let size : 1 + (1 + length q.inner) ≡ suc (suc (length q.inner)) = omega arith in
-    let long : length (q.inner ++ 34 ∷ []) ≡ suc (length q.inner) = omega (arith, length-append q.inner (34 ∷ [])) in
-    subst (λ (x : List ℕ). Finds (x ++ rest) (token.Name name) rest) (sym q.is) (record {
-      size = 1 + (1 + length q.inner);
-      found = ap front_token split ∙ (front_cons 34 (q.inner ++ (34 ∷ rest)) ∙ ap (option_map (λ (s : List ℕ × ℕ). (token.Name s.0, 1 + s.1))) (quoted_found q.inner name rest q.quotes));
-      behind = sym (ap (λ (n : ℕ). drop n ((34 ∷ (q.inner ++ 34 ∷ [])) ++ rest)) (size ∙ ap suc (sym long)) ∙ dropped (34 ∷ (q.inner ++ 34 ∷ [])) rest);
+    let split : (34 ∷ (q.0 ++ 34 ∷ [])) ++ rest ≡ 34 ∷ (q.0 ++ (34 ∷ rest)) = ap (λ (x : List ℕ). 34 ∷ x) (append_assoc q.0 (34 ∷ []) rest) in
+    let size : 1 + (1 + length q.0) ≡ suc (suc (length q.0)) = omega arith in
+    let long : length (q.0 ++ 34 ∷ []) ≡ suc (length q.0) = omega (arith, length-append q.0 (34 ∷ [])) in
+    subst (λ (x : List ℕ). Finds (x ++ rest) (token.Name name) rest) (sym q.1.1) (record {
+      size = 1 + (1 + length q.0);
+      found = ap front_token split ∙ (front_cons 34 (q.0 ++ (34 ∷ rest)) ∙ ap (option_map (λ (s : List ℕ × ℕ). (token.Name s.0, 1 + s.1))) (quoted_found q.0 name rest q.1.0));
+      behind = sym (ap (λ (n : ℕ). drop n ((34 ∷ (q.0 ++ 34 ∷ [])) ++ rest)) (size ∙ ap suc (sym long)) ∙ dropped (34 ∷ (q.0 ++ 34 ∷ [])) rest);
     })
 
 -- a sign is found

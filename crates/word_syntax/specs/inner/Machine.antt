@@ -4,7 +4,7 @@ use Rattle.std.specs.Option.{option_and_then, option_map}
 use Rattle.aut_base.specs.CanonicalLabel.{all_of, one_of}
 use Rattle.aut_base.specs.Label as label
 use Rattle.aut_base.specs.Label.{LabelTree}
-use Rattle.word_syntax.specs.Grammar.{most_open}
+use Rattle.aut_base.specs.declared.limit.TheConstants.{MOST_DEPTH}
 use Rattle.word_syntax.specs.declared.token.Token.{Token}
 use Rattle.word_syntax.specs.declared.token.Token.TheVariants as token
 use Rattle.word_syntax.specs.declared.stage.Stage.{Stage}
@@ -47,7 +47,7 @@ complete s t = record { outer = s.outer; level = complete_level s.level t; ready
 
 -- another `(` or `!` may be opened
 abbrev pub may_nest : LevelTree → Bool
-may_nest l = nat_lt (l.around + l.nots) most_open
+may_nest l = nat_lt (l.around + l.nots) MOST_DEPTH
 
 -- the label of a complete level
 abbrev pub level_label : LevelTree → LabelTree
