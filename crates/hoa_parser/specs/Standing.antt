@@ -8,10 +8,6 @@ use Rattle.hoa_lexer.specs.declared.token.Token.TheVariants as token
 use Rattle.hoa_parser.specs.Grammar.{IsViable, SpellsAutomaton}
 use Rattle.hoa_parser.specs.Raw.{Written}
 
--- the most `(` and `!` that may be open at once
-abbrev pub most_depth : ℕ
-most_depth = MOST_DEPTH
-
 -- the tokens spell no automaton, whatever is open in it
 abbrev pub SpellsNothing : List Token → Type 0
 SpellsNothing tokens = (most : ℕ) (w : Written) → SpellsAutomaton most tokens w → ⊥
@@ -27,14 +23,14 @@ pub record IsBegun (start : ℕ) (text : List ℕ) (tokens : List Token) (used :
   pub shown : map (λ p. p.0) placed ≡ tokens
   pub lexes : Lexes text start placed rest
   pub used_is : used ≡ start + (length text - length rest)
-  pub viable : IsViable most_depth tokens
+  pub viable : IsViable MOST_DEPTH tokens
   pub unfinished : SpellsNothing tokens
 
 -- an automaton stands whole, and `rest` follows its `--END--`
 pub record IsWhole (start : ℕ) (text : List ℕ) (w : Written) (rest : List ℕ) : Type 0 where
   pub placed : List (Token × ℕ)
   pub lexes : Lexes text start placed rest
-  pub spells : SpellsAutomaton most_depth (map (λ p. p.0) placed) w
+  pub spells : SpellsAutomaton MOST_DEPTH (map (λ p. p.0) placed) w
 
 -- A token cannot stand at offset k. After one or more tokens `--ABORT--` is not such a token: it abandons the automaton.
 pub record IsMisplaced (k : ℕ) (tokens : List Token) (used : ℕ) (rest : List ℕ) : Type 0 where
@@ -72,7 +68,7 @@ pub record IsDeep (start : ℕ) (text : List ℕ) : Type 0 where
   pub next : IsNext rest used next_token offset after
   pub most : ℕ
   pub viable : IsViable most (tokens ++ next_token ∷ [])
-  pub too_deep : IsViable most_depth (tokens ++ next_token ∷ []) → ⊥
+  pub too_deep : IsViable MOST_DEPTH (tokens ++ next_token ∷ []) → ⊥
 
 -- the automaton is abandoned, and `after` follows its `--ABORT--`
 abbrev pub IsAborted : ℕ → List ℕ → List ℕ → Type 0

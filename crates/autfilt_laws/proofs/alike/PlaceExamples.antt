@@ -1,6 +1,7 @@
 -- What is left of small texts where a reader stops.
 use Rattle.std.proofs.Common.{◌<◌, ℕ, List, [], ◌∷◌, ◌++◌, codes, None, Some, inl, refl, ap, arith, length, lit<}
 use Rattle.std.proofs.lemmas.List.{length-append}
+use Rattle.aut_base.specs.declared.limit.TheConstants.{MOST_DEPTH}
 use Rattle.autfilt_laws.proofs.alike.BadPlaces.{no_later}
 use Rattle.autfilt_laws.specs.PlaceExamples.{WhatIsLeft}
 use Rattle.hoa_lexer.proofs.next_token.Asked.{last_is_asked_for}
@@ -16,7 +17,7 @@ use Rattle.hoa_parser.proofs.standing.Settled.{bad_is_hopeless}
 use Rattle.hoa_parser.specs.Grammar.{IsViable, none}
 use Rattle.hoa_parser.specs.Raw.{Written}
 use Rattle.hoa_parser.specs.Reads.{IsHopeless}
-use Rattle.hoa_parser.specs.Standing.{IsBad, IsBegun, IsDead, SpellsNothing, most_depth}
+use Rattle.hoa_parser.specs.Standing.{IsBad, IsBegun, IsDead, SpellsNothing}
 
 -- the token is at the front
 at_front : (word rest : List ℕ) (token : Token) (start : ℕ) → Spells token word → IsDelimited token rest → IsNext (word ++ rest) start token start rest
@@ -32,7 +33,7 @@ at_front word rest token start spells ends = record {
 abbrev empty : Written
 empty = record { version = codes "v1"; items = []; states = [] }
 
-viable_nothing : IsViable most_depth []
+viable_nothing : IsViable MOST_DEPTH []
 viable_nothing = record {
   more = HeaderName (codes "HOA") ∷ Identifier (codes "v1") ∷ Body ∷ End ∷ [];
   whole = empty;

@@ -3,6 +3,7 @@ use Rattle.std.proofs.Common.{◌≡◌, ◌≢◌, ◌⊎◌, inl, inr, ℕ, tr
 use Rattle.std.proofs.lemmas.List.{append-nil}
 use Rattle.std.specs.Prelude.{codes, nat_le}
 use Rattle.aut_base.specs.declared.formula.Formula.{Formula}
+use Rattle.aut_base.specs.declared.limit.TheConstants.{MOST_DEPTH}
 use Rattle.hoa_lexer.specs.declared.token.Token.{Token}
 use Rattle.hoa_lexer.specs.declared.token.Token.TheVariants as token
 use Rattle.hoa_parser.proofs.grammar.HeaderNames.{IsNamed, named}
@@ -21,7 +22,6 @@ use Rattle.hoa_parser.specs.inner.RuleReads.{AreTexts, AreValues, AreWords, IsAl
 use Rattle.hoa_parser.specs.inner.RuleReads.{IsItemWritten, IsLabel, IsIntToken, IsOptionalText, IsQuoted, IsIdentifierToken, ItemRest}
 use Rattle.hoa_parser.specs.Raw as raw
 use Rattle.hoa_parser.specs.Raw.{WrittenItem, written_item}
-use Rattle.hoa_parser.specs.Standing.{most_depth}
 use Rattle.hoa_parser.specs.declared.fault.ReadFault.{ReadFault}
 use Rattle.hoa_parser.specs.declared.header.Header.{Header}
 use Rattle.hoa_parser.specs.declared.header.Header.TheVariants as header
@@ -34,7 +34,7 @@ name_of name h is = subst (IsNamed name) is (named name)
 
 -- what follows the name of a header, where the name is all that is wanted of it
 rest_of : (name : List ℕ) (h : Header) (known : List ℕ) (ts : List Token) (phrase : ItemPhrase) (i : WrittenItem) (a b : Cursor) → (header_of name ≡ h → name ≡ known)
-    → ItemWithin most_depth phrase → token.HeaderName known ∷ ts ≡ item_tokens phrase → i ≡ item_meaning phrase → Passed a ts b → ItemRest h name i a b
+    → ItemWithin MOST_DEPTH phrase → token.HeaderName known ∷ ts ≡ item_tokens phrase → i ≡ item_meaning phrase → Passed a ts b → ItemRest h name i a b
 rest_of name h known ts phrase i a b is within spelled means passed = record {
   tokens = ts;
   passed = passed;
@@ -102,7 +102,7 @@ header_takes header.Opening no_opening no_state = absurd (no_opening refl)
 header_takes header.State no_opening no_state = absurd (no_state refl)
 header_takes _ no_opening no_state = refl
 
-pub header_opens : (h : Header) → nat_le (open_at (header_parts h ++ Items ∷ [])) most_depth ≡ true
+pub header_opens : (h : Header) → nat_le (open_at (header_parts h ++ Items ∷ [])) MOST_DEPTH ≡ true
 header_opens header.Opening = refl
 header_opens _ = refl
 

@@ -2,6 +2,7 @@
 use Rattle.std.proofs.Common.{◌≡◌, ◌≢◌, ℕ, ◌+◌, ◌-◌, ◌≤◌, true, false, List, [], ◌∷◌, ◌++◌, length, map, Option, Some, is_some, not, Result, Ok, Err, refl, sym, ap, subst, ◌∙◌, inl, inr, arith}
 use Rattle.std.proofs.lemmas.List.{append_assoc}
 use Rattle.std.specs.Prelude.{◌⊎◌, flat_map}
+use Rattle.aut_base.specs.declared.limit.TheConstants.{MOST_DEPTH}
 use Rattle.aut_io.specs.Seen.{Seen}
 use Rattle.hoa_lexer.proofs.next_token.Fronts.{length_unread}
 use Rattle.hoa_lexer.specs.Blanks.{IsBlanks}
@@ -33,7 +34,7 @@ use Rattle.hoa_parser.specs.inner.Parsing.{Abandons, Cursor, FailsParts, FailsAt
 use Rattle.hoa_parser.specs.inner.RuleReads.{IsAutomaton, open_tokens}
 use Rattle.hoa_parser.specs.Raw.{written}
 use Rattle.hoa_parser.specs.Reads.{AnswersFront}
-use Rattle.hoa_parser.specs.Standing.{EndsOpen, IsAborted, IsBad, IsBegun, IsDeep, IsWhole, SpellsNothing, most_depth}
+use Rattle.hoa_parser.specs.Standing.{EndsOpen, IsAborted, IsBad, IsBegun, IsDeep, IsWhole, SpellsNothing}
 use Rattle.hoa_parser.specs.declared.fault.ReadFault.{ReadFault}
 use Rattle.hoa_parser.specs.declared.fault.ReadFault.TheVariants as fault
 use Rattle.hoa_parser.specs.declared.read.Front.{Front}
@@ -76,7 +77,7 @@ before start text a b target g starts =
     record {
       used = s.used;
       rest = s.rest;
-      begun = begun_with_tokens s.stand (viable most_depth g.tokens (g.left ++ []) (g.leads.runs [])) (spells_nothing g.tokens g.unended);
+      begun = begun_with_tokens s.stand (viable MOST_DEPTH g.tokens (g.left ++ []) (g.leads.runs [])) (spells_nothing g.tokens g.unended);
       next = s.next;
     }
 
@@ -86,7 +87,7 @@ pub begun_with : (f : ReadFault) (start : ℕ) (text : List ℕ) (a last : Curso
 begun_with f start text a last u starts =
     let g = u.goes in
     begun_with_tokens (stand_with start text a u.b g.tokens starts.next starts.used g.passed)
-    (viable most_depth (g.tokens ++ u.b.token ∷ []) (u.left ++ []) (after_next most_depth g.tokens (g.left ++ []) u.b.token (g.leads.runs []) ∙ g.over most_depth [] ∙ u.taken []))
+    (viable MOST_DEPTH (g.tokens ++ u.b.token ∷ []) (u.left ++ []) (after_next MOST_DEPTH g.tokens (g.left ++ []) u.b.token (g.leads.runs []) ∙ g.over MOST_DEPTH [] ∙ u.taken []))
     (spells_nothing (g.tokens ++ u.b.token ∷ []) (unended_then g.tokens (u.b.token ∷ []) g.unended (u.unended, tt)))
 
 some_more : (ts : List Token) (z : Token) → ts ++ z ∷ [] ≢ []
@@ -122,7 +123,7 @@ abbrev pub too_deep : (start : ℕ) (text : List ℕ) (a b : Cursor) → Starts 
 too_deep start text a b starts d =
     let g = d.goes in
     let s = before start text a b d.target g starts in
-    let both = deep d.most g.tokens (g.left ++ []) (d.left ++ []) b.token (g.leads.runs []) (g.over most_depth [] ∙ d.refused []) (g.over d.most [] ∙ d.taken []) d.more in
+    let both = deep d.most g.tokens (g.left ++ []) (d.left ++ []) b.token (g.leads.runs []) (g.over MOST_DEPTH [] ∙ d.refused []) (g.over d.most [] ∙ d.taken []) d.more in
     deep_behind d.most s.begun s.next both.0 both.1
 
 ends_so : (tokens : List Token) (rest : List ℕ) → tokens ≢ [] → IsBlanks rest ⊎ EndsOpen rest → (tokens ≢ []) × IsBlanks rest ⊎ EndsOpen rest
@@ -174,7 +175,7 @@ answers_whole raw start text a b starts is =
     record {
       placed = s.placed;
       lexes = s.lexes;
-      spells = phrases_spell most_depth (map (λ p. p.0) s.placed) (written raw) (record {
+      spells = phrases_spell MOST_DEPTH (map (λ p. p.0) s.placed) (written raw) (record {
         phrase = w.phrase;
         within = w.within;
         spelled = s.shown ∙ ap (λ (z : Token). open_tokens w.phrase ++ z ∷ []) is.ends ∙ ended_tokens w.phrase;
