@@ -21,7 +21,7 @@ use Rattle.hoa_parser.proofs.standing.Readings.{lexes_more, lexes_shorter}
 use Rattle.hoa_parser.specs.Grammar.{IsViable, SpellsAutomaton}
 use Rattle.hoa_parser.specs.Raw.{Written}
 use Rattle.hoa_parser.specs.Reads.{AsksOn, EndsDeep}
-use Rattle.hoa_parser.specs.Standing.{IsAborted, IsBegun, SpellsNothing}
+use Rattle.hoa_parser.specs.Standing.{IsAborted, IsBegun}
 use Rattle.std.specs.Prelude.{codes}
 use Rattle.aut_base.specs.declared.limit.TheConstants.{MOST_DEPTH}
 
@@ -118,7 +118,8 @@ none_asks start text new rest placed a are lexes short =
 -- ---- where a whole automaton is next
 
 -- a prefix of an automaton that needs more isn't a whole automaton with tokens after it
-beyond_whole : (tokens whole us : List Token) (w : Written) → IsViable MOST_DEPTH tokens → SpellsNothing tokens → SpellsAutomaton MOST_DEPTH whole w → tokens ≡ whole ++ us → ⊥
+beyond_whole : (tokens whole us : List Token) (w : Written) → IsViable MOST_DEPTH tokens
+    → ((most : ℕ) (v : Written) → SpellsAutomaton most tokens v → ⊥) → SpellsAutomaton MOST_DEPTH whole w → tokens ≡ whole ++ us → ⊥
 beyond_whole tokens whole [] w viable unfinished spelled e = unfinished MOST_DEPTH w (subst (λ (ts : List Token). SpellsAutomaton MOST_DEPTH ts w) (sym (e ∙ append-nil whole)) spelled)
 beyond_whole tokens whole (u ∷ us) w viable unfinished spelled e =
     let none : u ∷ us ≡ [] = whole_goes_no_further MOST_DEPTH MOST_DEPTH whole (u ∷ us) w spelled (subst (λ (ts : List Token). IsViable MOST_DEPTH ts) e viable) in

@@ -12,7 +12,8 @@ use Rattle.hoa_parser.proofs.reading.RuleParts.{next_answer}
 use Rattle.hoa_parser.proofs.reading.Steps.{Read, reads_as, takes, takes_last}
 use Rattle.hoa_parser.specs.inner.Expecting.{Items, Part, Takes, header_move, move, open_at}
 use Rattle.hoa_parser.specs.inner.Expecting as expecting
-use Rattle.hoa_parser.specs.Grammar.{header_of, optional_text}
+use Rattle.hoa_parser.specs.Grammar.{optional_text}
+use Rattle.hoa_parser.specs.Headers.{header_of}
 use Rattle.hoa_parser.specs.Phrases.{ItemPhrase, ItemWithin, acc_name_item, acceptance_item, alias_item, item_meaning, item_tokens}
 use Rattle.hoa_parser.specs.Phrases.{name_item, names_item, other_item, properties_item, start_item, states_item, tool_item, acc_value_token}
 use Rattle.hoa_parser.specs.Phrases.{conj_tokens, condition_tokens, label_tokens, value_token}

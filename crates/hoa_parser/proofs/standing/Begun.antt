@@ -7,12 +7,14 @@ use Rattle.hoa_lexer.specs.Text.{IsNext}
 use Rattle.hoa_lexer.specs.declared.token.Token.{Token}
 use Rattle.hoa_lexer.specs.declared.token.Token.TheVariants as token
 use Rattle.hoa_parser.proofs.standing.StandingTokens.{Stand}
-use Rattle.hoa_parser.specs.Grammar.{IsViable}
-use Rattle.hoa_parser.specs.Standing.{EndsOpen, IsAborted, IsBad, IsBegun, IsCut, IsDeep, IsMisplaced, IsNoTokenAt, SpellsNothing}
+use Rattle.hoa_parser.specs.Grammar.{IsViable, SpellsAutomaton}
+use Rattle.hoa_parser.specs.Raw.{Written}
+use Rattle.hoa_parser.specs.Standing.{IsAborted, IsBad, IsBegun, IsCut, IsDeep, IsMisplaced, IsNoTokenAt}
+use Rattle.hoa_parser.specs.inner.Parsing.{EndsOpen}
 
 -- tokens that can go on to a whole automaton, and are none yet
-pub begun_with_tokens : {start used : ℕ} {text rest : List ℕ} {tokens : List Token} → Stand start text tokens used rest → IsViable MOST_DEPTH tokens → SpellsNothing tokens
-    → IsBegun start text tokens used rest
+pub begun_with_tokens : {start used : ℕ} {text rest : List ℕ} {tokens : List Token} → Stand start text tokens used rest → IsViable MOST_DEPTH tokens
+    → ((most : ℕ) (w : Written) → SpellsAutomaton most tokens w → ⊥) → IsBegun start text tokens used rest
 begun_with_tokens s viable unfinished = record { placed = s.placed; shown = s.shown; lexes = s.lexes; used_is = s.used_is; viable = viable; unfinished = unfinished }
 
 pub bad_behind : {start used : ℕ} {text rest : List ℕ} {tokens : List Token} (k : ℕ) → IsBegun start text tokens used rest → IsMisplaced k tokens used rest ⊎ IsNoTokenAt k used rest

@@ -9,17 +9,18 @@ use Rattle.hoa_lexer.specs.declared.token.Token.{Token}
 use Rattle.hoa_lexer.specs.declared.token.Token.TheVariants as token
 use Rattle.hoa_parser.specs.Grammar.{IsViable, SpellsAutomaton, none}
 use Rattle.hoa_parser.specs.Raw.{Written}
-use Rattle.hoa_parser.specs.Standing.{EndsOpen, IsBegun, IsMisplaced, IsNoTokenAt, SpellsNothing, Standing, Stands}
+use Rattle.hoa_parser.specs.Standing.{IsBegun, IsMisplaced, IsNoTokenAt, Standing, Stands}
 use Rattle.hoa_parser.specs.Standing.Standing.{Blank, Whole, Deep, Bad, Aborted, Cut}
 use Rattle.hoa_parser.proofs.grammar.NoAbort.{no_abort_inside}
 use Rattle.hoa_parser.proofs.grammar.OneRaw.{whole_goes_no_further}
 use Rattle.hoa_parser.proofs.standing.Readings.{place}
 use Rattle.hoa_parser.proofs.standing.NextCases.{HasNext, next_no_blanks, next_no_fault, next_not_open, one_token}
+use Rattle.hoa_parser.specs.inner.Parsing.{EndsOpen}
 
 -- begun, and not whole
 pub record IsPart (tokens : List Token) : Type 0 where
   pub viable : IsViable MOST_DEPTH tokens
-  pub unfinished : SpellsNothing tokens
+  pub unfinished : (most : ℕ) (w : Written) → SpellsAutomaton most tokens w → ⊥
 
 -- the token would open one more than may be
 pub record IsTooDeep (tokens : List Token) (used : ℕ) (rest : List ℕ) : Type 0 where

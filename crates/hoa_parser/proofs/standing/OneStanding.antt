@@ -13,7 +13,7 @@ use Rattle.hoa_lexer.proofs.next_token.Unique.{one_next_token}
 use Rattle.hoa_parser.specs.Grammar.{IsViable, SpellsAutomaton}
 use Rattle.hoa_parser.specs.Raw.{Written}
 use Rattle.hoa_parser.specs.Reads.{EndsDeep}
-use Rattle.hoa_parser.specs.Standing.{EndsOpen, IsDeep, IsMisplaced, IsNoTokenAt, OneStanding, Standing}
+use Rattle.hoa_parser.specs.Standing.{IsDeep, IsMisplaced, IsNoTokenAt, OneStanding, Standing}
 use Rattle.hoa_parser.specs.Standing.Standing.{Blank, Whole, Deep, Bad, Aborted, Cut}
 use Rattle.hoa_parser.proofs.standing.Halts.{Halts, abandons, halts_here, halts_viable, misplaced_next, reading, shown}
 use Rattle.hoa_parser.proofs.grammar.NoAbort.{no_abort_inside}
@@ -21,6 +21,7 @@ use Rattle.hoa_parser.proofs.grammar.OneRaw.{one_raw}
 use Rattle.hoa_parser.proofs.standing.Readings.{IsFurther, compared, place}
 use Rattle.hoa_parser.proofs.standing.Needed.{held_as_needed}
 use Rattle.hoa_parser.proofs.standing.NextCases.{HasNext, blanks_no_fault, next_no_blanks, next_no_fault, next_not_open, one_no_token, one_token, open_only}
+use Rattle.hoa_parser.specs.inner.Parsing.{EndsOpen}
 
 spells_some : (m : ℕ) (tokens : List Token) (w : Written) → tokens ≡ [] → SpellsAutomaton m tokens w → ⊥
 spells_some m tokens w e s = let all = sym e ∙ s.spelled in cc

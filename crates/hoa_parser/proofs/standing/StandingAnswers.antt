@@ -26,15 +26,17 @@ use Rattle.hoa_parser.proofs.reading.FrontParts.{refuses_behind, unended_then}
 use Rattle.hoa_parser.proofs.standing.Readings.{next_shorter}
 use Rattle.hoa_parser.proofs.standing.StandingTokens.{stand_before, stand_with}
 use Rattle.hoa_parser.proofs.grammar.Viability.{viable}
+use Rattle.hoa_parser.specs.Grammar.{SpellsAutomaton}
 use Rattle.hoa_parser.specs.inner.Expecting as part
 use Rattle.hoa_parser.specs.inner.Expecting.{Part, parts_after, parts_behind, move}
 use Rattle.hoa_parser.specs.inner.Faults.{read_fault}
 use Rattle.hoa_parser.specs.Phrases.{AutomatonPhrase, automaton_tokens, item_tokens, state_tokens}
 use Rattle.hoa_parser.specs.inner.Parsing.{Abandons, Cursor, FailsParts, FailsAt, PassesTokens, Passed, HoldsOfPlaces, ReadsTo, RefusesToken, Relation, State, TooDeep, Unended, Unread, cursor_of}
+use Rattle.hoa_parser.specs.inner.Parsing.{EndsOpen}
 use Rattle.hoa_parser.specs.inner.RuleReads.{IsAutomaton, open_tokens}
-use Rattle.hoa_parser.specs.Raw.{written}
+use Rattle.hoa_parser.specs.Raw.{Written, written}
 use Rattle.hoa_parser.specs.Reads.{AnswersFront}
-use Rattle.hoa_parser.specs.Standing.{EndsOpen, IsAborted, IsBad, IsBegun, IsDeep, IsWhole, SpellsNothing}
+use Rattle.hoa_parser.specs.Standing.{IsAborted, IsBad, IsBegun, IsDeep, IsWhole}
 use Rattle.hoa_parser.specs.declared.fault.ReadFault.{ReadFault}
 use Rattle.hoa_parser.specs.declared.fault.ReadFault.TheVariants as fault
 use Rattle.hoa_parser.specs.declared.read.Front.{Front}
@@ -49,7 +51,7 @@ never_ended (t ∷ ts) h = never_ended ts h.1
 ended_tokens : (p : AutomatonPhrase) → open_tokens p ++ token.End ∷ [] ≡ automaton_tokens p
 ended_tokens p = ap (λ (ts : List Token). opening ∷ token.Identifier p.version ∷ ts) (append_assoc (flat_map item_tokens p.items) (token.Body ∷ flat_map state_tokens p.states) (token.End ∷ []))
 
-spells_nothing : (ts : List Token) → Unended ts → SpellsNothing ts
+spells_nothing : (ts : List Token) → Unended ts → (most : ℕ) (w : Written) → SpellsAutomaton most ts w → ⊥
 spells_nothing ts unended most w s =
     let p = have_phrases most ts w s in
     never_ended (open_tokens p.phrase) (subst Unended (p.spelled ∙ sym (ended_tokens p.phrase)) unended)

@@ -3,17 +3,17 @@ use Rattle.std.specs.Prelude.{◌≡◌, ◌≢◌, ℕ, ◌+◌, ◌-◌, ◌�
 use Rattle.std.specs.List.{AllByRecursion}
 use Rattle.aut_base.specs.declared.limit.TheConstants.{MOST_DEPTH}
 use Rattle.aut_io.specs.Seen.{Seen}
-use Rattle.hoa_lexer.specs.Blanks.{IsBlanks}
+use Rattle.hoa_lexer.specs.Blanks.{IsBlanks, IsOpenComment}
 use Rattle.hoa_lexer.specs.Moves.{MovesLexer, Elsewhere}
 use Rattle.hoa_lexer.specs.Reading.{Tells, held_count, unread}
 use Rattle.hoa_lexer.specs.Spelling.{closes_itself}
-use Rattle.hoa_lexer.specs.Text.{AskedForOne, AsksPast, IsNext, IsShownBy}
+use Rattle.hoa_lexer.specs.Text.{AfterBlanks, AskedForOne, AsksPast, IsNext, IsOpenString, IsOpenToken, IsShownBy}
 use Rattle.hoa_lexer.specs.declared.lexer.Lexer.{Lexer}
 use Rattle.hoa_lexer.specs.declared.token.Token.{Token}
 use Rattle.hoa_lexer.specs.declared.token.Token.TheVariants as token
 use Rattle.hoa_parser.specs.inner.Expecting.{Part, parts_after, parts_behind}
 use Rattle.hoa_parser.specs.Reads.{stop_of_read_fault}
-use Rattle.hoa_parser.specs.Standing.{EndsOpen, IsNoTokenAt}
+use Rattle.hoa_parser.specs.Standing.{IsNoTokenAt}
 use Rattle.hoa_parser.specs.declared.fault.ReadFault.{ReadFault}
 use Rattle.hoa_parser.specs.declared.fault.ReadFault.TheVariants as fault
 
@@ -81,6 +81,10 @@ HaltsHere (fault.Syntax k) parts a b = RefusesToken parts a b × (k ≡ b.offset
 HaltsHere fault.Depth parts a b = TooDeep parts a b
 HaltsHere fault.Memory parts a b = (target : List Part) × PassesTokens parts a target b
 HaltsHere _ parts a b = ⊥
+
+-- a text ends inside a comment, a string or another token
+abbrev pub EndsOpen : List ℕ → Type 0
+EndsOpen rest = AfterBlanks rest IsOpenComment ⊎ (AfterBlanks rest IsOpenString ⊎ AfterBlanks rest IsOpenToken)
 
 -- why the lexer gave no token behind `used` bytes of the text, where `new` is unread afterwards
 abbrev pub Unlexed : ReadFault → ℕ → List ℕ → List ℕ → Type 0

@@ -8,7 +8,8 @@ use Rattle.hoa_lexer.specs.declared.token.Token.{Token}
 use Rattle.hoa_lexer.specs.declared.token.Token.TheVariants as token
 use Rattle.hoa_parser.specs.Phrases.{AccValue, AutomatonPhrase, AutomatonWithin, ConditionWithin, Conj, FandsWithin, Fatom, FatomWithin, Fatoms}
 use Rattle.hoa_parser.specs.Phrases.{FatomsWithin, ItemPhrase, ItemWithin, Label, LabelWithin, LandsWithin, Lnot, LnotWithin, Lnots, LnotsWithin}
-use Rattle.hoa_parser.specs.Grammar.{and_number, bang_tokens, header_of, optional_text, set_tokens}
+use Rattle.hoa_parser.specs.Grammar.{and_number, bang_tokens, optional_text, set_tokens}
+use Rattle.hoa_parser.specs.Headers.{header_of}
 use Rattle.hoa_parser.specs.Phrases.{OptionalWithin, StateWithin, Value, acc_value_token, formula_conjunction, automaton_meaning}
 use Rattle.hoa_parser.specs.Phrases.{condition_meaning, condition_tokens, conj_meaning, conj_tokens, raw_conjunction, disjunction}
 use Rattle.hoa_parser.specs.Phrases.{edge_meaning, edge_tokens, fands_meaning, fands_tokens, fatom_meaning, fatom_tokens, fatoms_meaning}
