@@ -22,7 +22,7 @@ pub data IsLabelAtom : List Token → RawTree → Type 0 where
   proposition : (i : ℕ) → IsLabelAtom (token.Int i ∷ []) (raw.Prop i)
   alias : (name : List ℕ) → IsLabelAtom (token.Alias name ∷ []) (raw.Alias name)
 
--- the signs of HOA v1, with atoms and a meaning of their own
+-- Labels and conditions have the same signs. What is an atom, and what is meant by what is joined, is their own.
 abbrev pub hoa_chains : {T : Type 0} → (List Token → T → Type 0) → (T → T → Type 0) → (List T → T) → (List T → T) → Chains Token T
 hoa_chains IsAtom Negates conjunction disjunction = record {
   bang = token.Bang;
