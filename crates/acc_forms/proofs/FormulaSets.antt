@@ -1,10 +1,10 @@
 -- The acceptance sets that occur in conditions made of others.
 use Rattle.std.proofs.Common.{◌+◌, ◌≤◌, ◌||◌, ℕ, Bool, true, false, cond, List, [], ◌∷◌, ◌++◌, arith}
 use Rattle.std.specs.List.{AllByRecursion}
-use Rattle.acc_forms.specs.Joined.{and_of, conj, conjuncts, disj, disjuncts, is_false, is_true, parts_list, some_of}
+use Rattle.acc_forms.specs.Joined.{conj, conjuncts, disj, disjuncts, is_false, is_true, parts_list}
 use Rattle.acc_forms.specs.Shift.{shift, shifts}
 use Rattle.aut_base.proofs.lists.AllByRecursion.{AllByRecursion-append}
-use Rattle.aut_base.specs.Formula.{And, EachSetsBelow, False, Fin, FormulaTree, FormulaTrees, Inf, Or, SetsBelow, True, more, none, trees}
+use Rattle.aut_base.specs.Formula.{And, EachSetsBelow, False, Fin, FormulaTree, FormulaTrees, Inf, Or, SetsBelow, True, and_of, more, none, some_of, trees}
 
 mutual
   pub sets_weaker : (m n : ℕ) → m ≤ n → (f : FormulaTree) → SetsBelow m f → SetsBelow n f

@@ -2,14 +2,13 @@
 use Rattle.std.proofs.Common.{◌≡◌, ◌∙◌, ℕ, zero, suc, ◌&&◌, ◌||◌, List, [], ◌∷◌, map, Some, slice_get, refl, sym, ap, subst}
 use Rattle.std.proofs.lemmas.Option.{same_Some, none-some}
 use Rattle.std.specs.List.{list_any, list_all}
-use Rattle.aut_base.specs.Formula.{FormulaTree, more, formula_tree, formula_parts, formula_list, trees, met, all_met, some_met, SetsBelow, EachSetsBelow}
+use Rattle.aut_base.specs.Formula.{FormulaTree, more, formula_tree, formula_parts, formula_list, trees, met, all_met, some_met, SetsBelow, EachSetsBelow, and_of, some_of}
 use Rattle.aut_base.specs.declared.formula.Formula.TheVariants.{And, Or}
 use Rattle.aut_base.specs.declared.formula.Formulas.{Formulas}
 use Rattle.aut_base.proofs.trees.FormulaSizes.{formula_size-at}
 use Rattle.aut_base.proofs.trees.FormulaTrees.{formula_tree-And, formula_tree-Or}
 use Rattle.acc_forms.specs.Atoms.{has_fin, some_fin}
 use Rattle.acc_forms.specs.Dual.{dual, duals}
-use Rattle.acc_forms.specs.Joined.{and_of, some_of}
 use Rattle.acc_forms.specs.Shift.{shift, shifts}
 
 all_met-trees : (cycle : List (List ℕ)) (fs : List FormulaTree) → all_met cycle (trees fs) ≡ list_all (met cycle) fs

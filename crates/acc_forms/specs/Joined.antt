@@ -1,6 +1,6 @@
 -- Conjunction and disjunction of two conditions, as flat trees.
 use Rattle.std.specs.Prelude.{Bool, true, false, ◌||◌, if◌then◌else◌, List, [], ◌∷◌, ◌++◌}
-use Rattle.aut_base.specs.Formula.{FormulaTree, FormulaTrees, True, False, And, Or, none, more, trees}
+use Rattle.aut_base.specs.Formula.{FormulaTree, FormulaTrees, True, False, And, Or, none, more, and_of, some_of}
 
 -- a tree's parts after the second, as a list
 abbrev pub parts_list : FormulaTrees → List FormulaTree
@@ -18,18 +18,6 @@ abbrev pub disjuncts : FormulaTree → List FormulaTree
 disjuncts False = []
 disjuncts (Or a b cs) = a ∷ b ∷ parts_list cs
 disjuncts f = f ∷ []
-
--- the conjunction of these parts, which is an And where they are two or more
-abbrev pub and_of : List FormulaTree → FormulaTree
-and_of [] = True
-and_of (f ∷ []) = f
-and_of (a ∷ b ∷ cs) = And a b (trees cs)
-
--- the disjunction of these parts, which is an Or where they are two or more
-abbrev pub some_of : List FormulaTree → FormulaTree
-some_of [] = False
-some_of (f ∷ []) = f
-some_of (a ∷ b ∷ cs) = Or a b (trees cs)
 
 abbrev pub is_true : FormulaTree → Bool
 is_true True = true

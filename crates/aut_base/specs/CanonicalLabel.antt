@@ -39,13 +39,9 @@ one_of [] = False
 one_of (t ∷ []) = t
 one_of (t ∷ u ∷ us) = Or t u (trees us)
 
--- the disjunction of cubes: `f` where there is none, `t` where the only one is empty
-abbrev pub cubes_tree : List (List Literal) → LabelTree
-cubes_tree cs = one_of (map (λ cube. all_of (map literal_tree cube)) cs)
-
--- the label of a truth function of n propositions
+-- the label of a truth function of n propositions, the disjunction of its cubes: `f` where there is none, `t` where the only one is empty
 abbrev pub label_of_truth : ℕ → (List Bool → Bool) → LabelTree
-label_of_truth n g = cubes_tree (cubes 0 n g)
+label_of_truth n g = one_of (map (λ cube. all_of (map literal_tree cube)) (cubes 0 n g))
 
 -- the canonical form of a label over n propositions
 abbrev pub canonical_label : ℕ → LabelTree → LabelTree

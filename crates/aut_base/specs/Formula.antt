@@ -76,6 +76,18 @@ abbrev pub trees : List FormulaTree → FormulaTrees
 trees [] = none
 trees (f ∷ fs) = more f (trees fs)
 
+-- the conjunction of these parts, which is an And where they are two or more
+abbrev pub and_of : List FormulaTree → FormulaTree
+and_of [] = True
+and_of (f ∷ []) = f
+and_of (a ∷ b ∷ cs) = And a b (trees cs)
+
+-- the disjunction of these parts, which is an Or where they are two or more
+abbrev pub some_of : List FormulaTree → FormulaTree
+some_of [] = False
+some_of (f ∷ []) = f
+some_of (a ∷ b ∷ cs) = Or a b (trees cs)
+
 -- the parts of a conjunction or disjunction
 pub record FormulaParts : Type 0 where
   pub first : FormulaTree

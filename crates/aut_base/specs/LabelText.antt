@@ -14,14 +14,11 @@ joined separator (piece ∷ next ∷ pieces) = piece ++ (separator ++ joined sep
 abbrev pub literal_text : Literal → List ℕ
 literal_text l = if l.holds then decimal l.prop else codes "!" ++ decimal l.prop
 
-abbrev pub cube_text : List Literal → List ℕ
-cube_text literals = joined (codes "&") (map literal_text literals)
-
 -- the disjunction of cubes: `f` where there is none, `t` where the only one is empty
 abbrev pub cubes_text : List (List Literal) → List ℕ
 cubes_text [] = codes "f"
 cubes_text ([] ∷ cs) = codes "t"
-cubes_text ((l ∷ ls) ∷ cs) = joined (codes " | ") (map cube_text ((l ∷ ls) ∷ cs))
+cubes_text ((l ∷ ls) ∷ cs) = joined (codes " | ") (map (λ cube. joined (codes "&") (map literal_text cube)) ((l ∷ ls) ∷ cs))
 
 -- the canonical text of a label over n propositions
 abbrev pub label_text : ℕ → LabelTree → List ℕ

@@ -3,10 +3,10 @@ use Rattle.std.proofs.Common.{◌≡◌, ℕ, false, ◌||◌, List, [], ◌∷�
 use Rattle.std.specs.List.{AllByRecursion, fold}
 use Rattle.std.proofs.lemmas.Bool.{cond_both, or_from, or_parts}
 use Rattle.aut_base.proofs.lists.AllByRecursion.{AllByRecursion-append}
-use Rattle.aut_base.specs.Formula.{FormulaTree, FormulaTrees, True, False, Inf, Fin, And, Or, none, more, SetsBelow, trees}
+use Rattle.aut_base.specs.Formula.{FormulaTree, FormulaTrees, True, False, Inf, Fin, And, Or, none, more, SetsBelow, trees, and_of, some_of}
 use Rattle.acc_forms.proofs.FormulaSets.{sets_all_of, sets_conjuncts, sets_disjuncts, sets_some_of}
 use Rattle.acc_forms.specs.Atoms.{has_fin, some_fin}
-use Rattle.acc_forms.specs.Joined.{and_of, conj, conjuncts, disj, disjuncts, is_false, is_true, parts_list, some_of}
+use Rattle.acc_forms.specs.Joined.{conj, conjuncts, disj, disjuncts, is_false, is_true, parts_list}
 use Rattle.acc_forms.specs.Terms.{literal_formula, of_term, of_terms}
 use Rattle.acc_forms.specs.declared.literal.Literal.{Literal}
 

@@ -12,11 +12,6 @@ abbrev pub IsIdentifier : List ℕ → Type 0
 IsIdentifier [] = ⊥
 IsIdentifier (b ∷ bs) = (is_letter b ≡ true) × (list_all is_word bs ≡ true)
 
--- one or more letters, digits and `-`
-abbrev pub IsAliasName : List ℕ → Type 0
-IsAliasName [] = ⊥
-IsAliasName (b ∷ bs) = list_all is_word (b ∷ bs) ≡ true
-
 -- the value of digits in base ten
 abbrev pub value_of : List ℕ → ℕ
 value_of = fold (λ value digit. 10 * value + (digit - 48)) 0
@@ -27,13 +22,13 @@ IsNumeral [] = ⊥
 IsNumeral (b ∷ []) = is_digit b ≡ true
 IsNumeral (b ∷ c ∷ bs) = (is_digit b ≡ true) × (b ≢ 48) × (list_all is_digit (c ∷ bs) ≡ true)
 
--- the bytes that spell a token
+-- the bytes that spell a token; an alias is named by one or more letters, digits and `-`
 abbrev pub Spells : Token → List ℕ → Type 0
 Spells (HeaderName name) word = IsIdentifier name × (word ≡ name ++ 58 ∷ [])
 Spells (Identifier name) word = IsIdentifier name × (word ≡ name)
 Spells (Str text) word = (inner : List ℕ) × Quotes inner text × (word ≡ 34 ∷ (inner ++ 34 ∷ []))
 Spells (Int n) word = IsNumeral word × (value_of word ≡ n) × (n < 2 ^ 32)
-Spells (Alias name) word = IsAliasName name × (word ≡ 64 ∷ name)
+Spells (Alias name) word = (name ≢ []) × (list_all is_word name ≡ true) × (word ≡ 64 ∷ name)
 Spells Bang word = word ≡ codes "!"
 Spells Amp word = word ≡ codes "&"
 Spells Bar word = word ≡ codes "|"

@@ -1,32 +1,14 @@
 -- Which tokens spell an automaton, and what they say (HOA v1, Grammar). `room` is how many more of `(` and `!` may be open.
-use Rattle.std.specs.Prelude.{◌≡◌, ℕ, Bool, true, false, if◌then◌else◌, List, [], ◌∷◌, ◌++◌, map, flat_map, codes, Option, Some, None}
-use Rattle.std.specs.List.{list_all}
+use Rattle.std.specs.Prelude.{◌≡◌, ℕ, Bool, true, false, List, [], ◌∷◌, ◌++◌, map, flat_map, codes, Option, Some, None}
+use Rattle.std.specs.List.{list_all, list_any}
 use Rattle.aut_base.specs.Chains.{Chains, IsSum}
 use Rattle.aut_base.specs.Formula as formula
-use Rattle.aut_base.specs.Formula.{FormulaTree, trees}
+use Rattle.aut_base.specs.Formula.{FormulaTree, and_of, some_of}
 use Rattle.aut_base.specs.Text.{same_text}
 use Rattle.hoa_lexer.specs.declared.token.Token.{Token}
 use Rattle.hoa_lexer.specs.declared.token.Token.TheVariants as token
 use Rattle.hoa_parser.specs.Raw as raw
 use Rattle.hoa_parser.specs.Raw.{RawTree, Written, WrittenEdge, WrittenItem, WrittenState, raw_all, raw_any}
-use Rattle.hoa_parser.specs.declared.header.Header.{Header}
-use Rattle.hoa_parser.specs.declared.header.Header.TheVariants as header
-
--- What the name of a header says about what follows it.
-abbrev pub header_of : List ℕ → Header
-header_of name =
-    if same_text name (codes "States") then header.States else
-    if same_text name (codes "Start") then header.Start else
-    if same_text name (codes "AP") then header.Ap else
-    if same_text name (codes "Alias") then header.Alias else
-    if same_text name (codes "Acceptance") then header.Acceptance else
-    if same_text name (codes "acc-name") then header.AccName else
-    if same_text name (codes "tool") then header.Tool else
-    if same_text name (codes "name") then header.Name else
-    if same_text name (codes "properties") then header.Properties else
-    if same_text name (codes "HOA") then header.Opening else
-    if same_text name (codes "State") then header.State else
-    header.Other
 
 -- parts that stand one after the other
 pub data Each {X : Type 0} (Is : List Token → X → Type 0) : List Token → List X → Type 0 where
@@ -40,21 +22,25 @@ pub data IsLabelAtom : List Token → RawTree → Type 0 where
   proposition : (i : ℕ) → IsLabelAtom (token.Int i ∷ []) (raw.Prop i)
   alias : (name : List ℕ) → IsLabelAtom (token.Alias name ∷ []) (raw.Alias name)
 
--- label = land ("|" land)*
--- land = lnot ("&" lnot)*
--- lnot = "!" lnot | "t" | "f" | INT | ANAME | "(" label ")"
-abbrev pub labels : Chains Token RawTree
-labels = record {
+-- Labels and conditions have the same signs. What is an atom, and what is meant by what is joined, is their own.
+abbrev pub hoa_chains : {T : Type 0} → (List Token → T → Type 0) → (T → T → Type 0) → (List T → T) → (List T → T) → Chains Token T
+hoa_chains IsAtom Negates conjunction disjunction = record {
   bang = token.Bang;
   amp = token.Amp;
   bar = token.Bar;
   left = token.LeftParen;
   right = token.RightParen;
-  IsAtom = IsLabelAtom;
-  Negates = λ t u. u ≡ raw.Not t;
-  conjunction = raw_all;
-  disjunction = raw_any;
+  IsAtom = IsAtom;
+  Negates = Negates;
+  conjunction = conjunction;
+  disjunction = disjunction;
 }
+
+-- label = land ("|" land)*
+-- land = lnot ("&" lnot)*
+-- lnot = "!" lnot | "t" | "f" | INT | ANAME | "(" label ")"
+abbrev pub labels : Chains Token RawTree
+labels = hoa_chains IsLabelAtom (λ t u. u ≡ raw.Not t) raw_all raw_any
 
 -- "!"?
 abbrev pub bang_tokens : Bool → List Token
@@ -73,33 +59,11 @@ pub data IsConditionAtom : List Token → FormulaTree → Type 0 where
   infinitely : (set : ℕ) (neg : Bool) → IsConditionAtom (token.Identifier (codes "Inf") ∷ set_tokens set neg) (formula.Inf set neg)
   finitely : (set : ℕ) (neg : Bool) → IsConditionAtom (token.Identifier (codes "Fin") ∷ set_tokens set neg) (formula.Fin set neg)
 
--- the conjunction of a list
-abbrev pub formula_all : List FormulaTree → FormulaTree
-formula_all [] = formula.True
-formula_all (f ∷ []) = f
-formula_all (f ∷ g ∷ gs) = formula.And f g (trees gs)
-
--- the disjunction of a list
-abbrev pub formula_any : List FormulaTree → FormulaTree
-formula_any [] = formula.False
-formula_any (f ∷ []) = f
-formula_any (f ∷ g ∷ gs) = formula.Or f g (trees gs)
-
 -- formula = fand ("|" fand)*
 -- fand = fatom ("&" fatom)*
 -- fatom = "t" | "f" | ("Inf" | "Fin") "(" "!"? INT ")" | "(" formula ")"
 abbrev pub conditions : Chains Token FormulaTree
-conditions = record {
-  bang = token.Bang;
-  amp = token.Amp;
-  bar = token.Bar;
-  left = token.LeftParen;
-  right = token.RightParen;
-  IsAtom = IsConditionAtom;
-  Negates = λ f g. ⊥;
-  conjunction = formula_all;
-  disjunction = formula_any;
-}
+conditions = hoa_chains IsConditionAtom (λ f g. ⊥) and_of some_of
 
 abbrev pub and_number : ℕ → List Token
 and_number n = token.Amp ∷ token.Int n ∷ []
@@ -120,6 +84,10 @@ abbrev pub optional_text : Option (List ℕ) → List Token
 optional_text None = []
 optional_text (Some text) = token.Str text ∷ []
 
+-- the names of headers that have a rule of their own; `HOA` and `State` begin no item
+abbrev pub known_headers : List (List ℕ)
+known_headers = map codes ("States" ∷ "Start" ∷ "AP" ∷ "Alias" ∷ "Acceptance" ∷ "acc-name" ∷ "tool" ∷ "name" ∷ "properties" ∷ "HOA" ∷ "State" ∷ [])
+
 -- item = "States:" INT | "Start:" conj | "AP:" INT STRING* | "Alias:" ANAME label | "Acceptance:" INT formula
 --      | "acc-name:" IDENTIFIER (INT | IDENTIFIER)* | "tool:" STRING STRING? | "name:" STRING
 --      | "properties:" IDENTIFIER* | HEADERNAME (INT | STRING | IDENTIFIER)*
@@ -137,7 +105,7 @@ pub data IsItem (room : ℕ) : List Token → WrittenItem → Type 0 where
   name_item : (text : List ℕ) → IsItem room (token.HeaderName (codes "name") ∷ token.Str text ∷ []) (raw.Name text)
   properties_item : (words : List (List ℕ)) → IsItem room (token.HeaderName (codes "properties") ∷ map token.Identifier words) (raw.Properties words)
   -- any other header's name but `HOA` and `State`
-  other_item : (name : List ℕ) (values : List Token) → header_of name ≡ header.Other → list_all (is_value true) values ≡ true
+  other_item : (name : List ℕ) (values : List Token) → list_any (same_text name) known_headers ≡ false → list_all (is_value true) values ≡ true
       → IsItem room (token.HeaderName name ∷ values) (raw.Other name)
 
 -- ("[" label "]")?

@@ -4,10 +4,9 @@ use Rattle.aut_base.specs.Formula as formula
 use Rattle.hoa_lexer.specs.declared.token.Token.{Token}
 use Rattle.hoa_lexer.specs.declared.token.Token.TheVariants.{HeaderName, Identifier, Str, Int, Alias, Bang, Amp, Bar, LeftParen, RightParen}
 use Rattle.hoa_lexer.specs.declared.token.Token.TheVariants.{LeftBrace, RightBrace, LeftBracket, RightBracket, Body, End, Abort}
-use Rattle.hoa_parser.specs.Grammar.{SpellsAutomaton}
+use Rattle.hoa_parser.specs.Grammar.{IsViable, SpellsAutomaton}
 use Rattle.hoa_parser.specs.Raw as raw
 use Rattle.hoa_parser.specs.Raw.{Written, WrittenItem, WrittenState}
-use Rattle.hoa_parser.specs.Standing.{IsDead}
 
 -- HOA: v1, an item, --BODY-- --END--
 abbrev pub with_item : List Token → List Token
@@ -71,6 +70,6 @@ pub record GrammarExamples : Type 0 where
         edges = record { label = None; to = 4 ∷ 5 ∷ []; marks = 0 ∷ 2 ∷ [] } ∷ record { label = Some raw.True; to = 3 ∷ []; marks = [] } ∷ [];
       }))
   -- `0` begins nothing, nothing goes on with `--ABORT--`, and nothing stands behind `--END--`
-  pub no_opening : IsDead (Int 0 ∷ [])
-  pub no_abort : IsDead (HeaderName (codes "HOA") ∷ Identifier (codes "v1") ∷ Abort ∷ [])
-  pub no_more : IsDead (with_state state_three ++ HeaderName (codes "HOA") ∷ [])
+  pub no_opening : (most : ℕ) → IsViable most (Int 0 ∷ []) → ⊥
+  pub no_abort : (most : ℕ) → IsViable most (HeaderName (codes "HOA") ∷ Identifier (codes "v1") ∷ Abort ∷ []) → ⊥
+  pub no_more : (most : ℕ) → IsViable most (with_state state_three ++ HeaderName (codes "HOA") ∷ []) → ⊥

@@ -2,6 +2,7 @@ pub mod Ends
 pub mod Grammar
 pub mod GrammarExamples
 pub mod GrammarLaws
+pub mod Headers
 pub mod Naming
 pub mod Phrases
 pub mod Raw

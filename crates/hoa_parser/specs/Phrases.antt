@@ -7,7 +7,8 @@ use Rattle.aut_base.specs.Formula as formula
 use Rattle.aut_base.specs.Formula.{FormulaTree, trees}
 use Rattle.hoa_lexer.specs.declared.token.Token.{Token}
 use Rattle.hoa_lexer.specs.declared.token.Token.TheVariants as token
-use Rattle.hoa_parser.specs.Grammar.{and_number, header_of, optional_text, set_tokens}
+use Rattle.hoa_parser.specs.Grammar.{and_number, optional_text, set_tokens}
+use Rattle.hoa_parser.specs.Headers.{header_of}
 use Rattle.hoa_parser.specs.Raw as raw
 use Rattle.hoa_parser.specs.Raw.{RawTree, Written, WrittenEdge, WrittenItem, WrittenState, raw_trees}
 use Rattle.hoa_parser.specs.declared.header.Header.TheVariants as header

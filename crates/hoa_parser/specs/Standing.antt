@@ -8,18 +8,6 @@ use Rattle.hoa_lexer.specs.declared.token.Token.TheVariants as token
 use Rattle.hoa_parser.specs.Grammar.{IsViable, SpellsAutomaton}
 use Rattle.hoa_parser.specs.Raw.{Written}
 
--- the most `(` and `!` that may be open at once
-abbrev pub most_depth : ℕ
-most_depth = MOST_DEPTH
-
--- the tokens spell no automaton, whatever is open in it
-abbrev pub SpellsNothing : List Token → Type 0
-SpellsNothing tokens = (most : ℕ) (w : Written) → SpellsAutomaton most tokens w → ⊥
-
--- No automaton begins with these tokens.
-abbrev pub IsDead : List Token → Type 0
-IsDead tokens = (most : ℕ) → IsViable most tokens → ⊥
-
 -- Closed tokens at the front of the text, of which no more than may be are open: an automaton may begin so, and none is
 -- whole yet. `rest` follows them. The text begins `start` bytes after the start of its whole.
 pub record IsBegun (start : ℕ) (text : List ℕ) (tokens : List Token) (used : ℕ) (rest : List ℕ) : Type 0 where
@@ -27,21 +15,23 @@ pub record IsBegun (start : ℕ) (text : List ℕ) (tokens : List Token) (used :
   pub shown : map (λ p. p.0) placed ≡ tokens
   pub lexes : Lexes text start placed rest
   pub used_is : used ≡ start + (length text - length rest)
-  pub viable : IsViable most_depth tokens
-  pub unfinished : SpellsNothing tokens
+  pub viable : IsViable MOST_DEPTH tokens
+  -- they spell no automaton, whatever is open in it
+  pub unfinished : (most : ℕ) (w : Written) → SpellsAutomaton most tokens w → ⊥
 
 -- an automaton stands whole, and `rest` follows its `--END--`
 pub record IsWhole (start : ℕ) (text : List ℕ) (w : Written) (rest : List ℕ) : Type 0 where
   pub placed : List (Token × ℕ)
   pub lexes : Lexes text start placed rest
-  pub spells : SpellsAutomaton most_depth (map (λ p. p.0) placed) w
+  pub spells : SpellsAutomaton MOST_DEPTH (map (λ p. p.0) placed) w
 
 -- A token cannot stand at offset k. After one or more tokens `--ABORT--` is not such a token: it abandons the automaton.
 pub record IsMisplaced (k : ℕ) (tokens : List Token) (used : ℕ) (rest : List ℕ) : Type 0 where
   pub next_token : Token
   pub after : List ℕ
   pub next : IsNext rest used next_token k after
-  pub dead : IsDead (tokens ++ next_token ∷ [])
+  -- no automaton begins with the tokens and it
+  pub dead : (most : ℕ) → IsViable most (tokens ++ next_token ∷ []) → ⊥
   pub no_abort : (tokens ≢ []) → next_token ≢ token.Abort
 
 -- the bytes at offset k can be no token
@@ -72,19 +62,16 @@ pub record IsDeep (start : ℕ) (text : List ℕ) : Type 0 where
   pub next : IsNext rest used next_token offset after
   pub most : ℕ
   pub viable : IsViable most (tokens ++ next_token ∷ [])
-  pub too_deep : IsViable most_depth (tokens ++ next_token ∷ []) → ⊥
+  pub too_deep : IsViable MOST_DEPTH (tokens ++ next_token ∷ []) → ⊥
 
 -- the automaton is abandoned, and `after` follows its `--ABORT--`
 abbrev pub IsAborted : ℕ → List ℕ → List ℕ → Type 0
 IsAborted start text after = AfterTokens start text (λ tokens used rest. (tokens ≢ []) × (offset : ℕ) × IsNext rest used token.Abort offset after)
 
--- a text ends inside a comment, a string or another token
-abbrev pub EndsOpen : List ℕ → Type 0
-EndsOpen rest = AfterBlanks rest IsOpenComment ⊎ (AfterBlanks rest IsOpenString ⊎ AfterBlanks rest IsOpenToken)
-
--- The text ends inside an automaton.
+-- The text ends inside an automaton: among blanks behind a token, or inside a comment, a string or another token.
 abbrev pub IsCut : ℕ → List ℕ → Type 0
-IsCut start text = AfterTokens start text (λ tokens used rest. (tokens ≢ []) × IsBlanks rest ⊎ EndsOpen rest)
+IsCut start text = AfterTokens start text (λ tokens used rest. (tokens ≢ []) × IsBlanks rest
+    ⊎ (AfterBlanks rest IsOpenComment ⊎ (AfterBlanks rest IsOpenString ⊎ AfterBlanks rest IsOpenToken)))
 
 -- what stands next
 pub data Standing : Type 0 where

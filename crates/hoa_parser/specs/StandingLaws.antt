@@ -1,11 +1,12 @@
 -- What stands next, where a text goes on.
 use Rattle.std.specs.Prelude.{ℕ, List, ◌++◌}
+use Rattle.aut_base.specs.declared.limit.TheConstants.{MOST_DEPTH}
 use Rattle.hoa_lexer.specs.Blanks.{IsBlanks}
 use Rattle.hoa_lexer.specs.Laws.{IsSpelledApart}
 use Rattle.hoa_lexer.specs.declared.token.Token.{Token}
 use Rattle.hoa_parser.specs.Grammar.{SpellsAutomaton}
 use Rattle.hoa_parser.specs.Raw.{Written}
-use Rattle.hoa_parser.specs.Standing.{IsBad, IsWhole, Standing, Stands, Blank, Whole, Aborted, Cut, most_depth}
+use Rattle.hoa_parser.specs.Standing.{IsBad, IsWhole, Standing, Stands, Blank, Whole, Aborted, Cut}
 use Rattle.hoa_parser.specs.WrittenDown.{written_tokens}
 
 -- the same, where more bytes follow
@@ -31,5 +32,5 @@ BadIsHopeless = (start k : ℕ) (text more rest : List ℕ) (w : Written) → Is
 -- An automaton that is written down, with spaces behind each token, stands whole in its text, with only blanks behind it.
 abbrev pub WrittenDownIsRead : Type 0
 WrittenDownIsRead =
-    (ts : List Token) (w : Written) (text : List ℕ) → SpellsAutomaton most_depth ts w → IsSpelledApart (written_tokens w) text
+    (ts : List Token) (w : Written) (text : List ℕ) → SpellsAutomaton MOST_DEPTH ts w → IsSpelledApart (written_tokens w) text
     → (rest : List ℕ) × IsBlanks rest × Stands (Whole w rest) 0 text

@@ -1,7 +1,7 @@
 //! The names of headers.
 
 ghost use Rattle.std.specs.Prelude.{◌≡◌};
-ghost use Rattle.hoa_parser.specs.Grammar.{header_of};
+ghost use Rattle.hoa_parser.specs.Headers.{header_of};
 
 use hoa_lexer::Name;
 

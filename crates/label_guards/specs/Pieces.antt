@@ -2,7 +2,7 @@
 use Rattle.std.specs.Prelude.{◌≡◌, ℕ, ◌-◌, Bool, true, false, ◌||◌, List, [], ◌∷◌, ◌++◌, map, flat_map, codes}
 use Rattle.aut_base.specs.CanonicalLabel as canonical
 use Rattle.aut_base.specs.CanonicalLabel.{cubes}
-use Rattle.aut_base.specs.LabelText.{joined, cube_text}
+use Rattle.aut_base.specs.LabelText.{joined, literal_text}
 use Rattle.aut_base.specs.Valuation.{holds_in}
 use Rattle.label_guards.specs.declared.cubes.Literal.{Literal}
 use Rattle.label_guards.specs.Nodes.{level}
@@ -24,7 +24,7 @@ pieces_after false separator pieces = joined separator pieces
 -- a cube, or `t` if it has no literal
 abbrev pub cube_piece : List canonical.Literal → List ℕ
 cube_piece [] = codes "t"
-cube_piece (l ∷ ls) = cube_text (l ∷ ls)
+cube_piece (l ∷ ls) = joined (codes "&") (map literal_text (l ∷ ls))
 
 abbrev pub literal_of : Literal → canonical.Literal
 literal_of l = record { prop = l.prop; holds = l.holds }

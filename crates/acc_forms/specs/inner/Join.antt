@@ -1,8 +1,8 @@
 -- Conjunction and disjunction treated alike, by the connective.
 use Rattle.std.specs.Prelude.{Bool, true, false, List}
 use Rattle.std.specs.List.{list_all, list_any}
-use Rattle.aut_base.specs.Formula.{FormulaTree}
-use Rattle.acc_forms.specs.Joined.{conj, disj, conjuncts, disjuncts, and_of, some_of, is_true, is_false}
+use Rattle.aut_base.specs.Formula.{FormulaTree, and_of, some_of}
+use Rattle.acc_forms.specs.Joined.{conj, disj, conjuncts, disjuncts, is_true, is_false}
 use Rattle.acc_forms.specs.declared.join.Join.{Join}
 use Rattle.acc_forms.specs.declared.join.Join.TheVariants.{All, Any}
 

@@ -3,7 +3,7 @@ use Rattle.std.proofs.Common.{◌≡◌, ◌∙◌, ℕ, zero, suc, ◌+◌, ◌
 use Rattle.std.proofs.lemmas.List.Folds.{list_any-append}
 use Rattle.std.specs.Bool.{beq}
 use Rattle.std.specs.List.{list_all, list_any, range_with_len}
-use Rattle.aut_base.specs.CanonicalLabel.{Literal, all_of, canonical_label, cubes, cubes_tree, is_independent, label_of_truth, literal_tree, one_of}
+use Rattle.aut_base.specs.CanonicalLabel.{Literal, all_of, canonical_label, cubes, is_independent, label_of_truth, literal_tree, one_of}
 use Rattle.aut_base.specs.Label.{AllBelow, EachBelow, LabelTree, LabelTrees, True, False, Prop, Not, And, Or, none, more, all_true, some_true, trees, truth}
 use Rattle.aut_base.specs.Valuation.{holds_in, truth_on, valuation_of}
 use Rattle.aut_base.proofs.canonical.ValuationLists.{all_same, holds_in-valuation_of, independent_agrees, length-map_range, valuation_of-same}
@@ -43,8 +43,8 @@ any-cubes holds (c ∷ cs) =
     cc
 
 -- cubes are true where all literals of one of them hold
-pub truth-cubes_tree : (holds : ℕ → Bool) (cs : List (List Literal)) → truth holds (cubes_tree cs) ≡ list_any (all_hold holds) cs
-truth-cubes_tree holds cs =
+pub truth-cubes : (holds : ℕ → Bool) (cs : List (List Literal)) → truth holds (one_of (map (λ cube. all_of (map literal_tree cube)) cs)) ≡ list_any (all_hold holds) cs
+truth-cubes holds cs =
     truth-one_of holds (map (λ cube. all_of (map literal_tree cube)) cs) ∙ any-cubes holds cs
 
 and_false : (a : Bool) → false ≡ (a && false)
@@ -94,7 +94,7 @@ cubes_hold holds i (suc n) g =
 
 -- the label of a truth function is true where the function is
 pub truth-label_of : (holds : ℕ → Bool) (n : ℕ) (g : List Bool → Bool) → truth holds (label_of_truth n g) ≡ g (valuation_of n holds)
-truth-label_of holds n g = truth-cubes_tree holds (cubes 0 n g) ∙ cubes_hold holds 0 n g
+truth-label_of holds n g = truth-cubes holds (cubes 0 n g) ∙ cubes_hold holds 0 n g
 
 -- and under a valuation
 pub truth_on-label_of : (n : ℕ) (g : List Bool → Bool) (v : List Bool) → length v ≡ n → truth_on (label_of_truth n g) v ≡ g v
@@ -117,7 +117,7 @@ cubes_same i (suc n) g h same =
     same_branch i (is_independent n g) (is_independent n h) _ _ _ _ alone low high
 
 pub label_of-same : (n : ℕ) (g h : List Bool → Bool) → ((v : List Bool) → length v ≡ n → g v ≡ h v) → label_of_truth n g ≡ label_of_truth n h
-label_of-same n g h same = ap cubes_tree (cubes_same 0 n g h same)
+label_of-same n g h same = ap (λ (cs : List (List Literal)). one_of (map (λ cube. all_of (map literal_tree cube)) cs)) (cubes_same 0 n g h same)
 
 -- the truth of a label depends on the truth of its own propositions alone
 mutual

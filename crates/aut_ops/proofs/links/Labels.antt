@@ -8,7 +8,7 @@ use Rattle.aut_base.proofs.lists.ListTests.{one_passes}
 use Rattle.aut_base.proofs.canonical.ValuationLetters.{letter_of_holds}
 use Rattle.aut_base.proofs.canonical.ValuationLists.{all_valuations, each_size, each_valuation, holds_in-valuation_of, length-valuation_of}
 use Rattle.aut_base.specs.Automaton.{LabelledEdge}
-use Rattle.aut_base.specs.CanonicalLabel.{cubes, cubes_tree, is_independent, label_of_truth}
+use Rattle.aut_base.specs.CanonicalLabel.{Literal, all_of, cubes, is_independent, label_of_truth, literal_tree, one_of}
 use Rattle.aut_base.specs.Label.{AllBelow, LabelTree, True, holds_at, truth}
 use Rattle.aut_base.specs.Valuation.{holds_in, letter_of, truth_on, valuation_of, valuations}
 use Rattle.aut_core.proofs.Made.{label_in_settled}
@@ -90,7 +90,9 @@ all_cubes i (suc n) =
 
 -- the label that is always true
 pub label_always : (s : Store) (g : Guard) → IsGuardOf s (λ on. true) g → label_in s g ≡ True
-label_always s g is = label_from s g (λ on. true) (λ v. true) is (λ v long. refl) ∙ ap cubes_tree (all_cubes 0 s.names)
+label_always s g is =
+    label_from s g (λ on. true) (λ v. true) is (λ v long. refl)
+    ∙ ap (λ (cs : List (List Literal)). one_of (map (λ cube. all_of (map literal_tree cube)) cs)) (all_cubes 0 s.names)
 
 -- whether a guard is unsatisfiable, by its label
 pub never_is : (s : Store) (g : Guard) (b : Bool) → (IsTrue b ↔ IsNeverMet s g) → b ≡ is_never s.names (label_in s g)

@@ -21,8 +21,9 @@ use Rattle.hoa_parser.proofs.standing.Readings.{lexes_more, lexes_shorter}
 use Rattle.hoa_parser.specs.Grammar.{IsViable, SpellsAutomaton}
 use Rattle.hoa_parser.specs.Raw.{Written}
 use Rattle.hoa_parser.specs.Reads.{AsksOn, EndsDeep}
-use Rattle.hoa_parser.specs.Standing.{IsAborted, IsBegun, SpellsNothing, most_depth}
+use Rattle.hoa_parser.specs.Standing.{IsAborted, IsBegun}
 use Rattle.std.specs.Prelude.{codes}
+use Rattle.aut_base.specs.declared.limit.TheConstants.{MOST_DEPTH}
 
 -- ---- lists
 
@@ -59,7 +60,7 @@ next_strictly input start t i rest n =
     omega (arith, some, simp length-append at (ap length n.split), simp length-append at (ap length n.front.split))
 
 -- the last token of an automaton is complete with its own last byte
-last_is_end : (ts : List Token) (w : Written) (s : SpellsAutomaton most_depth ts w) (done : List Token) (t : Token) → ts ≡ done ++ t ∷ [] → t ≡ token.End
+last_is_end : (ts : List Token) (w : Written) (s : SpellsAutomaton MOST_DEPTH ts w) (done : List Token) (t : Token) → ts ≡ done ++ t ∷ [] → t ≡ token.End
 last_is_end ts w s done t e =
     last_same done (token.HeaderName (codes "HOA") ∷ token.Identifier w.version ∷ (s.item_tokens ++ token.Body ∷ s.state_tokens)) t token.End
     (sym e ∙ s.spelled
@@ -117,10 +118,11 @@ none_asks start text new rest placed a are lexes short =
 -- ---- where a whole automaton is next
 
 -- a prefix of an automaton that needs more isn't a whole automaton with tokens after it
-beyond_whole : (tokens whole us : List Token) (w : Written) → IsViable most_depth tokens → SpellsNothing tokens → SpellsAutomaton most_depth whole w → tokens ≡ whole ++ us → ⊥
-beyond_whole tokens whole [] w viable unfinished spelled e = unfinished most_depth w (subst (λ (ts : List Token). SpellsAutomaton most_depth ts w) (sym (e ∙ append-nil whole)) spelled)
+beyond_whole : (tokens whole us : List Token) (w : Written) → IsViable MOST_DEPTH tokens
+    → ((most : ℕ) (v : Written) → SpellsAutomaton most tokens v → ⊥) → SpellsAutomaton MOST_DEPTH whole w → tokens ≡ whole ++ us → ⊥
+beyond_whole tokens whole [] w viable unfinished spelled e = unfinished MOST_DEPTH w (subst (λ (ts : List Token). SpellsAutomaton MOST_DEPTH ts w) (sym (e ∙ append-nil whole)) spelled)
 beyond_whole tokens whole (u ∷ us) w viable unfinished spelled e =
-    let none : u ∷ us ≡ [] = whole_goes_no_further most_depth most_depth whole (u ∷ us) w spelled (subst (λ (ts : List Token). IsViable most_depth ts) e viable) in
+    let none : u ∷ us ≡ [] = whole_goes_no_further MOST_DEPTH MOST_DEPTH whole (u ∷ us) w spelled (subst (λ (ts : List Token). IsViable MOST_DEPTH ts) e viable) in
     cc
 
 pub none_asks_behind : NoneAsksBehind
@@ -170,12 +172,12 @@ none_asks_behind_deep start text left new h a short =
     none_asks_behind_token start text d.tokens d.used d.rest d.next_token d.offset d.after new d.begun d.next a
     (λ size. closed_there h.held d.next_token left new d.after h.behind (held_as_needed h.held d.next_token h.needed) short size)
     (λ us is. d.too_deep (viable_front (d.tokens ++ d.next_token ∷ []) us
-    (subst (λ (ts : List Token). IsViable most_depth ts) (is ∙ sym (append_assoc d.tokens (d.next_token ∷ []) us)) a.begun.viable)))
+    (subst (λ (ts : List Token). IsViable MOST_DEPTH ts) (is ∙ sym (append_assoc d.tokens (d.next_token ∷ []) us)) a.begun.viable)))
     (behind_no_shorter h.held left new d.after h.behind short)
   where
-    viable_front : (ts us : List Token) → IsViable most_depth (ts ++ us) → IsViable most_depth ts
+    viable_front : (ts us : List Token) → IsViable MOST_DEPTH (ts ++ us) → IsViable MOST_DEPTH ts
     viable_front ts us v =
-        record { more = us ++ v.more; whole = v.whole; spelled = subst (λ (ws : List Token). SpellsAutomaton most_depth ws v.whole) (append_assoc ts us v.more) v.spelled }
+        record { more = us ++ v.more; whole = v.whole; spelled = subst (λ (ws : List Token). SpellsAutomaton MOST_DEPTH ws v.whole) (append_assoc ts us v.more) v.spelled }
 
     behind_no_shorter : (held : Option ℕ) (left new after : List ℕ) → after ≡ unread held left → length new ≤ length left → length new ≤ length after
     behind_no_shorter None left new after is short = omega (arith, short, ap length is)
@@ -194,4 +196,4 @@ none_asks_behind_deep start text left new h a short =
 pub none_asks_behind_abort : (start : ℕ) (text after new : List ℕ) → IsAborted start text after → AsksOn start text new → length new ≤ length after → ⊥
 none_asks_behind_abort start text after new h a =
     none_asks_behind_token start text h.tokens h.used h.rest token.Abort h.holds.1 after new h.begun h.holds.2 a (λ size. refl)
-    (λ us is. no_abort_inside most_depth h.tokens us (subst (λ (ts : List Token). IsViable most_depth ts) is a.begun.viable))
+    (λ us is. no_abort_inside MOST_DEPTH h.tokens us (subst (λ (ts : List Token). IsViable MOST_DEPTH ts) is a.begun.viable))

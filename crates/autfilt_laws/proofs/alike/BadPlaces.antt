@@ -1,6 +1,7 @@
 -- The shortest prefix that shows a bad token is unique, so readers that take no more stop at the same byte.
 use Rattle.std.proofs.Common.{◌≡◌, ◌⊎◌, ℕ, ◌+◌, ◌-◌, List, [], ◌∷◌, ◌++◌, length, inl, inr, refl, sym, ap, ◌∙◌, subst, arith}
 use Rattle.std.proofs.lemmas.List.{append_assoc, append-nil, append_cancel_right, length-append}
+use Rattle.aut_base.specs.declared.limit.TheConstants.{MOST_DEPTH}
 use Rattle.autfilt_run.specs.Runs.{IsSyntaxFault}
 use Rattle.hoa_lexer.proofs.next_token.Fronts.{front_of}
 use Rattle.hoa_lexer.proofs.next_token.Unique.{one_next_token}
@@ -14,7 +15,7 @@ use Rattle.hoa_parser.proofs.standing.Settled.{front_on, next_on, no_token_at_on
 use Rattle.hoa_parser.specs.Grammar.{IsViable}
 use Rattle.hoa_parser.specs.Reads.{AskedForLast, AsksOn, IsHopeless}
 use Rattle.hoa_parser.specs.Standing as standing
-use Rattle.hoa_parser.specs.Standing.{IsBad, IsMisplaced, IsNoTokenAt, most_depth}
+use Rattle.hoa_parser.specs.Standing.{IsBad, IsMisplaced, IsNoTokenAt}
 
 -- ---- adding bytes at the end
 
@@ -69,7 +70,7 @@ asks_no_fault k tokens used x more a (inr n) =
 -- One reading finds a bad token at its rest. Another, of the same bytes and more, needs more.
 record TwoReadings (k used : ℕ) (tokens others : List Token) (rest at_hand : List ℕ) : Type 0 where
   halts : Halts (standing.Bad k) tokens used rest
-  viable : IsViable most_depth others
+  viable : IsViable MOST_DEPTH others
   asks : AsksForMore at_hand
 
 module _ (k used : ℕ) (tokens others : List Token) (rest extra new at_hand : List ℕ) (r : TwoReadings k used tokens others rest at_hand) where
@@ -81,7 +82,7 @@ module _ (k used : ℕ) (tokens others : List Token) (rest extra new at_hand : L
   goes_no_further : (t : Token) (us : List Token) → HasNext used (rest ++ (extra ++ new)) t → others ≡ tokens ++ t ∷ us → ⊥
   goes_no_further t us n is =
       halts_here (standing.Bad k) tokens us t used (rest ++ (extra ++ new)) (r.halts.0, fault_on k tokens used rest (extra ++ new) r.halts.1) n
-      (subst (λ (ts : List Token). IsViable most_depth ts) is r.viable)
+      (subst (λ (ts : List Token). IsViable MOST_DEPTH ts) is r.viable)
 
   -- so two such readings are impossible, where the second has all bytes of the first
   apart : (ps qs : List (Token × ℕ)) (done : List Token) (input : List ℕ) (start : ℕ) (behind : List ℕ)
@@ -110,7 +111,7 @@ module _ (k used : ℕ) (tokens others : List Token) (rest extra new at_hand : L
 pub no_earlier : (k start : ℕ) (bytes extra new : List ℕ) → IsBad start bytes k → AsksOn start (bytes ++ (extra ++ new)) new → ⊥
 no_earlier k start bytes extra new bad a =
     let r = reading (standing.Bad k) start bytes bad in
-    let viable = subst (λ (ts : List Token). IsViable most_depth ts) (sym a.begun.shown) a.begun.viable in
+    let viable = subst (λ (ts : List Token). IsViable MOST_DEPTH ts) (sym a.begun.shown) a.begun.viable in
     apart k (place start bytes r.rest) (shown r.placed) (shown a.begun.placed) r.rest extra new a.holds.at_hand
     (record { halts = r.halts; viable = viable; asks = a.holds.asks })
     r.placed a.begun.placed [] bytes start a.rest refl refl r.lexes a.begun.lexes a.holds.split

@@ -1,6 +1,7 @@
 -- What is left of small texts where a reader stops.
 use Rattle.std.proofs.Common.{◌<◌, ℕ, List, [], ◌∷◌, ◌++◌, codes, None, Some, inl, refl, ap, arith, length, lit<}
 use Rattle.std.proofs.lemmas.List.{length-append}
+use Rattle.aut_base.specs.declared.limit.TheConstants.{MOST_DEPTH}
 use Rattle.autfilt_laws.proofs.alike.BadPlaces.{no_later}
 use Rattle.autfilt_laws.specs.PlaceExamples.{WhatIsLeft}
 use Rattle.hoa_lexer.proofs.next_token.Asked.{last_is_asked_for}
@@ -13,10 +14,10 @@ use Rattle.hoa_parser.proofs.grammar.Stops.{first_token, later_tokens}
 use Rattle.hoa_parser.proofs.standing.Hopeless.{Leaves, asked_last}
 use Rattle.hoa_parser.proofs.standing.OpenEnds.{open_end_asks}
 use Rattle.hoa_parser.proofs.standing.Settled.{bad_is_hopeless}
-use Rattle.hoa_parser.specs.Grammar.{IsViable, none}
+use Rattle.hoa_parser.specs.Grammar.{IsViable, SpellsAutomaton, none}
 use Rattle.hoa_parser.specs.Raw.{Written}
 use Rattle.hoa_parser.specs.Reads.{IsHopeless}
-use Rattle.hoa_parser.specs.Standing.{IsBad, IsBegun, IsDead, SpellsNothing, most_depth}
+use Rattle.hoa_parser.specs.Standing.{IsBad, IsBegun}
 
 -- the token is at the front
 at_front : (word rest : List ℕ) (token : Token) (start : ℕ) → Spells token word → IsDelimited token rest → IsNext (word ++ rest) start token start rest
@@ -32,21 +33,21 @@ at_front word rest token start spells ends = record {
 abbrev empty : Written
 empty = record { version = codes "v1"; items = []; states = [] }
 
-viable_nothing : IsViable most_depth []
+viable_nothing : IsViable MOST_DEPTH []
 viable_nothing = record {
   more = HeaderName (codes "HOA") ∷ Identifier (codes "v1") ∷ Body ∷ End ∷ [];
   whole = empty;
   spelled = record { item_tokens = []; state_tokens = []; items = none; states = none; spelled = refl };
 }
 
-nothing_spelled : SpellsNothing []
+nothing_spelled : (most : ℕ) (w : Written) → SpellsAutomaton most [] w → ⊥
 nothing_spelled most w s = let e = s.spelled in cc
 
 -- nothing was read
 before_all : (text : List ℕ) → IsBegun 0 text [] 0 text
 before_all text = record { placed = []; shown = refl; lexes = refl; used_is = omega arith; viable = viable_nothing; unfinished = nothing_spelled }
 
-no_number : (n : ℕ) → IsDead (Int n ∷ [])
+no_number : (n m : ℕ) → IsViable m (Int n ∷ []) → ⊥
 no_number n m v =
     let p = v.spelled in
     let opening = first_token (Int n) (HeaderName (codes "HOA")) _ _ p.spelled in
@@ -82,7 +83,7 @@ zero_shows = hopeless (codes "0") (codes " 8") (bad_number 0 (codes "0") [] (no 
 not_shorter : (x y : List ℕ) → Leaves y x → length y < length x → ⊥
 not_shorter x y l less = omega (arith, less, simp length-append at (ap length l.split))
 
-opened_unfinished : SpellsNothing (HeaderName (codes "HOA") ∷ [])
+opened_unfinished : (most : ℕ) (w : Written) → SpellsAutomaton most (HeaderName (codes "HOA") ∷ []) w → ⊥
 opened_unfinished most w s =
     let rest = later_tokens (HeaderName (codes "HOA")) (HeaderName (codes "HOA")) [] _ s.spelled in
     cc

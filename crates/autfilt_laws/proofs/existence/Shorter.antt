@@ -1,20 +1,21 @@
 -- Each automaton of a text, whole or abandoned, takes at least one byte.
 use Rattle.std.proofs.Common.{ℕ, ◌+◌, ◌-◌, ◌<◌, ◌≤◌, List, [], ◌∷◌, length, map, ap, arith}
+use Rattle.aut_base.specs.declared.limit.TheConstants.{MOST_DEPTH}
 use Rattle.hoa_lexer.specs.Text.{Lexes}
 use Rattle.hoa_lexer.specs.declared.token.Token.{Token}
 use Rattle.hoa_parser.proofs.standing.DeadEnds.{nothing_unfinished}
 use Rattle.hoa_parser.proofs.standing.SomeStanding.{next_less}
 use Rattle.hoa_parser.specs.Grammar.{SpellsAutomaton}
 use Rattle.hoa_parser.specs.Raw.{Written}
-use Rattle.hoa_parser.specs.Standing.{IsAborted, IsWhole, most_depth}
+use Rattle.hoa_parser.specs.Standing.{IsAborted, IsWhole}
 
 lexes_less : (ts : List (Token × ℕ)) (input : List ℕ) (start : ℕ) (rest : List ℕ) → Lexes input start ts rest → length rest ≤ length input
 lexes_less [] input start rest l = omega (arith, ap length l)
 lexes_less (t ∷ ts) input start rest l = omega (arith, next_less input start t.0 t.1 l.0 l.1, lexes_less ts l.0 (start + (length input - length l.0)) rest l.2)
 
-spelled_less : (ts : List (Token × ℕ)) (input : List ℕ) (start : ℕ) (rest : List ℕ) (w : Written) → Lexes input start ts rest → SpellsAutomaton most_depth (map (λ p. p.0) ts) w
+spelled_less : (ts : List (Token × ℕ)) (input : List ℕ) (start : ℕ) (rest : List ℕ) (w : Written) → Lexes input start ts rest → SpellsAutomaton MOST_DEPTH (map (λ p. p.0) ts) w
     → length rest < length input
-spelled_less [] input start rest w l s = absurd (nothing_unfinished most_depth w s)
+spelled_less [] input start rest w l s = absurd (nothing_unfinished MOST_DEPTH w s)
 spelled_less (t ∷ ts) input start rest w l s = omega (arith, next_less input start t.0 t.1 l.0 l.1, lexes_less ts l.0 (start + (length input - length l.0)) rest l.2)
 
 pub whole_less : (start : ℕ) (text : List ℕ) (w : Written) (rest : List ℕ) → IsWhole start text w rest → length rest < length text

@@ -11,7 +11,7 @@ use Rattle.hoa_parser.proofs.standing.Hopeless.{asked_last, held_bytes, hopeless
 use Rattle.hoa_parser.proofs.standing.Needed.{needed_at_end}
 use Rattle.hoa_parser.proofs.standing.OpenEnds.{open_end_asks}
 use Rattle.hoa_parser.specs.Reads.{AskedForLast, IsHopeless}
-use Rattle.hoa_parser.specs.Standing.{EndsOpen, IsBegun, IsMisplaced, IsNoTokenAt}
+use Rattle.hoa_parser.specs.Standing.{IsBegun, IsMisplaced, IsNoTokenAt}
 use Rattle.autfilt_laws.specs.Places.{BadIsShown, CutIsShown, DeepIsShown}
 use Rattle.autfilt_laws.proofs.shown.Ends.{IsClosed, closing}
 use Rattle.autfilt_laws.proofs.shown.NoTokens.{refuses_at}
@@ -66,9 +66,9 @@ deep_is_shown start text h =
       asked_for_token start text h.tokens h.used h.rest h.next_token h.offset h.after h.begun h.next c,
     )
 
-ends_so : (some : Type 0) (rest : List ℕ) → some × IsBlanks rest ⊎ EndsOpen rest → IsBlanks rest ⊎ EndsOpen rest
-ends_so some rest (inl h) = inl h.1
-ends_so some rest (inr h) = inr h
+ends_so : (some blank open : Type 0) → some × blank ⊎ open → blank ⊎ open
+ends_so some blank open (inl h) = inl h.1
+ends_so some blank open (inr h) = inr h
 
 pub cut_is_shown : CutIsShown
 cut_is_shown start text h = record {
@@ -76,5 +76,5 @@ cut_is_shown start text h = record {
   used = h.used;
   rest = h.rest;
   begun = h.begun;
-  holds = record { at_hand = h.rest; split = sym (append-nil h.rest); asks = open_end_asks h.rest (ends_so (h.tokens ≢ []) h.rest h.holds) };
+  holds = record { at_hand = h.rest; split = sym (append-nil h.rest); asks = open_end_asks h.rest (ends_so (h.tokens ≢ []) (IsBlanks h.rest) _ h.holds) };
 }

@@ -69,7 +69,7 @@ alias_named first x w n =
       | inr s ↦ not_token (64 ∷ first ∷ x) (Alias (first ∷ a.seen)) a.rest n (record {
         word = 64 ∷ first ∷ a.seen;
         split = ap (λ v. 64 ∷ first ∷ v) a.split;
-        spells = (rw (w, a.words) refl, refl);
+        spells = ((λ e. cc), rw (w, a.words) refl, refl);
         ends = s;
       })
     ]

@@ -69,7 +69,7 @@ token_examples = record {
     tokens = refl;
     lexes = (
       codes "&",
-      at_front (codes "@x-1") (codes "&") (Alias (codes "x-1")) 0 (refl, refl) refl,
+      at_front (codes "@x-1") (codes "&") (Alias (codes "x-1")) 0 ((λ e. cc), refl, refl) refl,
       ([], at_front (codes "&") [] Amp 4 refl tt, refl),
     );
     blanks = nothing;

@@ -8,7 +8,7 @@ use Rattle.std.proofs.lemmas.List.{append_assoc, length-append}
 use Rattle.hoa_lexer.specs.Blanks.{IsBlanks}
 use Rattle.hoa_lexer.specs.Bytes.{is_digit, is_word}
 use Rattle.hoa_lexer.specs.Laws.{OneNextToken, OneTokenList}
-use Rattle.hoa_lexer.specs.Spelling.{Spells, IsDelimited, StopsAt, IsIdentifier, IsNumeral, IsAliasName, Quotes, value_of}
+use Rattle.hoa_lexer.specs.Spelling.{Spells, IsDelimited, StopsAt, IsIdentifier, IsNumeral, Quotes, value_of}
 use Rattle.aut_base.specs.Strings.Quotes.{nothing, escaped, plain}
 use Rattle.hoa_lexer.specs.Text.{IsFront, IsNext, Lexes}
 use Rattle.hoa_lexer.proofs.spelling.FirstBytes.{token_kind, front_head, no_front}
@@ -142,18 +142,14 @@ one_identifier _ b bs s s' rest rest' name q h k e f u v = absurd (omega arith)
 
 -- aliases
 
-alias_words : (name : List ℕ) → IsAliasName name → list_all is_word name ≡ true
-alias_words [] h = absurd h
-alias_words (b ∷ bs) h = h
-
 one_alias : (u : Token) (b : ℕ) (bs s s' rest rest' name : List ℕ) → 64 ≡ token_kind u → Spells (Alias name) (b ∷ s) → Spells u (b ∷ s') → bs ≡ s ++ rest → bs ≡ s' ++ rest'
     → IsDelimited (Alias name) rest → IsDelimited u rest' → IsSame (Alias name) u rest rest'
 one_alias (Alias name') b bs s s' rest rest' name q h k e f u v =
-    let x : b ∷ s ≡ 64 ∷ name = h.1 in
-    let y : b ∷ s' ≡ 64 ∷ name' = k.1 in
+    let x : b ∷ s ≡ 64 ∷ name = h.2 in
+    let y : b ∷ s' ≡ 64 ∷ name' = k.2 in
     let here : s ≡ name = cc in
     let there : s' ≡ name' = cc in
-    let w = same_run is_word name name' rest rest' (ap (λ z. z ++ rest) (sym here) ∙ sym e ∙ f ∙ ap (λ z. z ++ rest') there) (alias_words name h.0) (alias_words name' k.0) u v in
+    let w = same_run is_word name name' rest rest' (ap (λ z. z ++ rest) (sym here) ∙ sym e ∙ f ∙ ap (λ z. z ++ rest') there) h.1 k.1 u v in
     record { token = ap Alias w.run; after = w.after }
 one_alias _ b bs s s' rest rest' name q h k e f u v = absurd (omega arith)
 

@@ -57,7 +57,7 @@ kind_spelled (Identifier (n ∷ ns)) b bs h = at_head _ _ _ _ h.1 ∙ kind_lette
 kind_spelled (Str text) b bs h = at_head _ _ _ _ h.2
 kind_spelled (Int n) b [] h = kind_digit b h.0
 kind_spelled (Int n) b (c ∷ bs) h = kind_digit b h.0.0
-kind_spelled (Alias name) b bs h = at_head _ _ _ _ h.1
+kind_spelled (Alias name) b bs h = at_head _ _ _ _ h.2
 kind_spelled _ b bs h = at_head _ _ _ _ h
 
 pub spelled_some : (token : Token) → Spells token [] → ⊥
@@ -67,7 +67,7 @@ spelled_some (Identifier []) h = h.0
 spelled_some (Identifier (n ∷ ns)) h = let e = h.1 in cc
 spelled_some (Str text) h = let e = h.2 in cc
 spelled_some (Int n) h = h.0
-spelled_some (Alias name) h = let e = h.1 in cc
+spelled_some (Alias name) h = let e = h.2 in cc
 spelled_some _ h = cc
 
 -- the token at the front begins with the first byte

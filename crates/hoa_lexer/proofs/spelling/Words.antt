@@ -6,7 +6,7 @@ use Rattle.std.proofs.lemmas.List.{append_assoc, append-nil}
 use Rattle.std.proofs.lemmas.List.Folds.{list_all-append}
 use Rattle.hoa_lexer.specs.Bytes.{is_letter, is_word}
 use Rattle.hoa_lexer.specs.Reading.{unread}
-use Rattle.hoa_lexer.specs.Spelling.{Spells, IsDelimited, StopsAt, IsIdentifier, IsAliasName}
+use Rattle.hoa_lexer.specs.Spelling.{Spells, IsDelimited, StopsAt, IsIdentifier}
 use Rattle.hoa_lexer.specs.inner.Steps.{AddsWord, AddsWords, Pauses, ReadsToken, TakesWord}
 use Rattle.hoa_lexer.specs.Text.{HasFront, BeginsToken, IsOpenToken, IsNoToken}
 use Rattle.hoa_lexer.proofs.spelling.Comments.{unheld}
@@ -135,10 +135,6 @@ alias_open seen h f =
     let head = front_head 64 seen f.token f.rest f.front in
     alias_open_at f.token seen head.tail f.rest head.kinds head.spells f.front.ends head.split h
 
-alias_name : (name : List ℕ) → (name ≡ [] → ⊥) → list_all is_word name ≡ true → IsAliasName name
-alias_name [] n h = n refl
-alias_name (b ∷ bs) n h = h
-
 alias_begins : (seen : List ℕ) → list_all is_word seen ≡ true → BeginsToken (64 ∷ seen)
 alias_begins seen h = record {
   more = 97 ∷ 32 ∷ [];
@@ -148,19 +144,19 @@ alias_begins seen h = record {
     front = record {
       word = 64 ∷ (seen ++ 97 ∷ []);
       split = ap (λ v. 64 ∷ v) (sym (append_assoc seen (97 ∷ []) (32 ∷ [])));
-      spells = (alias_name (seen ++ 97 ∷ []) (push_not_empty seen 97) (list_all-push is_word 97 seen h refl), refl);
+      spells = (push_not_empty seen 97, list_all-push is_word 97 seen h refl, refl);
       ends = refl;
     };
   };
 }
 
 no_alias_at : (token : Token) (b : ℕ) (z tail rest : List ℕ) → 64 ≡ token_kind token → Spells token (64 ∷ tail) → b ∷ z ≡ tail ++ rest → is_word b ≡ false → ⊥
-no_alias_at (Alias []) b z tail rest k s p w = s.0
-no_alias_at (Alias (n ∷ ns)) b z [] rest k s p w = (let e = s.1 in cc)
+no_alias_at (Alias []) b z tail rest k s p w = s.0 refl
+no_alias_at (Alias (n ∷ ns)) b z [] rest k s p w = (let e = s.2 in cc)
 no_alias_at (Alias (n ∷ ns)) b z (t ∷ ts) rest k s p w =
-    let e : 64 ∷ t ∷ ts ≡ 64 ∷ n ∷ ns = s.1 in
+    let e : 64 ∷ t ∷ ts ≡ 64 ∷ n ∷ ns = s.2 in
     let same : b ≡ n = cc in
-    false≢true (sym w ∙ ap is_word same ∙ (and_parts (is_word n) (list_all is_word ns) s.0).0)
+    false≢true (sym w ∙ ap is_word same ∙ (and_parts (is_word n) (list_all is_word ns) s.1).0)
 no_alias_at (HeaderName name) b z tail rest k s p w = absurd (omega arith)
 no_alias_at (Identifier name) b z tail rest k s p w = absurd (omega arith)
 no_alias_at (Str text) b z tail rest k s p w = absurd (omega arith)

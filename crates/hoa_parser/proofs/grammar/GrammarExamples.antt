@@ -2,7 +2,7 @@
 use Rattle.std.proofs.Common.{ℕ, true, false, [], ◌∷◌, Some, None, refl, ap, arith}
 use Rattle.std.specs.Prelude.{codes}
 use Rattle.hoa_lexer.specs.declared.token.Token.TheVariants.{HeaderName, Identifier, Int}
-use Rattle.hoa_parser.specs.Grammar.{SpellsAutomaton}
+use Rattle.hoa_parser.specs.Grammar.{IsViable, SpellsAutomaton}
 use Rattle.hoa_parser.specs.Phrases.{AutomatonPhrase, AutomatonWithin, ItemPhrase, StatePhrase, automaton_meaning, automaton_tokens}
 use Rattle.hoa_parser.specs.Phrases.Condition.{condition}
 use Rattle.hoa_parser.specs.Phrases.Fands.{no_fand, or_fand}
@@ -16,7 +16,6 @@ use Rattle.hoa_parser.specs.Phrases.Lnot.{true_label, proposition, alias, negate
 use Rattle.hoa_parser.specs.Phrases.Value.{number_value}
 use Rattle.hoa_parser.specs.GrammarExamples.{GrammarExamples, with_state, state_three}
 use Rattle.hoa_parser.specs.Raw.{Written}
-use Rattle.hoa_parser.specs.Standing.{IsDead}
 use Rattle.hoa_parser.proofs.grammar.NoAbort.{no_abort_inside}
 use Rattle.hoa_parser.proofs.grammar.OneRaw.{one_raw, whole_goes_no_further}
 use Rattle.hoa_parser.proofs.grammar.PhrasesSpell.{automaton_spelled}
@@ -47,7 +46,7 @@ three = record {
 spells_three : SpellsAutomaton 1 (with_state state_three) (automaton_meaning (one_state three))
 spells_three = by_phrase 1 (one_state three) (tt, ((((omega arith, tt), tt, tt), (tt, ((tt, tt, tt), tt))), tt))
 
-no_opening : IsDead (Int 0 ∷ [])
+no_opening : (m : ℕ) → IsViable m (Int 0 ∷ []) → ⊥
 no_opening m v =
     let p = v.spelled in
     let opening = first_token (Int 0) (HeaderName (codes "HOA")) _ _ p.spelled in

@@ -6,12 +6,13 @@ use Rattle.std.specs.Option.{option_map}
 use Rattle.std.proofs.Math.Path.{ap₂}
 use Rattle.std.proofs.lemmas.List.{append_assoc, append-nil}
 use Rattle.aut_base.specs.Chains.{IsFactor, AreFactors, AreProducts, IsSum, atom, negated, group, factor, factors, product, products, sum}
-use Rattle.aut_base.specs.Formula.{FormulaTree}
+use Rattle.aut_base.specs.Formula.{FormulaTree, and_of, some_of}
 use Rattle.hoa_lexer.specs.declared.token.Token.{Token}
 use Rattle.hoa_lexer.specs.declared.token.Token.TheVariants as token
+use Rattle.hoa_parser.proofs.grammar.HeaderNames.{unknown}
 use Rattle.hoa_parser.specs.Grammar as grammar
-use Rattle.hoa_parser.specs.Grammar.{AreMarks, Each, IsConditionAtom, IsEdge, IsItem, IsLabelAtom, IsOptionalLabel, IsState, SpellsAutomaton, and_number, conditions, formula_all}
-use Rattle.hoa_parser.specs.Grammar.{formula_any, is_value, labels, optional_text}
+use Rattle.hoa_parser.specs.Grammar.{AreMarks, Each, IsConditionAtom, IsEdge, IsItem, IsLabelAtom, IsOptionalLabel, IsState, SpellsAutomaton, and_number, conditions}
+use Rattle.hoa_parser.specs.Grammar.{is_value, labels, optional_text}
 use Rattle.hoa_parser.specs.Phrases as phrase
 use Rattle.hoa_parser.specs.Phrases.{AccValue, Condition, ConditionWithin, EdgePhrase, Fands, Fatom, FatomWithin, Fatoms, FatomsWithin, FandsWithin}
 use Rattle.hoa_parser.specs.Phrases.{ItemWithin, Label, LabelWithin, Lands, LandsWithin, Lnot, LnotWithin, Lnots, LnotsWithin, OptionalWithin}
@@ -23,7 +24,7 @@ use Rattle.hoa_parser.specs.Phrases.{state_tokens, value_token}
 use Rattle.hoa_parser.specs.Raw as raw
 use Rattle.hoa_parser.specs.Raw.{RawTree, Written, WrittenEdge, WrittenItem, WrittenState, raw_all, raw_any}
 use Rattle.hoa_parser.proofs.grammar.JoinedParts.{ap₃}
-use Rattle.hoa_parser.proofs.grammar.PhrasesSpell.{all_first, any_first, formula_all_first, formula_any_first}
+use Rattle.hoa_parser.proofs.grammar.PhrasesSpell.{all_first, any_first, and_of_first, some_of_first}
 
 -- a phrase with these tokens and this meaning
 record Has {P X : Type 0} (W : P → Type 0) (tokens : P → List Token) (meaning : P → X) (w : List Token) (x : X) : Type 0 where
@@ -222,8 +223,8 @@ mutual
         phrase = record { first = h.phrase.first; factors = h.phrase.others; others = phrase.no_fand };
         within = λ most depth e. ((h.within most depth e).0, (h.within most depth e).1, tt);
         spelled = h.spelled ∙ ap (λ (x : List Token). fatom_tokens h.phrase.first ++ x) (sym (append-nil (fatoms_tokens h.phrase.others)));
-        means = ap (λ (us : List FormulaTree). formula_all us ∷ []) h.means
-            ∙ ap (λ (u : FormulaTree). u ∷ []) (formula_all_first (fatom_meaning h.phrase.first) (fatoms_meaning h.phrase.others));
+        means = ap (λ (us : List FormulaTree). and_of us ∷ []) h.means
+            ∙ ap (λ (u : FormulaTree). u ∷ []) (and_of_first (fatom_meaning h.phrase.first) (fatoms_meaning h.phrase.others));
       }
   formula_sum_phrase room _ _ (products {v = v} {w = w} {ts = ts} {us = us} fs ps) =
       let h = fand_phrase room v ts fs in
@@ -234,7 +235,7 @@ mutual
         spelled = ap₂ (λ (x y : List Token). x ++ token.Bar ∷ y) h.spelled k.spelled
             ∙ append_assoc (fatom_tokens h.phrase.first) (fatoms_tokens h.phrase.others) (token.Bar ∷ formula_sum_tokens k.phrase);
         means = ap₂ (λ (x : FormulaTree) (y : List FormulaTree). x ∷ y)
-            (ap formula_all h.means ∙ formula_all_first (fatom_meaning h.phrase.first) (fatoms_meaning h.phrase.others)) k.means;
+            (ap and_of h.means ∙ and_of_first (fatom_meaning h.phrase.first) (fatoms_meaning h.phrase.others)) k.means;
       }
 
   condition_phrase : (room : ℕ) (w : List Token) (t : FormulaTree) → IsSum conditions room w t → Has (ConditionFits room) condition_tokens condition_meaning w t
@@ -244,7 +245,7 @@ mutual
         phrase = phrase.condition h.phrase.first h.phrase.factors h.phrase.others;
         within = h.within;
         spelled = h.spelled;
-        means = ap formula_any h.means ∙ formula_any_first (formula_conjunction (fatom_meaning h.phrase.first) (fatoms_meaning h.phrase.factors)) (fands_meaning h.phrase.others);
+        means = ap some_of h.means ∙ some_of_first (formula_conjunction (fatom_meaning h.phrase.first) (fatoms_meaning h.phrase.factors)) (fands_meaning h.phrase.others);
       }
 
 -- the parts of an automaton
@@ -327,7 +328,7 @@ item_phrase most _ _ (grammar.name_item text) = record { phrase = phrase.name_it
 item_phrase most _ _ (grammar.properties_item words) = record { phrase = phrase.properties_item words; within = tt; spelled = refl; means = refl }
 item_phrase most _ _ (grammar.other_item name values is are) =
     let h = all_values values are in
-    record { phrase = phrase.other_item name is h.0; within = tt; spelled = ap (λ (ts : List Token). token.HeaderName name ∷ ts) h.1; means = refl }
+    record { phrase = phrase.other_item name ((unknown name).0 is) h.0; within = tt; spelled = ap (λ (ts : List Token). token.HeaderName name ∷ ts) h.1; means = refl }
 
 optional_phrase : (most : ℕ) (w : List Token) (t : Option RawTree) → IsOptionalLabel most w t → Has (OptionalWithin most) optional_label (option_map label_meaning) w t
 optional_phrase most _ _ grammar.no_label = record { phrase = None; within = tt; spelled = refl; means = refl }

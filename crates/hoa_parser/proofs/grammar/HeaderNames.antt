@@ -1,10 +1,13 @@
 -- The names that headers have.
-use Rattle.std.proofs.Common.{◌≡◌, ℕ, true, List, refl}
+use Rattle.std.proofs.Common.{◌≡◌, ◌≢◌, ◌↔◌, ◌||◌, ℕ, Bool, true, false, cond, List, refl, sym}
 use Rattle.std.specs.Prelude.{codes}
+use Rattle.std.specs.List.{list_any}
+use Rattle.std.proofs.lemmas.Bool.{false≢true}
 use Rattle.std.proofs.lemmas.Bool.Decides.{Decides-eqb}
 use Rattle.std.proofs.lemmas.Slice.Eq.{slice_eq-Decides}
-use Rattle.hoa_parser.specs.Grammar.{header_of}
 use Rattle.aut_base.specs.Text.{same_text}
+use Rattle.hoa_parser.specs.Grammar.{known_headers}
+use Rattle.hoa_parser.specs.Headers.{header_of}
 use Rattle.hoa_parser.specs.declared.header.Header.{Header}
 use Rattle.hoa_parser.specs.declared.header.Header.TheVariants as header
 use Rattle.aut_base.proofs.numbers.Truth.{cond_either}
@@ -41,3 +44,23 @@ named name =
     (cond_either P (same_text name (codes "properties")) header.Properties _ (same name (codes "properties"))
     (cond_either P (same_text name (codes "HOA")) header.Opening _ (same name (codes "HOA"))
     (cond_either P (same_text name (codes "State")) header.State header.Other (same name (codes "State")) tt))))))))))
+
+-- A name is asked for, and then others: it is none of them exactly where what is said is that of another name.
+one_more : (is others : Bool) (said more : Header) → said ≢ header.Other → (others ≡ false ↔ more ≡ header.Other) → ((is || others) ≡ false ↔ cond is said more ≡ header.Other)
+one_more true others said more known rest = ((λ e. absurd (false≢true (sym e))), (λ e. absurd (known e)))
+one_more false others said more known rest = rest
+
+-- A name is that of another header exactly where it is none of those that are known.
+pub unknown : (name : List ℕ) → list_any (same_text name) known_headers ≡ false ↔ header_of name ≡ header.Other
+unknown name =
+    one_more (same_text name (codes "States")) _ header.States _ (λ e. cc)
+    (one_more (same_text name (codes "Start")) _ header.Start _ (λ e. cc)
+    (one_more (same_text name (codes "AP")) _ header.Ap _ (λ e. cc)
+    (one_more (same_text name (codes "Alias")) _ header.Alias _ (λ e. cc)
+    (one_more (same_text name (codes "Acceptance")) _ header.Acceptance _ (λ e. cc)
+    (one_more (same_text name (codes "acc-name")) _ header.AccName _ (λ e. cc)
+    (one_more (same_text name (codes "tool")) _ header.Tool _ (λ e. cc)
+    (one_more (same_text name (codes "name")) _ header.Name _ (λ e. cc)
+    (one_more (same_text name (codes "properties")) _ header.Properties _ (λ e. cc)
+    (one_more (same_text name (codes "HOA")) _ header.Opening _ (λ e. cc)
+    (one_more (same_text name (codes "State")) false header.State header.Other (λ e. cc) ((λ e. refl), (λ e. refl))))))))))))

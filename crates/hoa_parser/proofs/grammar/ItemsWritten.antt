@@ -7,7 +7,6 @@ use Rattle.hoa_lexer.specs.declared.token.Token.TheVariants as token
 use Rattle.hoa_parser.specs.inner.Expecting as part
 use Rattle.hoa_parser.specs.inner.Expecting.{Takes, header_move, move}
 use Rattle.hoa_parser.specs.Phrases.{label, condition}
-use Rattle.hoa_parser.specs.Grammar.{header_of}
 use Rattle.hoa_parser.specs.Phrases.{ItemPhrase, states_item, start_item}
 use Rattle.hoa_parser.specs.Phrases.{names_item, alias_item, acceptance_item, acc_name_item, tool_item, name_item, properties_item, other_item}
 use Rattle.hoa_parser.specs.Phrases.{item_tokens, ItemWithin}
@@ -16,6 +15,7 @@ use Rattle.hoa_parser.specs.declared.header.Header.TheVariants as header
 use Rattle.hoa_parser.proofs.grammar.PartsWritten.{Fills, Derives, rest_tokens}
 use Rattle.hoa_parser.proofs.grammar.LabelsWritten.{Writes, joined, single, has_label, has_condition}
 use Rattle.hoa_parser.proofs.grammar.HeaderNames.{IsNamed, named}
+use Rattle.hoa_parser.specs.Headers.{header_of}
 
 -- an item before others
 item_within : {most : ℕ} (i : ItemPhrase) {name known : List ℕ} {values u w : List Token} → name ≡ known → item_tokens i ≡ token.HeaderName known ∷ values → ItemWithin most i → u ≡ values ++ w

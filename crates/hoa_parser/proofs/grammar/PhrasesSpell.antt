@@ -3,10 +3,11 @@ use Rattle.std.proofs.Common.{◌≡◌, ℕ, zero, suc, ◌+◌, true, false, L
 use Rattle.std.specs.List.{AllByRecursion, list_all}
 use Rattle.std.proofs.lemmas.List.{append_assoc, append-nil}
 use Rattle.aut_base.specs.Chains.{Chains, IsFactor, AreFactors, AreProducts, IsSum, atom, negated, group, factor, factors, product, products, sum}
-use Rattle.aut_base.specs.Formula.{FormulaTree}
+use Rattle.aut_base.specs.Formula.{FormulaTree, and_of, some_of}
 use Rattle.hoa_lexer.specs.declared.token.Token.{Token}
+use Rattle.hoa_parser.proofs.grammar.HeaderNames.{unknown}
 use Rattle.hoa_parser.specs.Grammar as grammar
-use Rattle.hoa_parser.specs.Grammar.{AreMarks, Each, IsEdge, IsItem, IsOptionalLabel, IsState, SpellsAutomaton, conditions, formula_all, formula_any, is_value, labels}
+use Rattle.hoa_parser.specs.Grammar.{AreMarks, Each, IsEdge, IsItem, IsOptionalLabel, IsState, SpellsAutomaton, conditions, is_value, labels}
 use Rattle.hoa_parser.specs.Phrases as phrase
 use Rattle.hoa_parser.specs.Phrases.{AccValue, AutomatonPhrase, AutomatonWithin, Condition, ConditionWithin, EdgePhrase, Fands, FandsWithin, Fatom, FatomWithin}
 use Rattle.hoa_parser.specs.Phrases.{Fatoms, FatomsWithin, ItemPhrase, ItemWithin, Label, LabelWithin, Lands, LandsWithin, Lnot, LnotWithin, Lnots, LnotsWithin}
@@ -28,13 +29,13 @@ pub any_first : (t : RawTree) (ts : List RawTree) → raw_any (t ∷ ts) ≡ dis
 any_first t [] = refl
 any_first t (u ∷ us) = refl
 
-pub formula_all_first : (t : FormulaTree) (ts : List FormulaTree) → formula_all (t ∷ ts) ≡ formula_conjunction t ts
-formula_all_first t [] = refl
-formula_all_first t (u ∷ us) = refl
+pub and_of_first : (t : FormulaTree) (ts : List FormulaTree) → and_of (t ∷ ts) ≡ formula_conjunction t ts
+and_of_first t [] = refl
+and_of_first t (u ∷ us) = refl
 
-pub formula_any_first : (t : FormulaTree) (ts : List FormulaTree) → formula_any (t ∷ ts) ≡ formula_disjunction t ts
-formula_any_first t [] = refl
-formula_any_first t (u ∷ us) = refl
+pub some_of_first : (t : FormulaTree) (ts : List FormulaTree) → some_of (t ∷ ts) ≡ formula_disjunction t ts
+some_of_first t [] = refl
+some_of_first t (u ∷ us) = refl
 
 products_same : {T : Type 0} (g : Chains Token T) (room : ℕ) {v w : List Token} {ts us : List T} → v ≡ w → ts ≡ us → AreProducts g room v ts → AreProducts g room w us
 products_same {T} g room {v} {w} {ts} {us} p q h = subst (λ (x : List Token). AreProducts g room x us) p (subst (λ (y : List T). AreProducts g room v y) q h)
@@ -86,18 +87,18 @@ mutual
       let front = fatoms_factors most depth room fs (fatom_tokens f) (fatom_meaning f) e (fatom_factor most depth room f e w.0) w.1 in
       let whole = fands_products most depth room ls (fatom_tokens f ++ fatoms_tokens fs) (fatom_meaning f ∷ fatoms_meaning fs) e front w.2 in
       sum_same conditions room (append_assoc (fatom_tokens f) (fatoms_tokens fs) (fands_tokens ls))
-      (formula_any_first (formula_all (fatom_meaning f ∷ fatoms_meaning fs)) (fands_meaning ls)
-      ∙ ap (λ (t : FormulaTree). formula_disjunction t (fands_meaning ls)) (formula_all_first (fatom_meaning f) (fatoms_meaning fs)))
+      (some_of_first (and_of (fatom_meaning f ∷ fatoms_meaning fs)) (fands_meaning ls)
+      ∙ ap (λ (t : FormulaTree). formula_disjunction t (fands_meaning ls)) (and_of_first (fatom_meaning f) (fatoms_meaning fs)))
       (sum whole)
 
   fands_products : (most depth room : ℕ) (ls : Fands) (v : List Token) (ts : List FormulaTree) → depth + room ≡ most → AreFactors conditions room v ts → FandsWithin most depth ls
-      → AreProducts conditions room (v ++ fands_tokens ls) (formula_all ts ∷ fands_meaning ls)
+      → AreProducts conditions room (v ++ fands_tokens ls) (and_of ts ∷ fands_meaning ls)
   fands_products most depth room phrase.no_fand v ts e h w = products_same conditions room (sym (append-nil v)) refl (product h)
   fands_products most depth room (phrase.or_fand f fs ls) v ts e h w =
       let front = fatoms_factors most depth room fs (fatom_tokens f) (fatom_meaning f) e (fatom_factor most depth room f e w.0) w.1 in
       let rest = fands_products most depth room ls (fatom_tokens f ++ fatoms_tokens fs) (fatom_meaning f ∷ fatoms_meaning fs) e front w.2 in
       products h (products_same conditions room (append_assoc (fatom_tokens f) (fatoms_tokens fs) (fands_tokens ls))
-      (ap (λ (t : FormulaTree). t ∷ fands_meaning ls) (formula_all_first (fatom_meaning f) (fatoms_meaning fs))) rest)
+      (ap (λ (t : FormulaTree). t ∷ fands_meaning ls) (and_of_first (fatom_meaning f) (fatoms_meaning fs))) rest)
 
   fatoms_factors : (most depth room : ℕ) (fs : Fatoms) (v : List Token) (t : FormulaTree) → depth + room ≡ most → IsFactor conditions room v t → FatomsWithin most depth fs
       → AreFactors conditions room (v ++ fatoms_tokens fs) (t ∷ fatoms_meaning fs)
@@ -141,7 +142,7 @@ item_spells most (phrase.acc_name_item word values) w = grammar.acc_name_item wo
 item_spells most (phrase.tool_item text other) w = grammar.tool_item text other
 item_spells most (phrase.name_item text) w = grammar.name_item text
 item_spells most (phrase.properties_item words) w = grammar.properties_item words
-item_spells most (phrase.other_item name is values) w = grammar.other_item name (map value_token values) is (values_are values)
+item_spells most (phrase.other_item name is values) w = grammar.other_item name (map value_token values) ((unknown name).1 is) (values_are values)
 
 optional_spells : (most : ℕ) (l : Option Label) → OptionalWithin most l → IsOptionalLabel most (optional_label l) (option_map label_meaning l)
 optional_spells most None w = grammar.no_label

@@ -5,7 +5,7 @@ use Rattle.std.proofs.lemmas.List.{map-id}
 use Rattle.hoa_lexer.specs.declared.token.Token.{Token}
 use Rattle.hoa_lexer.specs.declared.token.Token.TheVariants.{HeaderName, Identifier, Str, Int, Alias, Amp, Body}
 use Rattle.hoa_parser.specs.Raw as raw
-use Rattle.hoa_parser.specs.Grammar.{and_number, header_of, optional_text}
+use Rattle.hoa_parser.specs.Grammar.{and_number, optional_text}
 use Rattle.hoa_parser.specs.Phrases.{AccValue, Conj, ItemPhrase, Value, acc_value_token, condition_tokens, conj_meaning, conj_tokens}
 use Rattle.hoa_parser.specs.Phrases.{item_meaning, item_tokens, label_tokens, value_token}
 use Rattle.hoa_parser.specs.Phrases.AccValue.{acc_number, acc_word}
@@ -17,6 +17,7 @@ use Rattle.hoa_parser.proofs.grammar.ClearPhrases.{Begins, IsClear, map_clear}
 use Rattle.hoa_parser.proofs.grammar.SameConditions.{same_condition}
 use Rattle.hoa_parser.proofs.grammar.SameLabels.{same_label}
 use Rattle.hoa_parser.proofs.grammar.Stops.{Stops, IsSame, is_amp, is_join, stops_not, first_token, later_tokens}
+use Rattle.hoa_parser.specs.Headers.{header_of}
 
 abbrev pub is_header : Token → Bool
 is_header (HeaderName name) = true

@@ -7,7 +7,7 @@ use Rattle.hoa_lexer.specs.declared.token.Token.{Token}
 use Rattle.hoa_lexer.specs.declared.token.Token.TheVariants as token
 use Rattle.hoa_parser.specs.inner.Expecting as part
 use Rattle.hoa_parser.specs.inner.Expecting.{Part, Takes, if_header, move}
-use Rattle.hoa_parser.specs.Grammar.{and_number, optional_text, header_of}
+use Rattle.hoa_parser.specs.Grammar.{and_number, optional_text}
 use Rattle.hoa_parser.specs.Phrases.{Label, label, label_tokens, optional_label, OptionalWithin, optional_marks}
 use Rattle.hoa_parser.specs.Phrases.{EdgePhrase, edge_tokens, StatePhrase, state_tokens, body_tokens}
 use Rattle.hoa_parser.specs.declared.header.Header.{Header}
@@ -15,6 +15,7 @@ use Rattle.hoa_parser.specs.declared.header.Header.TheVariants as header
 use Rattle.hoa_parser.proofs.grammar.PartsWritten.{Derives, rest_tokens}
 use Rattle.hoa_parser.proofs.grammar.LabelsWritten.{Writes, joined, single, has_label}
 use Rattle.hoa_parser.proofs.grammar.HeaderNames.{IsNamed, named}
+use Rattle.hoa_parser.specs.Headers.{header_of}
 
 -- what is written behind the number that an edge leads to
 record HasGoal (most : ℕ) (u : List Token) : Type 0 where

@@ -4,6 +4,7 @@ use Rattle.std.specs.Prelude.{nat_le}
 use Rattle.std.proofs.lemmas.Bool.{false≢true}
 use Rattle.std.proofs.lemmas.List.{append_assoc}
 use Rattle.std.proofs.lemmas.List.Concat.{flat_map-append}
+use Rattle.aut_base.specs.declared.limit.TheConstants.{MOST_DEPTH}
 use Rattle.hoa_lexer.specs.declared.token.Token.{Token}
 use Rattle.hoa_lexer.specs.declared.token.Token.TheVariants as token
 use Rattle.hoa_parser.proofs.reading.FrontParts.{passed_then, spelled_more}
@@ -12,7 +13,6 @@ use Rattle.hoa_parser.specs.Grammar.{and_number, is_value}
 use Rattle.hoa_parser.specs.Phrases.{acc_number, acc_word, number_value, text_value, word_value}
 use Rattle.hoa_parser.proofs.reading.Steps.{fails_after, reads_as, reads_then, takes, takes_last}
 use Rattle.hoa_parser.specs.inner.Parsing.{Advanced, Cursor, FailsAt, Passed, ReadsTo, State, Unadvanced, is_end}
-use Rattle.hoa_parser.specs.Standing.{most_depth}
 use Rattle.hoa_parser.specs.declared.fault.ReadFault.{ReadFault}
 use Rattle.hoa_parser.specs.inner.RuleReads.{AddsMarks, AddsNumbers, AreMarks, IsConj, IsIntToken, token_of, values_part}
 
@@ -26,7 +26,7 @@ pub record IsOneOf {V : Type 0} (part : Part) (spelled : V → Token) (z : Token
   pub is : z ≡ spelled value
   pub taken : move part z ≡ Takes (part ∷ [])
   pub unended : is_end z ≡ false
-  pub room : nat_le (open_at (part ∷ [])) most_depth ≡ true
+  pub room : nat_le (open_at (part ∷ [])) MOST_DEPTH ≡ true
 
 -- it was taken, or it is what the reading ends at
 pub one_spelled : {V : Type 0} {part : Part} {spelled : V → Token} {s m s' : State} → IsOneOf part spelled m.ahead → ReadsTo (part ∷ []) (part ∷ []) (AreSpelled spelled) s m → Advanced m s'

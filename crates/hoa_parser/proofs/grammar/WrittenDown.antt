@@ -12,7 +12,6 @@ use Rattle.hoa_parser.specs.Phrases.ItemPhrase.{states_item, start_item, names_i
 use Rattle.hoa_parser.specs.GrammarLaws.{CanBeWrittenDown}
 use Rattle.hoa_parser.specs.Raw as raw
 use Rattle.hoa_parser.specs.Raw.{RawTree, Written}
-use Rattle.hoa_parser.specs.Standing.{most_depth}
 use Rattle.hoa_parser.specs.StandingLaws.{WrittenDownIsRead}
 use Rattle.hoa_parser.specs.WrittenDown as down
 use Rattle.hoa_parser.specs.WrittenDown.{bracketed, marks_tokens, written_conj, written_tokens}
@@ -24,6 +23,7 @@ use Rattle.hoa_parser.proofs.grammar.PlainDepths.{plain_within}
 use Rattle.hoa_parser.proofs.grammar.PlainLabels.{plain_label, label_spells, label_means}
 use Rattle.aut_base.proofs.lists.AllByRecursion.{AllByRecursion-map_within}
 use Rattle.aut_base.proofs.lists.Lists.{map-map_same}
+use Rattle.aut_base.specs.declared.limit.TheConstants.{MOST_DEPTH}
 
 -- the phrase that is written down of a phrase
 abbrev plain_item : ItemPhrase → ItemPhrase
@@ -183,6 +183,6 @@ written_down_is_read ts w text s apart =
       record {
         placed = read.placed;
         lexes = read.lexes;
-        spells = subst (λ (us : List Token). SpellsAutomaton most_depth us w) (sym read.tokens) (can_be_written_down most_depth ts w s);
+        spells = subst (λ (us : List Token). SpellsAutomaton MOST_DEPTH us w) (sym read.tokens) (can_be_written_down MOST_DEPTH ts w s);
       },
     )

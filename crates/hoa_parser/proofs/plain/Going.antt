@@ -1,5 +1,6 @@
 -- An edge that was passed leads on to what begins behind it, and so does a state up to its edges.
 use Rattle.std.proofs.Common.{◌≡◌, ℕ, List, [], ◌∷◌, ◌++◌, map, Option, Some, None, refl, sym, subst, ◌∙◌, arith}
+use Rattle.aut_base.specs.declared.limit.TheConstants.{MOST_DEPTH}
 use Rattle.hoa_lexer.specs.declared.token.Token.{Token}
 use Rattle.hoa_lexer.specs.declared.token.Token.TheVariants as token
 use Rattle.hoa_parser.specs.Phrases.{Label, Lands, Lnot, Lnots, LabelWithin, label, no_land, or_land, no_lnot, and_lnot, true_label, false_label, proposition, alias, negated, group}
@@ -10,7 +11,6 @@ use Rattle.hoa_parser.specs.inner.AtHand.{next_token}
 use Rattle.hoa_parser.specs.inner.Expecting.{Part, Number, MoreNumbers, ClosingBracket, MaybeLabel, MaybeMarks, MaybeQuoted, Marks, Edges, States}
 use Rattle.hoa_parser.specs.inner.Expecting.{parts_after, parts_behind, conj_parts, expected_label}
 use Rattle.hoa_parser.specs.inner.Parsing.{Cursor, PassesTokens, Passed, Unended}
-use Rattle.hoa_parser.specs.Standing.{most_depth}
 use Rattle.hoa_parser.proofs.grammar.AfterLabels.{taken, left, regrouped, label_follows}
 use Rattle.hoa_parser.proofs.reading.Bodies.{state_name, state_rest}
 use Rattle.hoa_parser.proofs.reading.FrontParts.{unended_then}
@@ -52,31 +52,31 @@ abbrev behind_marks : Option (List ℕ) → List Part
 behind_marks None = MoreNumbers ∷ MaybeMarks ∷ Edges ∷ []
 behind_marks (Some marks) = Edges ∷ []
 
-marks_go : (ns : List ℕ) (others : List Part) → parts_after most_depth (Marks ∷ others) (map token.Int ns ++ token.RightBrace ∷ []) ≡ Some others
-marks_go [] others = taken most_depth Marks [] others token.RightBrace [] refl (omega arith)
-marks_go (n ∷ ns) others = taken most_depth Marks (Marks ∷ []) others (token.Int n) (map token.Int ns ++ token.RightBrace ∷ []) refl (omega arith) ∙ marks_go ns others
+marks_go : (ns : List ℕ) (others : List Part) → parts_after MOST_DEPTH (Marks ∷ others) (map token.Int ns ++ token.RightBrace ∷ []) ≡ Some others
+marks_go [] others = taken MOST_DEPTH Marks [] others token.RightBrace [] refl (omega arith)
+marks_go (n ∷ ns) others = taken MOST_DEPTH Marks (Marks ∷ []) others (token.Int n) (map token.Int ns ++ token.RightBrace ∷ []) refl (omega arith) ∙ marks_go ns others
 
-goal_goes : (marks : Option (List ℕ)) (others : List Part) → parts_after most_depth (MoreNumbers ∷ MaybeMarks ∷ Edges ∷ others) (optional_marks marks) ≡ Some (behind_marks marks ++ others)
+goal_goes : (marks : Option (List ℕ)) (others : List Part) → parts_after MOST_DEPTH (MoreNumbers ∷ MaybeMarks ∷ Edges ∷ others) (optional_marks marks) ≡ Some (behind_marks marks ++ others)
 goal_goes None others = refl
 goal_goes (Some marks) others =
-    left most_depth MoreNumbers (MaybeMarks ∷ Edges ∷ others) (optional_marks (Some marks)) refl
-    ∙ taken most_depth MaybeMarks (Marks ∷ []) (Edges ∷ others) token.LeftBrace (map token.Int marks ++ token.RightBrace ∷ []) refl (omega arith)
+    left MOST_DEPTH MoreNumbers (MaybeMarks ∷ Edges ∷ others) (optional_marks (Some marks)) refl
+    ∙ taken MOST_DEPTH MaybeMarks (Marks ∷ []) (Edges ∷ others) token.LeftBrace (map token.Int marks ++ token.RightBrace ∷ []) refl (omega arith)
     ∙ marks_go marks (Edges ∷ others)
 
 -- the tokens of an edge with a label and one goal
 abbrev pub plain_tokens : Label → ℕ → Option (List ℕ) → List Token
 plain_tokens l n marks = optional_label (Some l) ++ (token.Int n ∷ optional_marks marks)
 
-leads_edge : (l : Label) (n : ℕ) (marks : Option (List ℕ)) (others : List Part) → LabelWithin most_depth 0 l
-    → parts_after most_depth (Edges ∷ others) (plain_tokens l n marks) ≡ Some (behind_marks marks ++ others)
+leads_edge : (l : Label) (n : ℕ) (marks : Option (List ℕ)) (others : List Part) → LabelWithin MOST_DEPTH 0 l
+    → parts_after MOST_DEPTH (Edges ∷ others) (plain_tokens l n marks) ≡ Some (behind_marks marks ++ others)
 leads_edge l n marks others w =
     let c : List Token = token.Int n ∷ optional_marks marks in
     let parts : List Part = conj_parts ++ MaybeMarks ∷ Edges ∷ others in
-    taken most_depth Edges (expected_label 0 ++ ClosingBracket ∷ (conj_parts ++ MaybeMarks ∷ Edges ∷ [])) others token.LeftBracket ((label_tokens l ++ token.RightBracket ∷ []) ++ c) refl (omega arith)
-    ∙ regrouped most_depth (expected_label 0 ++ ClosingBracket ∷ parts) (label_tokens l) (token.RightBracket ∷ []) c
-    ∙ label_follows most_depth 0 l (ClosingBracket ∷ parts) (token.RightBracket ∷ c) (omega arith) w refl refl
-    ∙ taken most_depth ClosingBracket [] parts token.RightBracket c refl (omega arith)
-    ∙ taken most_depth Number [] (MoreNumbers ∷ MaybeMarks ∷ Edges ∷ others) (token.Int n) (optional_marks marks) refl (omega arith)
+    taken MOST_DEPTH Edges (expected_label 0 ++ ClosingBracket ∷ (conj_parts ++ MaybeMarks ∷ Edges ∷ [])) others token.LeftBracket ((label_tokens l ++ token.RightBracket ∷ []) ++ c) refl (omega arith)
+    ∙ regrouped MOST_DEPTH (expected_label 0 ++ ClosingBracket ∷ parts) (label_tokens l) (token.RightBracket ∷ []) c
+    ∙ label_follows MOST_DEPTH 0 l (ClosingBracket ∷ parts) (token.RightBracket ∷ c) (omega arith) w refl refl
+    ∙ taken MOST_DEPTH ClosingBracket [] parts token.RightBracket c refl (omega arith)
+    ∙ taken MOST_DEPTH Number [] (MoreNumbers ∷ MaybeMarks ∷ Edges ∷ others) (token.Int n) (optional_marks marks) refl (omega arith)
     ∙ goal_goes marks others
 
 over_marks : (n : Next) (marks : Option (List ℕ)) (z : Token) (most : ℕ) (others : List Part) → z ≡ next_token n
@@ -86,7 +86,7 @@ over_marks next.State None z most others e = subst (λ (t : Token). parts_behind
 over_marks n (Some marks) z most others e = refl
 
 -- An edge with a label was passed, and what begins behind it is at hand.
-pub edge_goes : (k : Next) (l : Label) (n : ℕ) (marks : Option (List ℕ)) (a b : Cursor) → LabelWithin most_depth 0 l → Passed a (plain_tokens l n marks) b → b.token ≡ next_token k
+pub edge_goes : (k : Next) (l : Label) (n : ℕ) (marks : Option (List ℕ)) (a b : Cursor) → LabelWithin MOST_DEPTH 0 l → Passed a (plain_tokens l n marks) b → b.token ≡ next_token k
     → PassesTokens (Edges ∷ []) a (Edges ∷ []) b
 edge_goes k l n marks a b w passed at = record {
   tokens = plain_tokens l n marks;
@@ -103,24 +103,24 @@ abbrev behind_head : Option (List ℕ) → List Part
 behind_head None = MaybeQuoted ∷ MaybeMarks ∷ Edges ∷ States ∷ []
 behind_head (Some marks) = Edges ∷ States ∷ []
 
-number_goes : (marks : Option (List ℕ)) (others : List Part) → parts_after most_depth (MaybeQuoted ∷ MaybeMarks ∷ Edges ∷ States ∷ others) (optional_marks marks) ≡ Some (behind_head marks ++ others)
+number_goes : (marks : Option (List ℕ)) (others : List Part) → parts_after MOST_DEPTH (MaybeQuoted ∷ MaybeMarks ∷ Edges ∷ States ∷ others) (optional_marks marks) ≡ Some (behind_head marks ++ others)
 number_goes None others = refl
 number_goes (Some marks) others =
-    left most_depth MaybeQuoted (MaybeMarks ∷ Edges ∷ States ∷ others) (optional_marks (Some marks)) refl
-    ∙ taken most_depth MaybeMarks (Marks ∷ []) (Edges ∷ States ∷ others) token.LeftBrace (map token.Int marks ++ token.RightBrace ∷ []) refl (omega arith)
+    left MOST_DEPTH MaybeQuoted (MaybeMarks ∷ Edges ∷ States ∷ others) (optional_marks (Some marks)) refl
+    ∙ taken MOST_DEPTH MaybeMarks (Marks ∷ []) (Edges ∷ States ∷ others) token.LeftBrace (map token.Int marks ++ token.RightBrace ∷ []) refl (omega arith)
     ∙ marks_go marks (Edges ∷ States ∷ others)
 
 -- the tokens of a state without a label, up to its edges
 abbrev pub plain_head_tokens : ℕ → Option (List ℕ) → List Token
 plain_head_tokens n marks = state_name ∷ token.Int n ∷ optional_marks marks
 
-leads_head : (n : ℕ) (marks : Option (List ℕ)) (others : List Part) → parts_after most_depth (States ∷ others) (plain_head_tokens n marks) ≡ Some (behind_head marks ++ others)
+leads_head : (n : ℕ) (marks : Option (List ℕ)) (others : List Part) → parts_after MOST_DEPTH (States ∷ others) (plain_head_tokens n marks) ≡ Some (behind_head marks ++ others)
 leads_head n marks others =
     let c : List Token = token.Int n ∷ optional_marks marks in
     let parts : List Part = Number ∷ MaybeQuoted ∷ MaybeMarks ∷ Edges ∷ States ∷ others in
-    taken most_depth States state_rest others state_name c refl (omega arith)
-    ∙ left most_depth MaybeLabel parts c refl
-    ∙ taken most_depth Number [] (MaybeQuoted ∷ MaybeMarks ∷ Edges ∷ States ∷ others) (token.Int n) (optional_marks marks) refl (omega arith)
+    taken MOST_DEPTH States state_rest others state_name c refl (omega arith)
+    ∙ left MOST_DEPTH MaybeLabel parts c refl
+    ∙ taken MOST_DEPTH Number [] (MaybeQuoted ∷ MaybeMarks ∷ Edges ∷ States ∷ others) (token.Int n) (optional_marks marks) refl (omega arith)
     ∙ number_goes marks others
 
 over_head : (n : Next) (marks : Option (List ℕ)) (z : Token) (most : ℕ) (others : List Part) → z ≡ next_token n

@@ -1,5 +1,6 @@
 -- A plain label that was passed.
 use Rattle.std.proofs.Common.{◌≡◌, ℕ, suc, ◌+◌, ◌-◌, ◌≤◌, false, List, [], ◌∷◌, ◌++◌, length, take, not, is_some, Some, None, refl, sym, ap, subst, ◌∙◌, arith}
+use Rattle.aut_base.specs.declared.limit.TheConstants.{MOST_DEPTH}
 use Rattle.aut_io.specs.Seen.{Seen}
 use Rattle.hoa_lexer.specs.Moves.{Elsewhere, MovesLexer}
 use Rattle.hoa_lexer.specs.Reading.{Tells, held_count, unread}
@@ -15,7 +16,6 @@ use Rattle.hoa_parser.specs.Phrases.{Label, Lands, Lnots, LabelWithin, LandsWith
 use Rattle.hoa_parser.specs.inner.Expecting.{ClosingBracket, Factor, Factors, MaybeLabel, Part, Products, parts_after, parts_behind, expected_label}
 use Rattle.hoa_parser.specs.inner.Parsing.{Cursor, PassesTokens, Passed, ReadsTo, cursor_of, reader_state}
 use Rattle.hoa_parser.specs.inner.RuleReads.{IsOpened}
-use Rattle.hoa_parser.specs.Standing.{most_depth}
 use Rattle.hoa_parser.specs.declared.raw.RawLabel.{RawLabel}
 use Rattle.hoa_parser.specs.inner.AtHand.{IsLabel, Spelled}
 use Rattle.hoa_parser.proofs.grammar.AfterLabels.{left, lnot_follows, regrouped, taken}
@@ -25,38 +25,38 @@ use Rattle.hoa_parser.proofs.plain.Passing.{cursor, passed_spelled, spelled_behi
 use Rattle.hoa_parser.proofs.plain.Signs.{spelled_length}
 
 -- what is expected behind a label, before it is known that it is over
-lnots_left : (fs : Lnots) (others : List Part) (c : List Token) → LnotsWithin most_depth 0 fs
-    → parts_after most_depth (Factors 0 ∷ others) (lnots_tokens fs ++ c) ≡ parts_after most_depth (Factors 0 ∷ others) c
+lnots_left : (fs : Lnots) (others : List Part) (c : List Token) → LnotsWithin MOST_DEPTH 0 fs
+    → parts_after MOST_DEPTH (Factors 0 ∷ others) (lnots_tokens fs ++ c) ≡ parts_after MOST_DEPTH (Factors 0 ∷ others) c
 lnots_left no_lnot others c w = refl
 lnots_left (and_lnot f fs) others c w =
-    taken most_depth (Factors 0) (Factor 0 ∷ Factors 0 ∷ []) others token.Amp ((lnot_tokens f ++ lnots_tokens fs) ++ c) refl (omega arith)
-    ∙ regrouped most_depth (Factor 0 ∷ Factors 0 ∷ others) (lnot_tokens f) (lnots_tokens fs) c
-    ∙ lnot_follows most_depth 0 f (Factors 0 ∷ others) (lnots_tokens fs ++ c) (omega arith) w.0
+    taken MOST_DEPTH (Factors 0) (Factor 0 ∷ Factors 0 ∷ []) others token.Amp ((lnot_tokens f ++ lnots_tokens fs) ++ c) refl (omega arith)
+    ∙ regrouped MOST_DEPTH (Factor 0 ∷ Factors 0 ∷ others) (lnot_tokens f) (lnots_tokens fs) c
+    ∙ lnot_follows MOST_DEPTH 0 f (Factors 0 ∷ others) (lnots_tokens fs ++ c) (omega arith) w.0
     ∙ lnots_left fs others c w.1
 
-lands_left : (ls : Lands) (others : List Part) → LandsWithin most_depth 0 ls → parts_after most_depth (Factors 0 ∷ Products 0 ∷ others) (lands_tokens ls) ≡ Some (Factors 0 ∷ Products 0 ∷ others)
+lands_left : (ls : Lands) (others : List Part) → LandsWithin MOST_DEPTH 0 ls → parts_after MOST_DEPTH (Factors 0 ∷ Products 0 ∷ others) (lands_tokens ls) ≡ Some (Factors 0 ∷ Products 0 ∷ others)
 lands_left no_land others w = refl
 lands_left (or_land f fs ls) others w =
-    left most_depth (Factors 0) (Products 0 ∷ others) (lands_tokens (or_land f fs ls)) refl
-    ∙ taken most_depth (Products 0) (expected_label 0) others token.Bar (lnot_tokens f ++ (lnots_tokens fs ++ lands_tokens ls)) refl (omega arith)
-    ∙ lnot_follows most_depth 0 f (Factors 0 ∷ Products 0 ∷ others) (lnots_tokens fs ++ lands_tokens ls) (omega arith) w.0
+    left MOST_DEPTH (Factors 0) (Products 0 ∷ others) (lands_tokens (or_land f fs ls)) refl
+    ∙ taken MOST_DEPTH (Products 0) (expected_label 0) others token.Bar (lnot_tokens f ++ (lnots_tokens fs ++ lands_tokens ls)) refl (omega arith)
+    ∙ lnot_follows MOST_DEPTH 0 f (Factors 0 ∷ Products 0 ∷ others) (lnots_tokens fs ++ lands_tokens ls) (omega arith) w.0
     ∙ lnots_left fs (Products 0 ∷ others) (lands_tokens ls) w.1
     ∙ lands_left ls others w.2
 
-label_left : (l : Label) (others : List Part) → LabelWithin most_depth 0 l → parts_after most_depth (expected_label 0 ++ others) (label_tokens l) ≡ Some (Factors 0 ∷ Products 0 ∷ others)
+label_left : (l : Label) (others : List Part) → LabelWithin MOST_DEPTH 0 l → parts_after MOST_DEPTH (expected_label 0 ++ others) (label_tokens l) ≡ Some (Factors 0 ∷ Products 0 ∷ others)
 label_left (label f fs ls) others w =
-    lnot_follows most_depth 0 f (Factors 0 ∷ Products 0 ∷ others) (lnots_tokens fs ++ lands_tokens ls) (omega arith) w.0
+    lnot_follows MOST_DEPTH 0 f (Factors 0 ∷ Products 0 ∷ others) (lnots_tokens fs ++ lands_tokens ls) (omega arith) w.0
     ∙ lnots_left fs (Products 0 ∷ others) (lands_tokens ls) w.1
     ∙ lands_left ls others w.2
 
-label_goes : (l : Label) (a b : Cursor) → LabelWithin most_depth 0 l → Passed a (token.LeftBracket ∷ label_tokens l) b → b.token ≡ token.RightBracket
+label_goes : (l : Label) (a b : Cursor) → LabelWithin MOST_DEPTH 0 l → Passed a (token.LeftBracket ∷ label_tokens l) b → b.token ≡ token.RightBracket
     → PassesTokens (MaybeLabel ∷ []) a (ClosingBracket ∷ []) b
 label_goes l a b w passed closes = record {
   tokens = token.LeftBracket ∷ label_tokens l;
   passed = passed;
   left = Factors 0 ∷ Products 0 ∷ ClosingBracket ∷ [];
   leads = record {
-    runs = λ others. taken most_depth MaybeLabel (expected_label 0 ++ ClosingBracket ∷ []) others token.LeftBracket (label_tokens l) refl (omega arith)
+    runs = λ others. taken MOST_DEPTH MaybeLabel (expected_label 0 ++ ClosingBracket ∷ []) others token.LeftBracket (label_tokens l) refl (omega arith)
         ∙ label_left l (ClosingBracket ∷ others) w;
   };
   unended = (refl, label_unended l);

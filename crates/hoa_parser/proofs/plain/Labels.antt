@@ -2,6 +2,7 @@
 use Rattle.std.proofs.Common.{◌≡◌, ℕ, ◌≤◌, List, [], ◌∷◌, ◌++◌, length, lit≤, refl, sym, ap, subst, ◌∙◌}
 use Rattle.std.specs.Prelude.{codes}
 use Rattle.std.proofs.lemmas.List.{append-nil, append_assoc}
+use Rattle.aut_base.specs.declared.limit.TheConstants.{MOST_DEPTH}
 use Rattle.hoa_lexer.specs.Spelling.{IsDelimited, IsIdentifier}
 use Rattle.hoa_lexer.specs.Text.{IsFront}
 use Rattle.hoa_lexer.specs.inner.Steps.{PassesBlanks}
@@ -14,7 +15,6 @@ use Rattle.hoa_parser.specs.Phrases.{lands_meaning, lands_tokens, lnot_meaning, 
 use Rattle.hoa_parser.specs.inner.RuleReads.{LandPhrase, LandWithin, land_meaning, land_tokens}
 use Rattle.hoa_parser.specs.Raw as raw
 use Rattle.hoa_parser.specs.Raw.{RawTree, all_literals, raw_all, raw_list, raw_tree}
-use Rattle.hoa_parser.specs.Standing.{most_depth}
 use Rattle.hoa_parser.specs.declared.raw.RawLabel.{RawLabel}
 use Rattle.hoa_parser.specs.declared.raw.RawLabels.{RawLabels}
 use Rattle.hoa_parser.specs.inner.AtHand.{AreFactors, AreLiterals, AreMoreFactors, AreMoreLiterals, IsConjunctionText, IsFactor, IsGrouped, IsLabel, IsLiteral, IsIntText, IsSigned, Spelled}
@@ -66,7 +66,7 @@ lnots_and_meaning : (fs : Lnots) (g : Lnot) → lnots_meaning fs ++ lnot_meaning
 lnots_and_meaning no_lnot g = refl
 lnots_and_meaning (and_lnot f fs) g = ap (λ ts. lnot_meaning f ∷ ts) (lnots_and_meaning fs g)
 
-lnots_and_within : (d : ℕ) (fs : Lnots) (g : Lnot) → LnotsWithin most_depth d fs → LnotWithin most_depth d g → LnotsWithin most_depth d (lnots_and fs g)
+lnots_and_within : (d : ℕ) (fs : Lnots) (g : Lnot) → LnotsWithin MOST_DEPTH d fs → LnotWithin MOST_DEPTH d g → LnotsWithin MOST_DEPTH d (lnots_and fs g)
 lnots_and_within d no_lnot g w v = (v, tt)
 lnots_and_within d (and_lnot f fs) g w v = (w.0, lnots_and_within d fs g w.1 v)
 
@@ -84,7 +84,7 @@ lands_or_meaning : (ls : Lands) (p : LandPhrase) → lands_meaning ls ++ land_me
 lands_or_meaning no_land p = refl
 lands_or_meaning (or_land f fs ls) p = ap (λ ts. raw_conjunction (lnot_meaning f) (lnots_meaning fs) ∷ ts) (lands_or_meaning ls p)
 
-lands_or_within : (ls : Lands) (p : LandPhrase) → LandsWithin most_depth 0 ls → LandWithin 0 p → LandsWithin most_depth 0 (lands_or ls p)
+lands_or_within : (ls : Lands) (p : LandPhrase) → LandsWithin MOST_DEPTH 0 ls → LandWithin 0 p → LandsWithin MOST_DEPTH 0 (lands_or ls p)
 lands_or_within no_land p w v = (v.0, v.1, tt)
 lands_or_within (or_land f fs ls) p w v = (w.0, w.1, lands_or_within ls p w.2 v)
 
@@ -170,7 +170,7 @@ label_or_tokens (label f fs ls) p =
 label_or_meaning : (l : Label) (p : LandPhrase) → factors_meaning l ++ land_meaning p ∷ [] ≡ factors_meaning (label_or l p)
 label_or_meaning (label f fs ls) p = ap (λ ts. raw_conjunction (lnot_meaning f) (lnots_meaning fs) ∷ ts) (lands_or_meaning ls p)
 
-label_or_within : (l : Label) (p : LandPhrase) → LabelWithin most_depth 0 l → LandWithin 0 p → LabelWithin most_depth 0 (label_or l p)
+label_or_within : (l : Label) (p : LandPhrase) → LabelWithin MOST_DEPTH 0 l → LandWithin 0 p → LabelWithin MOST_DEPTH 0 (label_or l p)
 label_or_within (label f fs ls) p w v = (w.0, w.1, lands_or_within ls p w.2 v)
 
 pub factors_or : (us vs : List RawTree) (l : RawLabel) (x y z w : List ℕ) → vs ≡ us ++ raw_tree l ∷ [] → AreFactors us x y → IsSigned 124 y z → IsFactor l z w → AreFactors vs x w
@@ -191,7 +191,7 @@ one_label l x y s = record {
   means = s.means;
 }
 
-label_with : (f l : RawLabel) (q : Label) (x y z w : List ℕ) → IsFactor f x y → IsSigned 124 y z → LabelWithin most_depth 0 q → Spelled z (label_tokens q) w
+label_with : (f l : RawLabel) (q : Label) (x y z w : List ℕ) → IsFactor f x y → IsSigned 124 y z → LabelWithin MOST_DEPTH 0 q → Spelled z (label_tokens q) w
     → raw_tree l ≡ disjunction (raw_tree f) (factors_meaning q) → IsLabel l x w
 label_with f l (label g gs ls) x y z w s sign v k is = record {
   phrase = label s.phrase.first s.phrase.others (or_land g gs ls);

@@ -9,15 +9,15 @@ use Rattle.hoa_parser.specs.inner.Parsing.{is_end}
 use Rattle.hoa_parser.specs.inner.RuleReads.{atom_of, plain_atom_of, sign_at}
 use Rattle.hoa_parser.specs.Raw as raw
 use Rattle.hoa_parser.specs.Raw.{RawTree}
-use Rattle.hoa_parser.specs.Standing.{most_depth}
 use Rattle.aut_base.specs.Text.{same_text}
+use Rattle.aut_base.specs.declared.limit.TheConstants.{MOST_DEPTH}
 use Rattle.hoa_parser.specs.declared.parse.condition.Sign.{Sign}
 use Rattle.hoa_parser.specs.declared.parse.condition.Sign.TheVariants as sign
 
 -- the token is a label of its own
 pub record IsAtom (depth : ℕ) (z : Token) (t : RawTree) : Type 0 where
   pub phrase : Lnot
-  pub within : LnotWithin most_depth depth phrase
+  pub within : LnotWithin MOST_DEPTH depth phrase
   pub spelled : lnot_tokens phrase ≡ z ∷ []
   pub means : t ≡ lnot_meaning phrase
   pub taken : move (Factor depth) z ≡ Takes []

@@ -10,7 +10,8 @@ use Rattle.hoa_parser.proofs.reading.Steps.{Read}
 use Rattle.hoa_parser.specs.Ends.{WrittenEnds}
 use Rattle.hoa_parser.specs.inner.Expecting as part
 use Rattle.hoa_parser.specs.inner.Expecting.{Part, parts_behind, if_header, move}
-use Rattle.hoa_parser.specs.Grammar.{header_of, optional_text}
+use Rattle.hoa_parser.specs.Grammar.{optional_text}
+use Rattle.hoa_parser.specs.Headers.{header_of}
 use Rattle.hoa_parser.specs.Phrases.{conj_tokens, edge_tokens, label_tokens, optional_label, optional_marks}
 use Rattle.hoa_parser.specs.inner.Parsing.{Cursor, Passed}
 use Rattle.hoa_parser.specs.inner.RuleReads.{AreEdgesWritten, AreMarks, HeadPhrase, IsConj, IsEdge, IsHead, IsLabel, IsMaybeLabel, IsIntToken}

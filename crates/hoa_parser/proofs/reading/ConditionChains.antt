@@ -11,12 +11,12 @@ use Rattle.hoa_parser.specs.inner.Parsing.{Cursor}
 use Rattle.hoa_parser.specs.inner.RuleReads.{IsAndFatoms, IsCondition, IsFand, IsFatom, IsOrFands, FandWithin, fand_meaning, fand_tokens}
 use Rattle.aut_base.specs.Formula as formula
 use Rattle.aut_base.specs.Formula.{FormulaTree, formula_parts, formula_tree, trees}
-use Rattle.hoa_parser.specs.Standing.{most_depth}
 use Rattle.aut_base.specs.declared.formula.Formula.{Formula}
 use Rattle.aut_base.specs.declared.formula.Formulas.{Formulas}
+use Rattle.aut_base.specs.declared.limit.TheConstants.{MOST_DEPTH}
 
 -- what their chains are
-fatoms_chain : (depth : ℕ) → IsChain (FatomWithin most_depth depth) (λ f. token.Amp ∷ fatom_tokens f) fatom_meaning (FatomsWithin most_depth depth) fatoms_tokens fatoms_meaning
+fatoms_chain : (depth : ℕ) → IsChain (FatomWithin MOST_DEPTH depth) (λ f. token.Amp ∷ fatom_tokens f) fatom_meaning (FatomsWithin MOST_DEPTH depth) fatoms_tokens fatoms_meaning
 fatoms_chain depth = record {
   none = record { chain = no_fatom; within = tt; spelled = refl; means = refl };
   more = λ f ts us h c. record {
@@ -27,7 +27,7 @@ fatoms_chain depth = record {
   };
 }
 
-fands_chain : (depth : ℕ) → IsChain (FandWithin depth) (λ p. token.Bar ∷ fand_tokens p) fand_meaning (FandsWithin most_depth depth) fands_tokens fands_meaning
+fands_chain : (depth : ℕ) → IsChain (FandWithin depth) (λ p. token.Bar ∷ fand_tokens p) fand_meaning (FandsWithin MOST_DEPTH depth) fands_tokens fands_meaning
 fands_chain depth = record {
   none = record { chain = no_fand; within = tt; spelled = refl; means = refl };
   more = λ p ts us h c. record {

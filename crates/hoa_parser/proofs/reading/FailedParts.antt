@@ -2,13 +2,13 @@
 use Rattle.std.proofs.Common.{◌≡◌, ◌≢◌, ℕ, true, false, List, [], ◌∷◌, ◌++◌, Some, None, sym, ap, ◌∙◌, inl, inr}
 use Rattle.std.proofs.lemmas.List.{append_assoc}
 use Rattle.std.specs.Prelude.{nat_le}
+use Rattle.aut_base.specs.declared.limit.TheConstants.{MOST_DEPTH}
 use Rattle.hoa_lexer.specs.declared.token.Token.{Token}
 use Rattle.hoa_lexer.specs.declared.token.Token.TheVariants as token
 use Rattle.hoa_parser.proofs.grammar.NoAbort.{abort}
 use Rattle.hoa_parser.proofs.reading.FrontParts.{goes_more, goes_nowhere, goes_then, takes_behind}
 use Rattle.hoa_parser.specs.inner.Expecting.{Part, Takes, parts_behind, move, open_at}
 use Rattle.hoa_parser.specs.inner.Parsing.{Cursor, FailsParts, PassesTokens, HaltsHere, RefusesToken, TooDeep, Unlexed, Unread, is_end}
-use Rattle.hoa_parser.specs.Standing.{most_depth}
 use Rattle.hoa_parser.specs.declared.fault.ReadFault.{ReadFault}
 use Rattle.hoa_parser.specs.declared.fault.ReadFault.TheVariants as fault
 
@@ -69,7 +69,7 @@ deep_more : (p more : List Part) (a b : Cursor) → TooDeep p a b → TooDeep (p
 deep_more p more a b one = record {
   target = one.target ++ more;
   goes = goes_more p one.target more a b one.goes;
-  refused = λ others. behind_more most_depth one.target more others b.token ∙ one.refused (more ++ others);
+  refused = λ others. behind_more MOST_DEPTH one.target more others b.token ∙ one.refused (more ++ others);
   most = one.most;
   more = one.more;
   left = one.left ++ more;
@@ -90,7 +90,7 @@ unread_more f p more a last one = record {
   b = one.b;
   goes = goes_more p one.target more a one.b one.goes;
   left = one.left ++ more;
-  taken = λ others. behind_more most_depth one.target more others one.b.token ∙ one.taken (more ++ others) ∙ some_more one.left more others;
+  taken = λ others. behind_more MOST_DEPTH one.target more others one.b.token ∙ one.taken (more ++ others) ∙ some_more one.left more others;
   unended = one.unended;
   bytes = one.bytes;
   held = one.held;
@@ -103,14 +103,14 @@ fails_more f p more a last (inl h) = inl (halts_more f p more a last h)
 fails_more f p more a last (inr h) = inr (unread_more f p more a last h)
 
 -- what a part takes is not `--ABORT--`
-pub taken_no_abort : (part : Part) (parts : List Part) (z : Token) → move part z ≡ Takes parts → nat_le (open_at parts) most_depth ≡ true → z ≢ token.Abort
+pub taken_no_abort : (part : Part) (parts : List Part) (z : Token) → move part z ≡ Takes parts → nat_le (open_at parts) MOST_DEPTH ≡ true → z ≢ token.Abort
 taken_no_abort part parts z takes opens is =
-    let some : parts_behind most_depth (part ∷ []) token.Abort ≡ Some (parts ++ []) = takes_behind most_depth part parts [] token.Abort (ap (move part) (sym is) ∙ takes) opens in
-    let none : parts_behind most_depth (part ∷ []) token.Abort ≡ None = abort most_depth (part ∷ []) in
+    let some : parts_behind MOST_DEPTH (part ∷ []) token.Abort ≡ Some (parts ++ []) = takes_behind MOST_DEPTH part parts [] token.Abort (ap (move part) (sym is) ∙ takes) opens in
+    let none : parts_behind MOST_DEPTH (part ∷ []) token.Abort ≡ None = abort MOST_DEPTH (part ∷ []) in
     cc
 
 -- there is no token behind one that the first part takes
-pub unread_behind : (f : ReadFault) (part : Part) (parts others : List Part) (a last : Cursor) → move part a.token ≡ Takes parts → nat_le (open_at parts) most_depth ≡ true
+pub unread_behind : (f : ReadFault) (part : Part) (parts others : List Part) (a last : Cursor) → move part a.token ≡ Takes parts → nat_le (open_at parts) MOST_DEPTH ≡ true
     → is_end a.token ≡ false → last.held ≡ None → last.token ≡ a.token → Unlexed f a.used a.rest last.rest
     → Unread f (part ∷ others) a last
 unread_behind f part parts others a last takes opens unended held stays bytes = record {
@@ -118,7 +118,7 @@ unread_behind f part parts others a last takes opens unended held stays bytes = 
   b = a;
   goes = goes_nowhere (part ∷ others) a;
   left = parts ++ others;
-  taken = λ more. takes_behind most_depth part parts (others ++ more) a.token takes opens ∙ some_more parts others more;
+  taken = λ more. takes_behind MOST_DEPTH part parts (others ++ more) a.token takes opens ∙ some_more parts others more;
   unended = unended;
   bytes = bytes;
   held = held;

@@ -2,11 +2,11 @@
 use Rattle.std.proofs.Common.{◌≡◌, ℕ, Bool, true, false, if◌then◌else◌, List, [], ◌∷◌, ◌++◌, map, Option, Some, None, refl, sym, ap, subst, ◌∙◌}
 use Rattle.std.proofs.lemmas.List.{append_assoc, append-nil, map-append}
 use Rattle.std.specs.Prelude.{nat_le}
+use Rattle.aut_base.specs.declared.limit.TheConstants.{MOST_DEPTH}
 use Rattle.hoa_lexer.specs.declared.token.Token.{Token}
 use Rattle.hoa_parser.proofs.grammar.AfterLabels.{after_append}
 use Rattle.hoa_parser.specs.inner.Expecting.{Part, TokenUse, Takes, Passes, Refuses, parts_after, after_some, parts_behind, move, moved, open_at}
 use Rattle.hoa_parser.specs.inner.Parsing.{Follows, PassesTokens, LeadsToParts, Passed, Cursor, Unended, is_end}
-use Rattle.hoa_parser.specs.Standing.{most_depth}
 
 pub passed_then : (a m b : Cursor) (u v : List Token) → Passed a u m → Passed m v b → Passed a (u ++ v) b
 passed_then a m b [] v p q = subst (λ (x : Cursor). Passed x v b) (sym p) q
@@ -31,10 +31,10 @@ passes_behind most part others z passes = ap (λ (m : TokenUse). moved most m (p
 pub refuses_behind : (most : ℕ) (part : Part) (others : List Part) (z : Token) → move part z ≡ Refuses → parts_behind most (part ∷ others) z ≡ None
 refuses_behind most part others z refuses = ap (λ (m : TokenUse). moved most m (parts_behind most others z) others) refuses
 
-pub leads_one : (part : Part) (parts others : List Part) (z : Token) → move part z ≡ Takes parts → nat_le (open_at parts) most_depth ≡ true → LeadsToParts (part ∷ others) (z ∷ []) (parts ++ others)
+pub leads_one : (part : Part) (parts others : List Part) (z : Token) → move part z ≡ Takes parts → nat_le (open_at parts) MOST_DEPTH ≡ true → LeadsToParts (part ∷ others) (z ∷ []) (parts ++ others)
 leads_one part parts others z takes opens = record {
   runs = λ more.
-      ap (λ (o : Option (List Part)). after_some most_depth o []) (takes_behind most_depth part parts (others ++ more) z takes opens)
+      ap (λ (o : Option (List Part)). after_some MOST_DEPTH o []) (takes_behind MOST_DEPTH part parts (others ++ more) z takes opens)
       ∙ ap (λ (ps : List Part). Some ps) (sym (append_assoc parts others more));
 }
 
@@ -46,7 +46,7 @@ pub goes_nowhere : (parts : List Part) (a : Cursor) → PassesTokens parts a par
 goes_nowhere parts a = goes_over parts parts a (λ most others. refl)
 
 -- the token at hand is taken by the first part
-pub follows_parts : (part : Part) (parts others : List Part) (a b : Cursor) → move part a.token ≡ Takes parts → nat_le (open_at parts) most_depth ≡ true → is_end a.token ≡ false → Follows a b
+pub follows_parts : (part : Part) (parts others : List Part) (a b : Cursor) → move part a.token ≡ Takes parts → nat_le (open_at parts) MOST_DEPTH ≡ true → is_end a.token ≡ false → Follows a b
     → PassesTokens (part ∷ others) a (parts ++ others) b
 follows_parts part parts others a b takes opens unended follows = record {
   tokens = a.token ∷ [];
@@ -58,13 +58,13 @@ follows_parts part parts others a b takes opens unended follows = record {
 }
 
 leads_then : (p q left last : List Part) (u v : List Token) (z : Token) → LeadsToParts p u left
-    → ((others : List Part) → parts_behind most_depth (left ++ others) z ≡ parts_behind most_depth (q ++ others) z)
+    → ((others : List Part) → parts_behind MOST_DEPTH (left ++ others) z ≡ parts_behind MOST_DEPTH (q ++ others) z)
     → LeadsToParts q (z ∷ v) last → LeadsToParts p (u ++ z ∷ v) last
 leads_then p q left last u v z first over second = record {
   runs = λ others.
-      after_append most_depth (Some (p ++ others)) u (z ∷ v)
-      ∙ ap (λ (o : Option (List Part)). after_some most_depth o (z ∷ v)) (first.runs others)
-      ∙ ap (λ (o : Option (List Part)). after_some most_depth o v) (over others)
+      after_append MOST_DEPTH (Some (p ++ others)) u (z ∷ v)
+      ∙ ap (λ (o : Option (List Part)). after_some MOST_DEPTH o (z ∷ v)) (first.runs others)
+      ∙ ap (λ (o : Option (List Part)). after_some MOST_DEPTH o v) (over others)
       ∙ second.runs others;
 }
 
@@ -96,7 +96,7 @@ goes_both p q r a m b one (z ∷ v) left passed leads unended over = record {
   passed = passed_then a m b one.tokens (z ∷ v) one.passed passed;
   left = left;
   leads = leads_then p q one.left left one.tokens v z one.leads
-      (λ others. subst (λ (t : Token). parts_behind most_depth (one.left ++ others) t ≡ parts_behind most_depth (q ++ others) t) (sym passed.1) (one.over most_depth others)) leads;
+      (λ others. subst (λ (t : Token). parts_behind MOST_DEPTH (one.left ++ others) t ≡ parts_behind MOST_DEPTH (q ++ others) t) (sym passed.1) (one.over MOST_DEPTH others)) leads;
   unended = unended_then one.tokens (z ∷ v) one.unended unended;
   over = over;
 }
@@ -109,7 +109,7 @@ goes_then p q r a m b one two = goes_both p q r a m b one two.tokens two.left tw
 pub leads_more : (p left more : List Part) (u : List Token) → LeadsToParts p u left → LeadsToParts (p ++ more) u (left ++ more)
 leads_more p left more u leads = record {
   runs = λ others.
-      ap (λ (ps : List Part). parts_after most_depth ps u) (append_assoc p more others)
+      ap (λ (ps : List Part). parts_after MOST_DEPTH ps u) (append_assoc p more others)
       ∙ leads.runs (more ++ others)
       ∙ ap (λ (ps : List Part). Some ps) (sym (append_assoc left more others));
 }

@@ -3,6 +3,7 @@ use Rattle.std.proofs.Common.{◌≡◌, ◌≢◌, ◌⊎◌, inl, inr, ℕ, tr
 use Rattle.std.proofs.lemmas.List.{append-nil}
 use Rattle.std.specs.Prelude.{codes, nat_le}
 use Rattle.aut_base.specs.declared.formula.Formula.{Formula}
+use Rattle.aut_base.specs.declared.limit.TheConstants.{MOST_DEPTH}
 use Rattle.hoa_lexer.specs.declared.token.Token.{Token}
 use Rattle.hoa_lexer.specs.declared.token.Token.TheVariants as token
 use Rattle.hoa_parser.proofs.grammar.HeaderNames.{IsNamed, named}
@@ -11,7 +12,8 @@ use Rattle.hoa_parser.proofs.reading.RuleParts.{next_answer}
 use Rattle.hoa_parser.proofs.reading.Steps.{Read, reads_as, takes, takes_last}
 use Rattle.hoa_parser.specs.inner.Expecting.{Items, Part, Takes, header_move, move, open_at}
 use Rattle.hoa_parser.specs.inner.Expecting as expecting
-use Rattle.hoa_parser.specs.Grammar.{header_of, optional_text}
+use Rattle.hoa_parser.specs.Grammar.{optional_text}
+use Rattle.hoa_parser.specs.Headers.{header_of}
 use Rattle.hoa_parser.specs.Phrases.{ItemPhrase, ItemWithin, acc_name_item, acceptance_item, alias_item, item_meaning, item_tokens}
 use Rattle.hoa_parser.specs.Phrases.{name_item, names_item, other_item, properties_item, start_item, states_item, tool_item, acc_value_token}
 use Rattle.hoa_parser.specs.Phrases.{conj_tokens, condition_tokens, label_tokens, value_token}
@@ -21,7 +23,6 @@ use Rattle.hoa_parser.specs.inner.RuleReads.{AreTexts, AreValues, AreWords, IsAl
 use Rattle.hoa_parser.specs.inner.RuleReads.{IsItemWritten, IsLabel, IsIntToken, IsOptionalText, IsQuoted, IsIdentifierToken, ItemRest}
 use Rattle.hoa_parser.specs.Raw as raw
 use Rattle.hoa_parser.specs.Raw.{WrittenItem, written_item}
-use Rattle.hoa_parser.specs.Standing.{most_depth}
 use Rattle.hoa_parser.specs.declared.fault.ReadFault.{ReadFault}
 use Rattle.hoa_parser.specs.declared.header.Header.{Header}
 use Rattle.hoa_parser.specs.declared.header.Header.TheVariants as header
@@ -34,7 +35,7 @@ name_of name h is = subst (IsNamed name) is (named name)
 
 -- what follows the name of a header, where the name is all that is wanted of it
 rest_of : (name : List ℕ) (h : Header) (known : List ℕ) (ts : List Token) (phrase : ItemPhrase) (i : WrittenItem) (a b : Cursor) → (header_of name ≡ h → name ≡ known)
-    → ItemWithin most_depth phrase → token.HeaderName known ∷ ts ≡ item_tokens phrase → i ≡ item_meaning phrase → Passed a ts b → ItemRest h name i a b
+    → ItemWithin MOST_DEPTH phrase → token.HeaderName known ∷ ts ≡ item_tokens phrase → i ≡ item_meaning phrase → Passed a ts b → ItemRest h name i a b
 rest_of name h known ts phrase i a b is within spelled means passed = record {
   tokens = ts;
   passed = passed;
@@ -102,7 +103,7 @@ header_takes header.Opening no_opening no_state = absurd (no_opening refl)
 header_takes header.State no_opening no_state = absurd (no_state refl)
 header_takes _ no_opening no_state = refl
 
-pub header_opens : (h : Header) → nat_le (open_at (header_parts h ++ Items ∷ [])) most_depth ≡ true
+pub header_opens : (h : Header) → nat_le (open_at (header_parts h ++ Items ∷ [])) MOST_DEPTH ≡ true
 header_opens header.Opening = refl
 header_opens _ = refl
 

@@ -1,6 +1,7 @@
 -- Chains of `&` and `|` in labels, part by part.
 use Rattle.std.proofs.Common.{◌≡◌, ℕ, ◌∷◌, ◌++◌, refl, ap, ◌∙◌}
 use Rattle.std.proofs.lemmas.List.{append_assoc}
+use Rattle.aut_base.specs.declared.limit.TheConstants.{MOST_DEPTH}
 use Rattle.hoa_lexer.specs.declared.token.Token.TheVariants as token
 use Rattle.hoa_parser.proofs.reading.FrontParts.{passed_then, subst_tokens}
 use Rattle.hoa_parser.proofs.reading.Chains.{IsChain, chain_whole}
@@ -11,12 +12,11 @@ use Rattle.hoa_parser.specs.inner.Parsing.{Cursor}
 use Rattle.hoa_parser.specs.inner.RuleReads.{IsAndLnots, IsLabel, IsLand, IsLnot, IsOrLands, LandWithin, land_meaning, land_tokens}
 use Rattle.hoa_parser.specs.Raw as raw
 use Rattle.hoa_parser.specs.Raw.{RawTree, raw_parts, raw_tree, raw_trees}
-use Rattle.hoa_parser.specs.Standing.{most_depth}
 use Rattle.hoa_parser.specs.declared.raw.RawLabel.{RawLabel}
 use Rattle.hoa_parser.specs.declared.raw.RawLabels.{RawLabels}
 
 -- what their chains are
-lnots_chain : (depth : ℕ) → IsChain (LnotWithin most_depth depth) (λ f. token.Amp ∷ lnot_tokens f) lnot_meaning (LnotsWithin most_depth depth) lnots_tokens lnots_meaning
+lnots_chain : (depth : ℕ) → IsChain (LnotWithin MOST_DEPTH depth) (λ f. token.Amp ∷ lnot_tokens f) lnot_meaning (LnotsWithin MOST_DEPTH depth) lnots_tokens lnots_meaning
 lnots_chain depth = record {
   none = record { chain = no_lnot; within = tt; spelled = refl; means = refl };
   more = λ f ts us h c. record {
@@ -27,7 +27,7 @@ lnots_chain depth = record {
   };
 }
 
-lands_chain : (depth : ℕ) → IsChain (LandWithin depth) (λ p. token.Bar ∷ land_tokens p) land_meaning (LandsWithin most_depth depth) lands_tokens lands_meaning
+lands_chain : (depth : ℕ) → IsChain (LandWithin depth) (λ p. token.Bar ∷ land_tokens p) land_meaning (LandsWithin MOST_DEPTH depth) lands_tokens lands_meaning
 lands_chain depth = record {
   none = record { chain = no_land; within = tt; spelled = refl; means = refl };
   more = λ p ts us h c. record {

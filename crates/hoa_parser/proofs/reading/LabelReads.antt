@@ -1,5 +1,6 @@
 -- Labels of one token, negations and groups.
 use Rattle.std.proofs.Common.{◌≡◌, ◌≤◌, ℕ, suc, [], ◌∷◌, ◌++◌, Some, refl, sym, ap, ◌∙◌}
+use Rattle.aut_base.specs.declared.limit.TheConstants.{MOST_DEPTH}
 use Rattle.hoa_lexer.specs.declared.token.Token.TheVariants as token
 use Rattle.hoa_parser.proofs.reading.Atoms.{IsAtom, atom_found}
 use Rattle.hoa_parser.proofs.reading.FrontParts.{passed_then, subst_tokens}
@@ -10,7 +11,6 @@ use Rattle.hoa_parser.specs.inner.Parsing.{Advanced, Cursor, FailsAt, ReadsTo, S
 use Rattle.hoa_parser.specs.inner.RuleReads.{IsLabel, IsLnot, atom_of}
 use Rattle.hoa_parser.specs.Raw as raw
 use Rattle.hoa_parser.specs.Raw.{RawTree, raw_tree}
-use Rattle.hoa_parser.specs.Standing.{most_depth}
 use Rattle.hoa_parser.specs.declared.fault.ReadFault.{ReadFault}
 use Rattle.hoa_parser.specs.declared.raw.RawLabel.{RawLabel}
 
@@ -27,7 +27,7 @@ atom_last depth t s s' is one =
     takes_last (Factor depth) [] s.ahead refl found.taken refl found.goes_on one
 
 -- "!" lnot
-pub negated_of : (depth : ℕ) (inner l : RawLabel) (a b c : Cursor) → suc depth ≤ most_depth → raw_tree l ≡ raw.Not (raw_tree inner) → Read token.Bang a b → IsLnot (suc depth) inner b c
+pub negated_of : (depth : ℕ) (inner l : RawLabel) (a b c : Cursor) → suc depth ≤ MOST_DEPTH → raw_tree l ≡ raw.Not (raw_tree inner) → Read token.Bang a b → IsLnot (suc depth) inner b c
     → IsLnot depth l a c
 negated_of depth inner l a b c room same bang one = record {
   phrase = negated one.phrase;
@@ -37,7 +37,7 @@ negated_of depth inner l a b c room same bang one = record {
 }
 
 -- "(" label ")"
-pub group_of : (depth : ℕ) (l : RawLabel) (a b c d : Cursor) → suc depth ≤ most_depth → Read token.LeftParen a b → IsLabel (suc depth) l b c → Read token.RightParen c d → IsLnot depth l a d
+pub group_of : (depth : ℕ) (l : RawLabel) (a b c d : Cursor) → suc depth ≤ MOST_DEPTH → Read token.LeftParen a b → IsLabel (suc depth) l b c → Read token.RightParen c d → IsLnot depth l a d
 group_of depth l a b c d room opens one close = record {
   phrase = group one.phrase;
   within = (room, one.within);

@@ -3,6 +3,7 @@ use Rattle.std.proofs.Common.{◌≡◌, ℕ, Bool, true, List, [], ◌∷◌, �
 use Rattle.std.specs.Prelude.{nat_le}
 use Rattle.aut_base.specs.Formula.{formula_tree}
 use Rattle.aut_base.specs.declared.formula.Formula.{Formula}
+use Rattle.aut_base.specs.declared.limit.TheConstants.{MOST_DEPTH}
 use Rattle.hoa_lexer.specs.declared.token.Token.TheVariants as token
 use Rattle.hoa_parser.proofs.reading.Atoms.{sign_word}
 use Rattle.hoa_parser.proofs.reading.FrontParts.{passed_then, subst_tokens}
@@ -12,7 +13,6 @@ use Rattle.hoa_parser.specs.Phrases.{Fatom, FatomWithin, fatom_meaning, fatom_to
 use Rattle.hoa_parser.specs.inner.Expecting.{Atom, Part, Takes, move, open_at, set_parts}
 use Rattle.hoa_parser.specs.inner.Parsing.{Advanced, Cursor, ReadsTo, State}
 use Rattle.hoa_parser.specs.inner.RuleReads.{IsFatom, IsMaybeBang, IsIntToken, IsSet}
-use Rattle.hoa_parser.specs.Standing.{most_depth}
 use Rattle.hoa_parser.specs.declared.parse.condition.SetAt.{SetAt}
 use Rattle.hoa_parser.specs.declared.parse.condition.Sign.{Sign}
 use Rattle.hoa_parser.specs.declared.parse.condition.Sign.TheVariants as sign
@@ -36,20 +36,20 @@ sign_taken depth sign.False = refl
 sign_taken depth sign.Inf = refl
 sign_taken depth sign.Fin = refl
 
-pub sign_opens : (g : Sign) → nat_le (open_at (sign_parts g)) most_depth ≡ true
+pub sign_opens : (g : Sign) → nat_le (open_at (sign_parts g)) MOST_DEPTH ≡ true
 sign_opens sign.True = refl
 sign_opens sign.False = refl
 sign_opens sign.Inf = refl
 sign_opens sign.Fin = refl
 
 -- a sign that is all of the atom
-pub sign_alone : (depth : ℕ) (g : Sign) (phrase : Fatom) (l : Formula) (a b : Cursor) → FatomWithin most_depth depth phrase → fatom_tokens phrase ≡ token.Identifier (sign_word g) ∷ []
+pub sign_alone : (depth : ℕ) (g : Sign) (phrase : Fatom) (l : Formula) (a b : Cursor) → FatomWithin MOST_DEPTH depth phrase → fatom_tokens phrase ≡ token.Identifier (sign_word g) ∷ []
     → formula_tree l ≡ fatom_meaning phrase
     → Read (token.Identifier (sign_word g)) a b → IsFatom depth l a b
 sign_alone depth g phrase l a b within spelled means one = record { phrase = phrase; within = within; passed = subst_tokens a b (sym spelled) one; means = means }
 
 -- a sign and its set
-pub sign_with_set : (depth : ℕ) (g : Sign) (set : SetAt) (phrase : Fatom) (l : Formula) (a b c : Cursor) → FatomWithin most_depth depth phrase
+pub sign_with_set : (depth : ℕ) (g : Sign) (set : SetAt) (phrase : Fatom) (l : Formula) (a b c : Cursor) → FatomWithin MOST_DEPTH depth phrase
     → fatom_tokens phrase ≡ token.Identifier (sign_word g) ∷ set_tokens set.number set.neg → formula_tree l ≡ fatom_meaning phrase
     → Read (token.Identifier (sign_word g)) a b → IsSet set b c → IsFatom depth l a c
 sign_with_set depth g set phrase l a b c within spelled means one two = record {

@@ -3,6 +3,7 @@ use Rattle.std.proofs.Common.{◌≡◌, ◌≢◌, ◌≤◌, ℕ, Bool, true, 
 use Rattle.std.proofs.lemmas.List.{append_assoc}
 use Rattle.std.specs.Prelude.{nat_le}
 use Rattle.std.specs.Result.{IsErrAnd}
+use Rattle.aut_base.specs.declared.limit.TheConstants.{MOST_DEPTH}
 use Rattle.hoa_lexer.proofs.next_token.Between.{between_as, between_same, between_then}
 use Rattle.hoa_lexer.specs.Spelling.{closes_itself}
 use Rattle.hoa_lexer.specs.declared.token.Token.{Token}
@@ -13,7 +14,6 @@ use Rattle.hoa_lexer.proofs.next_token.Moving.{moves_nowhere, moves_then}
 use Rattle.hoa_parser.specs.inner.Expecting as expecting
 use Rattle.hoa_parser.specs.inner.Expecting.{TokenUse, Part, Takes, parts_behind, move, moved, open_at}
 use Rattle.hoa_parser.specs.inner.Parsing.{Advanced, AdvancesReader, Cursor, FailsAt, LeavesReader, Passed, ReadsParts, ReadsTo, Relation, State, Unadvanced, is_end, cursor_of}
-use Rattle.hoa_parser.specs.Standing.{most_depth}
 use Rattle.hoa_parser.specs.declared.fault.ReadFault.{ReadFault}
 use Rattle.hoa_parser.specs.declared.fault.ReadFault.TheVariants as fault
 
@@ -122,7 +122,7 @@ pub reads_end : {p : List Part} {A : Relation} {s s' : State} (part : Part) → 
 reads_end {A = A} {s' = s'} part over one = reads_as (λ a c h. subst (λ (x : Cursor). A a x) h.2 h.1) (reads_then one (passes part [] s' one.spent over))
 
 -- it was taken by the first part
-pub takes : {parts : List Part} {s s' : State} (part : Part) (others : List Part) (z : Token) → s.ahead ≡ z → move part z ≡ Takes parts → nat_le (open_at parts) most_depth ≡ true
+pub takes : {parts : List Part} {s s' : State} (part : Part) (others : List Part) (z : Token) → s.ahead ≡ z → move part z ≡ Takes parts → nat_le (open_at parts) MOST_DEPTH ≡ true
     → is_end z ≡ false → Advanced s s'
     → ReadsTo (part ∷ others) (parts ++ others) (Read z) s s'
 takes {parts} {s} {s'} part others z is goes opens unended one = record {
@@ -143,7 +143,7 @@ leaves_unread fault.Memory s none no_abort = tt
 
 -- and there is no token behind it
 pub takes_last : {parts : List Part} {f : ReadFault} {s s' : State} (part : Part) (others : List Part) (z : Token) → s.ahead ≡ z → move part z ≡ Takes parts
-    → nat_le (open_at parts) most_depth ≡ true → is_end z ≡ false → Unadvanced f s s' → FailsAt f (part ∷ others) s s'
+    → nat_le (open_at parts) MOST_DEPTH ≡ true → is_end z ≡ false → Unadvanced f s s' → FailsAt f (part ∷ others) s s'
 takes_last {parts} {f} {s} {s'} part others z is goes opens unended one = record {
   moves = one.moves;
   leaves = λ h. leaves_unread f s' one.held (λ e. taken_no_abort part parts z goes opens (sym is ∙ sym one.stays ∙ e));
@@ -172,7 +172,7 @@ token_refused part others f s unspent same is = refuses (part ∷ others) f s un
 
 -- it opens one more than may be open
 pub too_deep : {parts : List Part} (part : Part) (others : List Part) (z : Token) (s : State) → s.ahead ≡ z → closes_itself z ≡ true → move part z ≡ Takes parts
-    → nat_le (open_at parts) most_depth ≡ false → most_depth ≤ open_at parts → nat_le (open_at parts) (open_at parts) ≡ true
+    → nat_le (open_at parts) MOST_DEPTH ≡ false → MOST_DEPTH ≤ open_at parts → nat_le (open_at parts) (open_at parts) ≡ true
     → FailsAt fault.Depth (part ∷ others) s s
 too_deep {parts} part others z s is closes goes over far same = record {
   moves = moves_nowhere s.lexer s.seen;
@@ -180,7 +180,7 @@ too_deep {parts} part others z s is closes goes over far same = record {
   text = between_same s.seen.left _ (λ x. inl (record {
     target = part ∷ others;
     goes = goes_nowhere (part ∷ others) (cursor_of s x);
-    refused = λ more. ap (λ (m : TokenUse). moved most_depth m (parts_behind most_depth (others ++ more) s.ahead) (others ++ more)) (ap (move part) is ∙ goes)
+    refused = λ more. ap (λ (m : TokenUse). moved MOST_DEPTH m (parts_behind MOST_DEPTH (others ++ more) s.ahead) (others ++ more)) (ap (move part) is ∙ goes)
         ∙ ap (λ (b : Bool). if b then Some (parts ++ (others ++ more)) else None) over;
     most = open_at parts;
     more = far;

@@ -25,12 +25,13 @@ use Rattle.hoa_parser.proofs.standing.Needed.{needed_at_end}
 use Rattle.hoa_parser.proofs.standing.OpenEnds.{open_end_asks}
 use Rattle.hoa_parser.proofs.standing.Settled.{bad_is_hopeless, place_on}
 use Rattle.hoa_parser.proofs.standing.StandingAnswers.{Opened, Starts, before, begun_with, nothing_begun, said_then, too_deep}
+use Rattle.hoa_parser.specs.Grammar.{IsViable}
 use Rattle.hoa_parser.specs.inner.Expecting as part
 use Rattle.hoa_parser.specs.inner.Expecting.{Part, move}
 use Rattle.hoa_parser.specs.inner.Faults.{read_fault}
-use Rattle.hoa_parser.specs.inner.Parsing.{Abandons, Cursor, FailsParts, FailsAt, PassesTokens, Passed, RefusesToken, State, TooDeep, Unread, cursor_of}
+use Rattle.hoa_parser.specs.inner.Parsing.{Abandons, Cursor, FailsParts, FailsAt, PassesTokens, Passed, RefusesToken, State, TooDeep, Unread, cursor_of, EndsOpen}
 use Rattle.hoa_parser.specs.Reads.{AskedForLast, EndsDeep, IsHopeless, Shows}
-use Rattle.hoa_parser.specs.Standing.{EndsOpen, IsBegun, IsDead, IsMisplaced, IsNoTokenAt}
+use Rattle.hoa_parser.specs.Standing.{IsBegun, IsMisplaced, IsNoTokenAt}
 use Rattle.hoa_parser.specs.declared.fault.ReadFault.{ReadFault}
 use Rattle.hoa_parser.specs.declared.fault.ReadFault.TheVariants as fault
 use Rattle.hoa_parser.specs.declared.read.Front.{Front}
@@ -138,7 +139,7 @@ next_some input start t i rest n e =
 
 misplaced_at : (k start : ℕ) (text left : List ℕ) (tokens : List Token) (used : ℕ) (rest after : List ℕ) (z : Token) (held : Option ℕ) → IsBegun start text tokens used rest
     → IsNext rest used z k after → after ≡ unread held left → (held ≡ None → closes_itself z ≡ true)
-    → IsDead (tokens ++ z ∷ []) → (tokens ≢ [] → z ≢ token.Abort) → IsHopeless k start text left
+    → ((most : ℕ) → IsViable most (tokens ++ z ∷ []) → ⊥) → (tokens ≢ [] → z ≢ token.Abort) → IsHopeless k start text left
 misplaced_at k start text left tokens used rest after z held begun next ends closed is_dead no_abort =
     let last = held_bytes held in
     let behind : after ≡ last ++ left = ends ∙ unread_is held left in

@@ -6,7 +6,8 @@ use Rattle.hoa_lexer.specs.Laws.{Next, StandsNext}
 use Rattle.hoa_lexer.specs.Laws.Next.{NoMore, OneToken, NoToken, InComment, InString, InToken}
 use Rattle.hoa_lexer.specs.Text.{IsNext}
 use Rattle.hoa_lexer.specs.declared.token.Token.{Token}
-use Rattle.hoa_parser.specs.Standing.{EndsOpen, IsNoTokenAt}
+use Rattle.hoa_parser.specs.Standing.{IsNoTokenAt}
+use Rattle.hoa_parser.specs.inner.Parsing.{EndsOpen}
 
 -- a token stands next
 pub record HasNext (used : ℕ) (rest : List ℕ) (token : Token) : Type 0 where

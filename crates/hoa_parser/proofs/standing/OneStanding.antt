@@ -1,6 +1,7 @@
 -- One thing stands next in a text.
 use Rattle.std.proofs.Common.{◌≡◌, ◌≢◌, ℕ, ◌⊎◌, true, false, not, is_some, Option, Some, None, List, [], ◌∷◌, ◌++◌, inl, inr, refl, sym, subst, ◌∙◌, ap}
 use Rattle.std.proofs.lemmas.List.{map-append}
+use Rattle.aut_base.specs.declared.limit.TheConstants.{MOST_DEPTH}
 use Rattle.hoa_lexer.specs.Blanks.{IsBlanks}
 use Rattle.hoa_lexer.specs.Reading.{unread}
 use Rattle.hoa_lexer.specs.Spelling.{closes_itself}
@@ -12,7 +13,7 @@ use Rattle.hoa_lexer.proofs.next_token.Unique.{one_next_token}
 use Rattle.hoa_parser.specs.Grammar.{IsViable, SpellsAutomaton}
 use Rattle.hoa_parser.specs.Raw.{Written}
 use Rattle.hoa_parser.specs.Reads.{EndsDeep}
-use Rattle.hoa_parser.specs.Standing.{EndsOpen, IsDeep, IsMisplaced, IsNoTokenAt, OneStanding, Standing, most_depth}
+use Rattle.hoa_parser.specs.Standing.{IsDeep, IsMisplaced, IsNoTokenAt, OneStanding, Standing}
 use Rattle.hoa_parser.specs.Standing.Standing.{Blank, Whole, Deep, Bad, Aborted, Cut}
 use Rattle.hoa_parser.proofs.standing.Halts.{Halts, abandons, halts_here, halts_viable, misplaced_next, reading, shown}
 use Rattle.hoa_parser.proofs.grammar.NoAbort.{no_abort_inside}
@@ -20,6 +21,7 @@ use Rattle.hoa_parser.proofs.grammar.OneRaw.{one_raw}
 use Rattle.hoa_parser.proofs.standing.Readings.{IsFurther, compared, place}
 use Rattle.hoa_parser.proofs.standing.Needed.{held_as_needed}
 use Rattle.hoa_parser.proofs.standing.NextCases.{HasNext, blanks_no_fault, next_no_blanks, next_no_fault, next_not_open, one_no_token, one_token, open_only}
+use Rattle.hoa_parser.specs.inner.Parsing.{EndsOpen}
 
 spells_some : (m : ℕ) (tokens : List Token) (w : Written) → tokens ≡ [] → SpellsAutomaton m tokens w → ⊥
 spells_some m tokens w e s = let all = sym e ∙ s.spelled in cc
@@ -69,40 +71,40 @@ deep_aborted tokens used rest f n =
 -- what halts at one place is one thing
 one_halt : (a b : Standing) (tokens : List Token) (used : ℕ) (rest : List ℕ) → Halts a tokens used rest → Halts b tokens used rest → a ≡ b
 one_halt Blank Blank tokens used rest f g = refl
-one_halt Blank (Whole w r) tokens used rest f g = absurd (spells_some most_depth tokens w f.0 g.0)
+one_halt Blank (Whole w r) tokens used rest f g = absurd (spells_some MOST_DEPTH tokens w f.0 g.0)
 one_halt Blank Deep tokens used rest f g = absurd (next_no_blanks used rest g.1.token g.1.next f.1)
 one_halt Blank (Bad k) tokens used rest f g = absurd (fault_no_blanks k tokens used rest g.1 f.1)
 one_halt Blank (Aborted r') tokens used rest f g = absurd (g.1 f.0)
 one_halt Blank Cut tokens used rest f g = absurd (blank_cut tokens used rest f g)
-one_halt (Whole w r) Blank tokens used rest f g = absurd (spells_some most_depth tokens w g.0 f.0)
+one_halt (Whole w r) Blank tokens used rest f g = absurd (spells_some MOST_DEPTH tokens w g.0 f.0)
 one_halt (Whole w r) (Whole v s) tokens used rest f g =
-    let same = one_raw most_depth most_depth tokens w v f.0 g.0 in
+    let same = one_raw MOST_DEPTH MOST_DEPTH tokens w v f.0 g.0 in
     let ends : r ≡ s = f.1 ∙ sym g.1 in
     cc
-one_halt (Whole w r) Deep tokens used rest f g = absurd (g.0.unfinished most_depth w f.0)
-one_halt (Whole w r) (Bad k) tokens used rest f g = absurd (g.0.unfinished most_depth w f.0)
-one_halt (Whole w r) (Aborted r') tokens used rest f g = absurd (g.0.unfinished most_depth w f.0)
-one_halt (Whole w r) Cut tokens used rest f g = absurd (g.0.unfinished most_depth w f.0)
+one_halt (Whole w r) Deep tokens used rest f g = absurd (g.0.unfinished MOST_DEPTH w f.0)
+one_halt (Whole w r) (Bad k) tokens used rest f g = absurd (g.0.unfinished MOST_DEPTH w f.0)
+one_halt (Whole w r) (Aborted r') tokens used rest f g = absurd (g.0.unfinished MOST_DEPTH w f.0)
+one_halt (Whole w r) Cut tokens used rest f g = absurd (g.0.unfinished MOST_DEPTH w f.0)
 one_halt Deep Blank tokens used rest f g = absurd (next_no_blanks used rest f.1.token f.1.next g.1)
-one_halt Deep (Whole w r) tokens used rest f g = absurd (f.0.unfinished most_depth w g.0)
+one_halt Deep (Whole w r) tokens used rest f g = absurd (f.0.unfinished MOST_DEPTH w g.0)
 one_halt Deep Deep tokens used rest f g = refl
 one_halt Deep (Bad k) tokens used rest f g = absurd (fault_next k tokens used rest f.1.token g.1 f.1.next f.1.most f.1.viable)
 one_halt Deep (Aborted r') tokens used rest f g = absurd (deep_aborted tokens used rest f (abandons tokens used rest r' g))
 one_halt Deep Cut tokens used rest f g = absurd (next_not_cut used rest f.1.token (tokens ≢ []) f.1.next g.1)
 one_halt (Bad k) Blank tokens used rest f g = absurd (fault_no_blanks k tokens used rest f.1 g.1)
-one_halt (Bad k) (Whole w r) tokens used rest f g = absurd (f.0.unfinished most_depth w g.0)
+one_halt (Bad k) (Whole w r) tokens used rest f g = absurd (f.0.unfinished MOST_DEPTH w g.0)
 one_halt (Bad k) Deep tokens used rest f g = absurd (fault_next k tokens used rest g.1.token f.1 g.1.next g.1.most g.1.viable)
 one_halt (Bad j) (Bad k) tokens used rest f g = ap Bad (one_fault j k tokens used rest f.1 g.1)
 one_halt (Bad k) (Aborted r') tokens used rest f g = absurd (fault_abort k tokens used rest f.1 g.1 (abandons tokens used rest r' g))
 one_halt (Bad k) Cut tokens used rest f g = absurd (fault_cut k tokens used rest f g)
 one_halt (Aborted r) Blank tokens used rest f g = absurd (f.1 g.0)
-one_halt (Aborted r') (Whole w r) tokens used rest f g = absurd (f.0.unfinished most_depth w g.0)
+one_halt (Aborted r') (Whole w r) tokens used rest f g = absurd (f.0.unfinished MOST_DEPTH w g.0)
 one_halt (Aborted r) Deep tokens used rest f g = absurd (deep_aborted tokens used rest g (abandons tokens used rest r f))
 one_halt (Aborted r) (Bad k) tokens used rest f g = absurd (fault_abort k tokens used rest g.1 f.1 (abandons tokens used rest r f))
 one_halt (Aborted r) (Aborted r') tokens used rest f g = ap Aborted (one_next_token rest used token.Abort token.Abort f.2 g.2 r r' f.3 g.3).2
 one_halt (Aborted r) Cut tokens used rest f g = absurd (next_not_cut used rest token.Abort (tokens ≢ []) (abandons tokens used rest r f) g.1)
 one_halt Cut Blank tokens used rest f g = absurd (blank_cut tokens used rest g f)
-one_halt Cut (Whole w r) tokens used rest f g = absurd (f.0.unfinished most_depth w g.0)
+one_halt Cut (Whole w r) tokens used rest f g = absurd (f.0.unfinished MOST_DEPTH w g.0)
 one_halt Cut Deep tokens used rest f g = absurd (next_not_cut used rest g.1.token (tokens ≢ []) g.1.next f.1)
 one_halt Cut (Bad k) tokens used rest f g = absurd (fault_cut k tokens used rest g f)
 one_halt Cut (Aborted r') tokens used rest f g = absurd (next_not_cut used rest token.Abort (tokens ≢ []) (abandons tokens used rest r' g) f.1)
@@ -112,7 +114,7 @@ one_halt Cut Cut tokens used rest f g = refl
 not_further : (a b : Standing) (ps qs : List (Token × ℕ)) (used used' : ℕ) (rest rest' : List ℕ) → Halts a (shown ps) used rest → Halts b (shown qs) used' rest' → IsFurther ps qs used rest → ⊥
 not_further a b ps qs used used' rest rest' f g h =
     halts_here a (shown ps) (shown h.more) h.token.0 used rest f (record { offset = h.token.1; after = h.after; next = h.next })
-    (subst (λ (ts : List Token). IsViable most_depth ts) (ap shown h.goes_on ∙ map-append (λ p. p.0) ps (h.token ∷ h.more)) (halts_viable b (shown qs) used' rest' g))
+    (subst (λ (ts : List Token). IsViable MOST_DEPTH ts) (ap shown h.goes_on ∙ map-append (λ p. p.0) ps (h.token ∷ h.more)) (halts_viable b (shown qs) used' rest' g))
 
 same_place : (b : Standing) (ps qs : List (Token × ℕ)) (start : ℕ) (text rest rest' : List ℕ) → ps ≡ qs → rest ≡ rest' → Halts b (shown qs) (place start text rest') rest'
     → Halts b (shown ps) (place start text rest) rest

@@ -7,7 +7,7 @@ use Rattle.hoa_lexer.proofs.next_token.Exclusive.{IsStuck, open_string_stuck, op
 use Rattle.hoa_lexer.proofs.next_token.Fronts.{asks_after, asks_blanks, asks_comment, asks_slash, at_once}
 use Rattle.hoa_lexer.proofs.next_token.StuckPlaces.{string_begins}
 use Rattle.hoa_lexer.proofs.spelling.Comments.{closing_sound}
-use Rattle.hoa_parser.specs.Standing.{EndsOpen}
+use Rattle.hoa_parser.specs.inner.Parsing.{EndsOpen}
 
 -- no front of the bytes closes the comment
 never_closed : (rest : List ℕ) (found : Option (List ℕ)) → closing 1 rest ≡ found → ((body more : List ℕ) → rest ≡ body ++ more → ClosesComments 1 body → ⊥) → closing 1 rest ≡ None

@@ -1,6 +1,7 @@
 -- In every text something stands next.
 use Rattle.std.proofs.Common.{◌≡◌, ◌≢◌, ℕ, zero, suc, ◌+◌, ◌-◌, ◌≤◌, ◌<◌, ◌⊎◌, List, [], ◌∷◌, ◌++◌, length, map, Option, Some, None, inl, inr, refl, sym, ap, subst, ◌∙◌, arith}
 use Rattle.std.proofs.lemmas.List.{length-append}
+use Rattle.aut_base.specs.declared.limit.TheConstants.{MOST_DEPTH}
 use Rattle.hoa_lexer.proofs.spelling.FirstBytes.{spelled_some}
 use Rattle.hoa_lexer.specs.Blanks.{IsBlanks}
 use Rattle.hoa_lexer.proofs.next_token.Cases.{some_next}
@@ -17,7 +18,7 @@ use Rattle.hoa_parser.proofs.standing.StandingTokens.{Stand, stand_more}
 use Rattle.hoa_parser.specs.Grammar.{SpellsAutomaton}
 use Rattle.hoa_parser.specs.inner.Expecting as part
 use Rattle.hoa_parser.specs.inner.Expecting.{Part, parts_after, parts_behind}
-use Rattle.hoa_parser.specs.Standing.{IsBegun, SomeStanding, Standing, Stands, most_depth}
+use Rattle.hoa_parser.specs.Standing.{IsBegun, SomeStanding, Standing, Stands}
 use Rattle.hoa_parser.specs.Standing.Standing.{Blank, Whole, Deep, Bad, Aborted, Cut}
 
 abbrev Nothing : ℕ → List ℕ → Type 0
@@ -27,10 +28,10 @@ Nothing start text = (s : Standing) → Stands s start text → ⊥
 record Reached (start : ℕ) (text : List ℕ) (tokens : List Token) (used : ℕ) (rest : List ℕ) (left : List Part) : Type 0 where
   stand : Stand start text tokens used rest
   shorter : length rest ≤ length text
-  leads : parts_after most_depth (part.Whole ∷ []) tokens ≡ Some left
+  leads : parts_after MOST_DEPTH (part.Whole ∷ []) tokens ≡ Some left
 
 begun : (start : ℕ) (text : List ℕ) (tokens : List Token) (used : ℕ) (rest : List ℕ) (p : Part) (ps : List Part) → Reached start text tokens used rest (p ∷ ps) → IsBegun start text tokens used rest
-begun start text tokens used rest p ps r = begun_with_tokens r.stand (viable most_depth tokens (p ∷ ps) r.leads) (unfinished tokens p ps r.leads)
+begun start text tokens used rest p ps r = begun_with_tokens r.stand (viable MOST_DEPTH tokens (p ∷ ps) r.leads) (unfinished tokens p ps r.leads)
 
 pub word_some : (t : Token) (word : List ℕ) → spelling.Spells t word → 1 ≤ length word
 word_some t [] h = absurd (spelled_some t h)
@@ -42,14 +43,14 @@ next_less input start t i rest n =
 
 -- one token more
 further : (start : ℕ) (text : List ℕ) (tokens : List Token) (used : ℕ) (rest : List ℕ) (left left' : List Part) (t : Token) (k : ℕ) (next : List ℕ) → Reached start text tokens used rest left
-    → IsNext rest used t k next → parts_behind most_depth left t ≡ Some left'
+    → IsNext rest used t k next → parts_behind MOST_DEPTH left t ≡ Some left'
     → Reached start text (tokens ++ t ∷ []) (used + (length rest - length next)) next left'
 further start text tokens used rest left left' t k next r n e =
     let less = next_less rest used t k next n in
     record {
       stand = stand_more start text tokens used rest t k next (used + (length rest - length next)) r.stand r.shorter n refl;
       shorter = omega (arith, r.shorter, less);
-      leads = after_next most_depth tokens left t r.leads ∙ e;
+      leads = after_next MOST_DEPTH tokens left t r.leads ∙ e;
     }
 
 nothing_placed : (placed : List (Token × ℕ)) → map (λ p. p.0) placed ≡ [] → placed ≡ []
@@ -79,7 +80,7 @@ aborts start text (t ∷ ts) used rest p ps k next none r n =
     none (Aborted next) (aborted_behind (begun start text (t ∷ ts) used rest p ps r) (λ e. (let no : t ∷ ts ≡ [] = e in cc)) n)
 
 refuses : (start : ℕ) (text : List ℕ) (tokens : List Token) (used : ℕ) (rest : List ℕ) (p : Part) (ps : List Part) (t : Token) (k : ℕ) (next : List ℕ) → Nothing start text
-    → Reached start text tokens used rest (p ∷ ps) → IsNext rest used t k next → parts_behind most_depth (p ∷ ps) t ≡ None → ⊥
+    → Reached start text tokens used rest (p ∷ ps) → IsNext rest used t k next → parts_behind MOST_DEPTH (p ∷ ps) t ≡ None → ⊥
 refuses start text tokens used rest p ps t k next none r n e =
     let first = begun start text tokens used rest p ps r in
     elim (abort_or t) [
@@ -88,7 +89,7 @@ refuses start text tokens used rest p ps t k next none r n e =
         next_token = t;
         after = next;
         next = n;
-        dead = λ most v. none Deep (deep_behind most first n v (refused most_depth (tokens ++ t ∷ []) (after_next most_depth tokens (p ∷ ps) t r.leads ∙ e)));
+        dead = λ most v. none Deep (deep_behind most first n v (refused MOST_DEPTH (tokens ++ t ∷ []) (after_next MOST_DEPTH tokens (p ∷ ps) t r.leads ∙ e)));
         no_abort = λ some. other;
       })))
     ]
@@ -96,8 +97,8 @@ refuses start text tokens used rest p ps t k next none r n e =
 -- it is the last one of an automaton
 whole : (start : ℕ) (text : List ℕ) (tokens : List Token) (used : ℕ) (rest : List ℕ) → Nothing start text → Reached start text tokens used rest [] → ⊥
 whole start text tokens used rest none r =
-    let spelled = whole_so most_depth tokens r.leads in
-    none (Whole spelled.0 rest) (record { placed = r.stand.placed; lexes = r.stand.lexes; spells = subst (λ (ts : List Token). SpellsAutomaton most_depth ts spelled.0) (sym r.stand.shown) spelled.1 })
+    let spelled = whole_so MOST_DEPTH tokens r.leads in
+    none (Whole spelled.0 rest) (record { placed = r.stand.placed; lexes = r.stand.lexes; spells = subst (λ (ts : List Token). SpellsAutomaton MOST_DEPTH ts spelled.0) (sym r.stand.shown) spelled.1 })
 
 -- a token stands next, behind which more is expected
 abbrev Later : ℕ → List ℕ → List Token → ℕ → List ℕ → Type 0
@@ -105,7 +106,7 @@ Later start text tokens used rest =
     (t : Token) (k : ℕ) (next : List ℕ) (q : Part) (qs : List Part) → IsNext rest used t k next → Reached start text (tokens ++ t ∷ []) (used + (length rest - length next)) next (q ∷ qs) → ⊥
 
 token_so : (start : ℕ) (text : List ℕ) (tokens : List Token) (used : ℕ) (rest : List ℕ) (p : Part) (ps : List Part) (t : Token) (k : ℕ) (next : List ℕ) (found : Option (List Part))
-    → parts_behind most_depth (p ∷ ps) t ≡ found → Nothing start text
+    → parts_behind MOST_DEPTH (p ∷ ps) t ≡ found → Nothing start text
     → Reached start text tokens used rest (p ∷ ps) → Later start text tokens used rest → IsNext rest used t k next → ⊥
 token_so start text tokens used rest p ps t k next None e none r later h = refuses start text tokens used rest p ps t k next none r h e
 token_so start text tokens used rest p ps t k next (Some []) e none r later h =
@@ -115,7 +116,7 @@ token_so start text tokens used rest p ps t k next (Some (q ∷ qs)) e none r la
 next_so : (start : ℕ) (text : List ℕ) (tokens : List Token) (used : ℕ) (rest : List ℕ) (p : Part) (ps : List Part) (a : Next) → Nothing start text
     → Reached start text tokens used rest (p ∷ ps) → Later start text tokens used rest → StandsNext a used rest → ⊥
 next_so start text tokens used rest p ps NoMore none r later h = blanks start text tokens used rest p ps none r h
-next_so start text tokens used rest p ps (OneToken t k next) none r later h = token_so start text tokens used rest p ps t k next (parts_behind most_depth (p ∷ ps) t) refl none r later h
+next_so start text tokens used rest p ps (OneToken t k next) none r later h = token_so start text tokens used rest p ps t k next (parts_behind MOST_DEPTH (p ∷ ps) t) refl none r later h
 next_so start text tokens used rest p ps (NoToken k) none r later h =
     none (Bad k) (bad_behind k (begun start text tokens used rest p ps r) (inr h))
 next_so start text tokens used rest p ps InComment none r later h =

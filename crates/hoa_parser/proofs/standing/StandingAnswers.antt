@@ -2,6 +2,7 @@
 use Rattle.std.proofs.Common.{◌≡◌, ◌≢◌, ℕ, ◌+◌, ◌-◌, ◌≤◌, true, false, List, [], ◌∷◌, ◌++◌, length, map, Option, Some, is_some, not, Result, Ok, Err, refl, sym, ap, subst, ◌∙◌, inl, inr, arith}
 use Rattle.std.proofs.lemmas.List.{append_assoc}
 use Rattle.std.specs.Prelude.{◌⊎◌, flat_map}
+use Rattle.aut_base.specs.declared.limit.TheConstants.{MOST_DEPTH}
 use Rattle.aut_io.specs.Seen.{Seen}
 use Rattle.hoa_lexer.proofs.next_token.Fronts.{length_unread}
 use Rattle.hoa_lexer.specs.Blanks.{IsBlanks}
@@ -25,15 +26,17 @@ use Rattle.hoa_parser.proofs.reading.FrontParts.{refuses_behind, unended_then}
 use Rattle.hoa_parser.proofs.standing.Readings.{next_shorter}
 use Rattle.hoa_parser.proofs.standing.StandingTokens.{stand_before, stand_with}
 use Rattle.hoa_parser.proofs.grammar.Viability.{viable}
+use Rattle.hoa_parser.specs.Grammar.{SpellsAutomaton}
 use Rattle.hoa_parser.specs.inner.Expecting as part
 use Rattle.hoa_parser.specs.inner.Expecting.{Part, parts_after, parts_behind, move}
 use Rattle.hoa_parser.specs.inner.Faults.{read_fault}
 use Rattle.hoa_parser.specs.Phrases.{AutomatonPhrase, automaton_tokens, item_tokens, state_tokens}
 use Rattle.hoa_parser.specs.inner.Parsing.{Abandons, Cursor, FailsParts, FailsAt, PassesTokens, Passed, HoldsOfPlaces, ReadsTo, RefusesToken, Relation, State, TooDeep, Unended, Unread, cursor_of}
+use Rattle.hoa_parser.specs.inner.Parsing.{EndsOpen}
 use Rattle.hoa_parser.specs.inner.RuleReads.{IsAutomaton, open_tokens}
-use Rattle.hoa_parser.specs.Raw.{written}
+use Rattle.hoa_parser.specs.Raw.{Written, written}
 use Rattle.hoa_parser.specs.Reads.{AnswersFront}
-use Rattle.hoa_parser.specs.Standing.{EndsOpen, IsAborted, IsBad, IsBegun, IsDeep, IsWhole, SpellsNothing, most_depth}
+use Rattle.hoa_parser.specs.Standing.{IsAborted, IsBad, IsBegun, IsDeep, IsWhole}
 use Rattle.hoa_parser.specs.declared.fault.ReadFault.{ReadFault}
 use Rattle.hoa_parser.specs.declared.fault.ReadFault.TheVariants as fault
 use Rattle.hoa_parser.specs.declared.read.Front.{Front}
@@ -48,7 +51,7 @@ never_ended (t ∷ ts) h = never_ended ts h.1
 ended_tokens : (p : AutomatonPhrase) → open_tokens p ++ token.End ∷ [] ≡ automaton_tokens p
 ended_tokens p = ap (λ (ts : List Token). opening ∷ token.Identifier p.version ∷ ts) (append_assoc (flat_map item_tokens p.items) (token.Body ∷ flat_map state_tokens p.states) (token.End ∷ []))
 
-spells_nothing : (ts : List Token) → Unended ts → SpellsNothing ts
+spells_nothing : (ts : List Token) → Unended ts → (most : ℕ) (w : Written) → SpellsAutomaton most ts w → ⊥
 spells_nothing ts unended most w s =
     let p = have_phrases most ts w s in
     never_ended (open_tokens p.phrase) (subst Unended (p.spelled ∙ sym (ended_tokens p.phrase)) unended)
@@ -76,7 +79,7 @@ before start text a b target g starts =
     record {
       used = s.used;
       rest = s.rest;
-      begun = begun_with_tokens s.stand (viable most_depth g.tokens (g.left ++ []) (g.leads.runs [])) (spells_nothing g.tokens g.unended);
+      begun = begun_with_tokens s.stand (viable MOST_DEPTH g.tokens (g.left ++ []) (g.leads.runs [])) (spells_nothing g.tokens g.unended);
       next = s.next;
     }
 
@@ -86,7 +89,7 @@ pub begun_with : (f : ReadFault) (start : ℕ) (text : List ℕ) (a last : Curso
 begun_with f start text a last u starts =
     let g = u.goes in
     begun_with_tokens (stand_with start text a u.b g.tokens starts.next starts.used g.passed)
-    (viable most_depth (g.tokens ++ u.b.token ∷ []) (u.left ++ []) (after_next most_depth g.tokens (g.left ++ []) u.b.token (g.leads.runs []) ∙ g.over most_depth [] ∙ u.taken []))
+    (viable MOST_DEPTH (g.tokens ++ u.b.token ∷ []) (u.left ++ []) (after_next MOST_DEPTH g.tokens (g.left ++ []) u.b.token (g.leads.runs []) ∙ g.over MOST_DEPTH [] ∙ u.taken []))
     (spells_nothing (g.tokens ++ u.b.token ∷ []) (unended_then g.tokens (u.b.token ∷ []) g.unended (u.unended, tt)))
 
 some_more : (ts : List Token) (z : Token) → ts ++ z ∷ [] ≢ []
@@ -122,7 +125,7 @@ abbrev pub too_deep : (start : ℕ) (text : List ℕ) (a b : Cursor) → Starts 
 too_deep start text a b starts d =
     let g = d.goes in
     let s = before start text a b d.target g starts in
-    let both = deep d.most g.tokens (g.left ++ []) (d.left ++ []) b.token (g.leads.runs []) (g.over most_depth [] ∙ d.refused []) (g.over d.most [] ∙ d.taken []) d.more in
+    let both = deep d.most g.tokens (g.left ++ []) (d.left ++ []) b.token (g.leads.runs []) (g.over MOST_DEPTH [] ∙ d.refused []) (g.over d.most [] ∙ d.taken []) d.more in
     deep_behind d.most s.begun s.next both.0 both.1
 
 ends_so : (tokens : List Token) (rest : List ℕ) → tokens ≢ [] → IsBlanks rest ⊎ EndsOpen rest → (tokens ≢ []) × IsBlanks rest ⊎ EndsOpen rest
@@ -174,7 +177,7 @@ answers_whole raw start text a b starts is =
     record {
       placed = s.placed;
       lexes = s.lexes;
-      spells = phrases_spell most_depth (map (λ p. p.0) s.placed) (written raw) (record {
+      spells = phrases_spell MOST_DEPTH (map (λ p. p.0) s.placed) (written raw) (record {
         phrase = w.phrase;
         within = w.within;
         spelled = s.shown ∙ ap (λ (z : Token). open_tokens w.phrase ++ z ∷ []) is.ends ∙ ended_tokens w.phrase;

@@ -1,5 +1,6 @@
 -- What stands in front of bytes, token by token, with blanks before each and behind the last.
 use Rattle.std.specs.Prelude.{◌≡◌, ℕ, suc, ◌≤◌, List, [], ◌∷◌, ◌++◌, codes, map, Option, Some, None}
+use Rattle.aut_base.specs.declared.limit.TheConstants.{MOST_DEPTH}
 use Rattle.hoa_lexer.specs.Text.{IsFront}
 use Rattle.hoa_lexer.specs.inner.Steps.{PassesBlanks}
 use Rattle.hoa_lexer.specs.declared.token.Token.{Token}
@@ -11,7 +12,6 @@ use Rattle.hoa_parser.specs.declared.parse.plain.Next.{Next}
 use Rattle.hoa_parser.specs.declared.parse.plain.Next.TheVariants as next
 use Rattle.hoa_parser.specs.inner.RuleReads.{LandPhrase, LandWithin, head_meaning, land_meaning, land_tokens, written_head}
 use Rattle.hoa_parser.specs.Raw.{RawTree, raw_all, raw_tree, written_edge}
-use Rattle.hoa_parser.specs.Standing.{most_depth}
 use Rattle.hoa_parser.specs.declared.raw.RawEdge.{RawEdge}
 use Rattle.hoa_parser.specs.declared.raw.RawLabel.{RawLabel}
 
@@ -36,16 +36,16 @@ IsSigned sign x y = (left : List ℕ) × (x ≡ sign ∷ left) × PassesBlanks l
 
 -- so wherever one more `(` or `!` may be open
 abbrev pub Anywhere : (ℕ → Type 0) → Type 0
-Anywhere Within = (depth : ℕ) → suc depth ≤ most_depth → Within depth
+Anywhere Within = (depth : ℕ) → suc depth ≤ MOST_DEPTH → Within depth
 
 abbrev pub Shallow : Lnot → Type 0
-Shallow f = Anywhere (λ d. LnotWithin most_depth d f)
+Shallow f = Anywhere (λ d. LnotWithin MOST_DEPTH d f)
 
 abbrev pub ShallowLand : LandPhrase → Type 0
 ShallowLand p = Anywhere (λ d. LandWithin d p)
 
 abbrev pub ShallowLnots : Lnots → Type 0
-ShallowLnots fs = Anywhere (λ d. LnotsWithin most_depth d fs)
+ShallowLnots fs = Anywhere (λ d. LnotsWithin MOST_DEPTH d fs)
 
 -- "t" | "f" | "!"? INT
 abbrev pub IsLiteralOf : RawTree → List ℕ → List ℕ → Type 0
@@ -83,13 +83,13 @@ abbrev pub factors_meaning : Label → List RawTree
 factors_meaning (label f fs ls) = raw_conjunction (lnot_meaning f) (lnots_meaning fs) ∷ lands_meaning ls
 
 abbrev pub AreFactors : List RawTree → List ℕ → List ℕ → Type 0
-AreFactors = IsSpelled (LabelWithin most_depth 0) label_tokens factors_meaning
+AreFactors = IsSpelled (LabelWithin MOST_DEPTH 0) label_tokens factors_meaning
 
 abbrev pub AreMoreFactors : RawTree → RawLabel → List ℕ → List ℕ → Type 0
-AreMoreFactors first l = IsSpelled (LabelWithin most_depth 0) label_tokens (λ p. disjunction first (factors_meaning p)) (raw_tree l)
+AreMoreFactors first l = IsSpelled (LabelWithin MOST_DEPTH 0) label_tokens (λ p. disjunction first (factors_meaning p)) (raw_tree l)
 
 abbrev pub IsLabel : RawLabel → List ℕ → List ℕ → Type 0
-IsLabel l = IsSpelled (LabelWithin most_depth 0) label_tokens label_meaning (raw_tree l)
+IsLabel l = IsSpelled (LabelWithin MOST_DEPTH 0) label_tokens label_meaning (raw_tree l)
 
 -- INT* "}", and sig?
 abbrev pub AreMarks : List ℕ → List ℕ → List ℕ → Type 0
@@ -112,7 +112,7 @@ pub record IsPlain (edge : RawEdge) (x y : List ℕ) : Type 0 where
   pub label : Label
   pub goal : ℕ
   pub marks : Option (List ℕ)
-  pub within : LabelWithin most_depth 0 label
+  pub within : LabelWithin MOST_DEPTH 0 label
   pub spelled : Spelled x ((label_tokens label ++ token.RightBracket ∷ []) ++ (token.Int goal ∷ optional_marks marks)) y
   pub means : written_edge edge ≡ edge_meaning (record { label = Some label; to = record { first = goal; others = [] }; marks = marks })
 

@@ -1,18 +1,19 @@
 -- What the inner functions of the reader say of the bytes. Each reads a part of the automaton from a place on.
 use Rattle.std.specs.Prelude.{◌≡◌, ◌≢◌, ℕ, ◌+◌, ◌-◌, ◌≤◌, ◌<◌, ◌⊎◌, Bool, true, false, not, is_some, List, [], ◌∷◌, ◌++◌, length, Option, Some, None, Result, Ok, Err}
 use Rattle.std.specs.List.{AllByRecursion}
+use Rattle.aut_base.specs.declared.limit.TheConstants.{MOST_DEPTH}
 use Rattle.aut_io.specs.Seen.{Seen}
-use Rattle.hoa_lexer.specs.Blanks.{IsBlanks}
+use Rattle.hoa_lexer.specs.Blanks.{IsBlanks, IsOpenComment}
 use Rattle.hoa_lexer.specs.Moves.{MovesLexer, Elsewhere}
 use Rattle.hoa_lexer.specs.Reading.{Tells, held_count, unread}
 use Rattle.hoa_lexer.specs.Spelling.{closes_itself}
-use Rattle.hoa_lexer.specs.Text.{AskedForOne, AsksPast, IsNext, IsShownBy}
+use Rattle.hoa_lexer.specs.Text.{AfterBlanks, AskedForOne, AsksPast, IsNext, IsOpenString, IsOpenToken, IsShownBy}
 use Rattle.hoa_lexer.specs.declared.lexer.Lexer.{Lexer}
 use Rattle.hoa_lexer.specs.declared.token.Token.{Token}
 use Rattle.hoa_lexer.specs.declared.token.Token.TheVariants as token
 use Rattle.hoa_parser.specs.inner.Expecting.{Part, parts_after, parts_behind}
 use Rattle.hoa_parser.specs.Reads.{stop_of_read_fault}
-use Rattle.hoa_parser.specs.Standing.{EndsOpen, IsNoTokenAt, most_depth}
+use Rattle.hoa_parser.specs.Standing.{IsNoTokenAt}
 use Rattle.hoa_parser.specs.declared.fault.ReadFault.{ReadFault}
 use Rattle.hoa_parser.specs.declared.fault.ReadFault.TheVariants as fault
 
@@ -38,7 +39,7 @@ Passed a (t ∷ ts) b = (m : Cursor) × (t ≡ a.token) × Follows a m × Passed
 
 -- The tokens lead to what is left of these parts, whatever is expected behind the parts.
 pub record LeadsToParts (parts : List Part) (tokens : List Token) (left : List Part) : Type 0 where
-  pub runs : (others : List Part) → parts_after most_depth (parts ++ others) tokens ≡ Some (left ++ others)
+  pub runs : (others : List Part) → parts_after MOST_DEPTH (parts ++ others) tokens ≡ Some (left ++ others)
 
 -- an automaton ends with `--END--`, and only then
 abbrev pub is_end : Token → Bool
@@ -68,9 +69,9 @@ pub record RefusesToken (parts : List Part) (a b : Cursor) : Type 0 where
 pub record TooDeep (parts : List Part) (a b : Cursor) : Type 0 where
   pub target : List Part
   pub goes : PassesTokens parts a target b
-  pub refused : (others : List Part) → parts_behind most_depth (target ++ others) b.token ≡ None
+  pub refused : (others : List Part) → parts_behind MOST_DEPTH (target ++ others) b.token ≡ None
   pub most : ℕ
-  pub more : most_depth ≤ most
+  pub more : MOST_DEPTH ≤ most
   pub left : List Part
   pub taken : (others : List Part) → parts_behind most (target ++ others) b.token ≡ Some (left ++ others)
 
@@ -80,6 +81,10 @@ HaltsHere (fault.Syntax k) parts a b = RefusesToken parts a b × (k ≡ b.offset
 HaltsHere fault.Depth parts a b = TooDeep parts a b
 HaltsHere fault.Memory parts a b = (target : List Part) × PassesTokens parts a target b
 HaltsHere _ parts a b = ⊥
+
+-- a text ends inside a comment, a string or another token
+abbrev pub EndsOpen : List ℕ → Type 0
+EndsOpen rest = AfterBlanks rest IsOpenComment ⊎ (AfterBlanks rest IsOpenString ⊎ AfterBlanks rest IsOpenToken)
 
 -- why the lexer gave no token behind `used` bytes of the text, where `new` is unread afterwards
 abbrev pub Unlexed : ReadFault → ℕ → List ℕ → List ℕ → Type 0
@@ -96,7 +101,7 @@ pub record Unread (fault : ReadFault) (parts : List Part) (a last : Cursor) : Ty
   pub b : Cursor
   pub goes : PassesTokens parts a target b
   pub left : List Part
-  pub taken : (others : List Part) → parts_behind most_depth (target ++ others) b.token ≡ Some (left ++ others)
+  pub taken : (others : List Part) → parts_behind MOST_DEPTH (target ++ others) b.token ≡ Some (left ++ others)
   pub unended : is_end b.token ≡ false
   pub bytes : Unlexed fault b.used b.rest last.rest
   pub held : last.held ≡ None

@@ -8,7 +8,8 @@ use Rattle.hoa_lexer.specs.declared.token.Token.{Token}
 use Rattle.hoa_lexer.specs.declared.token.Token.TheVariants as token
 use Rattle.hoa_parser.specs.Phrases.{AccValue, AutomatonPhrase, AutomatonWithin, ConditionWithin, Conj, FandsWithin, Fatom, FatomWithin, Fatoms}
 use Rattle.hoa_parser.specs.Phrases.{FatomsWithin, ItemPhrase, ItemWithin, Label, LabelWithin, LandsWithin, Lnot, LnotWithin, Lnots, LnotsWithin}
-use Rattle.hoa_parser.specs.Grammar.{and_number, bang_tokens, header_of, optional_text, set_tokens}
+use Rattle.hoa_parser.specs.Grammar.{and_number, bang_tokens, optional_text, set_tokens}
+use Rattle.hoa_parser.specs.Headers.{header_of}
 use Rattle.hoa_parser.specs.Phrases.{OptionalWithin, StateWithin, Value, acc_value_token, formula_conjunction, automaton_meaning}
 use Rattle.hoa_parser.specs.Phrases.{condition_meaning, condition_tokens, conj_meaning, conj_tokens, raw_conjunction, disjunction}
 use Rattle.hoa_parser.specs.Phrases.{edge_meaning, edge_tokens, fands_meaning, fands_tokens, fatom_meaning, fatom_tokens, fatoms_meaning}
@@ -20,9 +21,9 @@ use Rattle.hoa_parser.specs.inner.Expecting.{Part}
 use Rattle.hoa_parser.specs.inner.Parsing.{IsWritten, Passed, Cursor}
 use Rattle.hoa_parser.specs.Raw as raw
 use Rattle.hoa_parser.specs.Raw.{RawTree, WrittenEdge, WrittenItem, WrittenState, raw_tree, written, written_edge, written_item, written_state}
-use Rattle.hoa_parser.specs.Standing.{most_depth}
 use Rattle.hoa_parser.specs.declared.header.Header.{Header}
 use Rattle.aut_base.specs.Text.{same_text}
+use Rattle.aut_base.specs.declared.limit.TheConstants.{MOST_DEPTH}
 use Rattle.hoa_parser.specs.declared.parse.body.StateHead.{StateHead}
 use Rattle.hoa_parser.specs.declared.parse.condition.SetAt.{SetAt}
 use Rattle.hoa_parser.specs.declared.parse.condition.Sign.{Sign}
@@ -89,18 +90,18 @@ AddsMarks before marks a b = (more : List ℕ) × Passed a (map token.Int more +
 
 -- lnot, land, label
 abbrev pub IsLnot : ℕ → RawLabel → Cursor → Cursor → Type 0
-IsLnot depth l = IsWritten (LnotWithin most_depth depth) lnot_tokens lnot_meaning (raw_tree l)
+IsLnot depth l = IsWritten (LnotWithin MOST_DEPTH depth) lnot_tokens lnot_meaning (raw_tree l)
 
 -- "&" lnot
 abbrev pub IsAndLnot : ℕ → RawLabel → Cursor → Cursor → Type 0
-IsAndLnot depth l = IsWritten (LnotWithin most_depth depth) (λ f. token.Amp ∷ lnot_tokens f) lnot_meaning (raw_tree l)
+IsAndLnot depth l = IsWritten (LnotWithin MOST_DEPTH depth) (λ f. token.Amp ∷ lnot_tokens f) lnot_meaning (raw_tree l)
 
 pub record LandPhrase : Type 0 where
   pub first : Lnot
   pub others : Lnots
 
 abbrev pub LandWithin : ℕ → LandPhrase → Type 0
-LandWithin depth p = LnotWithin most_depth depth p.first × LnotsWithin most_depth depth p.others
+LandWithin depth p = LnotWithin MOST_DEPTH depth p.first × LnotsWithin MOST_DEPTH depth p.others
 
 abbrev pub land_tokens : LandPhrase → List Token
 land_tokens p = lnot_tokens p.first ++ lnots_tokens p.others
@@ -116,28 +117,28 @@ abbrev pub IsOrLand : ℕ → RawLabel → Cursor → Cursor → Type 0
 IsOrLand depth l = IsWritten (LandWithin depth) (λ p. token.Bar ∷ land_tokens p) land_meaning (raw_tree l)
 
 abbrev pub IsLabel : ℕ → RawLabel → Cursor → Cursor → Type 0
-IsLabel depth l = IsWritten (LabelWithin most_depth depth) label_tokens label_meaning (raw_tree l)
+IsLabel depth l = IsWritten (LabelWithin MOST_DEPTH depth) label_tokens label_meaning (raw_tree l)
 
 -- ("&" lnot)* and ("|" land)* behind a first part
 abbrev pub IsAndLnots : ℕ → RawTree → RawLabel → Cursor → Cursor → Type 0
-IsAndLnots depth first l = IsWritten (LnotsWithin most_depth depth) lnots_tokens (λ fs. raw_conjunction first (lnots_meaning fs)) (raw_tree l)
+IsAndLnots depth first l = IsWritten (LnotsWithin MOST_DEPTH depth) lnots_tokens (λ fs. raw_conjunction first (lnots_meaning fs)) (raw_tree l)
 
 abbrev pub IsOrLands : ℕ → RawTree → RawLabel → Cursor → Cursor → Type 0
-IsOrLands depth first l = IsWritten (LandsWithin most_depth depth) lands_tokens (λ ls. disjunction first (lands_meaning ls)) (raw_tree l)
+IsOrLands depth first l = IsWritten (LandsWithin MOST_DEPTH depth) lands_tokens (λ ls. disjunction first (lands_meaning ls)) (raw_tree l)
 
 -- the same of formulas
 abbrev pub IsFatom : ℕ → Formula → Cursor → Cursor → Type 0
-IsFatom depth l = IsWritten (FatomWithin most_depth depth) fatom_tokens fatom_meaning (formula_tree l)
+IsFatom depth l = IsWritten (FatomWithin MOST_DEPTH depth) fatom_tokens fatom_meaning (formula_tree l)
 
 abbrev pub IsAndFatom : ℕ → Formula → Cursor → Cursor → Type 0
-IsAndFatom depth l = IsWritten (FatomWithin most_depth depth) (λ f. token.Amp ∷ fatom_tokens f) fatom_meaning (formula_tree l)
+IsAndFatom depth l = IsWritten (FatomWithin MOST_DEPTH depth) (λ f. token.Amp ∷ fatom_tokens f) fatom_meaning (formula_tree l)
 
 pub record FandPhrase : Type 0 where
   pub first : Fatom
   pub others : Fatoms
 
 abbrev pub FandWithin : ℕ → FandPhrase → Type 0
-FandWithin depth p = FatomWithin most_depth depth p.first × FatomsWithin most_depth depth p.others
+FandWithin depth p = FatomWithin MOST_DEPTH depth p.first × FatomsWithin MOST_DEPTH depth p.others
 
 abbrev pub fand_tokens : FandPhrase → List Token
 fand_tokens p = fatom_tokens p.first ++ fatoms_tokens p.others
@@ -152,14 +153,14 @@ abbrev pub IsOrFand : ℕ → Formula → Cursor → Cursor → Type 0
 IsOrFand depth l = IsWritten (FandWithin depth) (λ p. token.Bar ∷ fand_tokens p) fand_meaning (formula_tree l)
 
 abbrev pub IsCondition : ℕ → Formula → Cursor → Cursor → Type 0
-IsCondition depth l = IsWritten (ConditionWithin most_depth depth) condition_tokens condition_meaning (formula_tree l)
+IsCondition depth l = IsWritten (ConditionWithin MOST_DEPTH depth) condition_tokens condition_meaning (formula_tree l)
 
 -- ("&" fatom)* and ("|" fand)* behind a first part
 abbrev pub IsAndFatoms : ℕ → FormulaTree → Formula → Cursor → Cursor → Type 0
-IsAndFatoms depth first l = IsWritten (FatomsWithin most_depth depth) fatoms_tokens (λ fs. formula_conjunction first (fatoms_meaning fs)) (formula_tree l)
+IsAndFatoms depth first l = IsWritten (FatomsWithin MOST_DEPTH depth) fatoms_tokens (λ fs. formula_conjunction first (fatoms_meaning fs)) (formula_tree l)
 
 abbrev pub IsOrFands : ℕ → FormulaTree → Formula → Cursor → Cursor → Type 0
-IsOrFands depth first l = IsWritten (FandsWithin most_depth depth) fands_tokens (λ ls. formula_disjunction first (fands_meaning ls)) (formula_tree l)
+IsOrFands depth first l = IsWritten (FandsWithin MOST_DEPTH depth) fands_tokens (λ ls. formula_disjunction first (fands_meaning ls)) (formula_tree l)
 
 -- the constant that a word is, if it is one
 abbrev pub truth_value : List ℕ → Option RawTree
@@ -194,15 +195,15 @@ IsMaybeBang neg a b = Passed a (bang_tokens neg) b
 
 -- an item, and the items of a header
 abbrev pub IsItem : Item → Cursor → Cursor → Type 0
-IsItem item = IsWritten (ItemWithin most_depth) item_tokens item_meaning (written_item item)
+IsItem item = IsWritten (ItemWithin MOST_DEPTH) item_tokens item_meaning (written_item item)
 
 abbrev pub AreItems : List Item → Cursor → Cursor → Type 0
-AreItems items = IsWritten (AllByRecursion (ItemWithin most_depth)) (flat_map item_tokens) (map item_meaning) (map written_item items)
+AreItems items = IsWritten (AllByRecursion (ItemWithin MOST_DEPTH)) (flat_map item_tokens) (map item_meaning) (map written_item items)
 
 -- with this name before them the tokens are an item
 pub record IsItemWith (name : List ℕ) (tokens : List Token) (item : WrittenItem) : Type 0 where
   pub phrase : ItemPhrase
-  pub within : ItemWithin most_depth phrase
+  pub within : ItemWithin MOST_DEPTH phrase
   pub spelled : token.HeaderName name ∷ tokens ≡ item_tokens phrase
   pub means : item ≡ item_meaning phrase
 
@@ -225,13 +226,13 @@ IsOpened l a c = (b : Cursor) × Passed a (token.LeftBracket ∷ []) b × IsLabe
 
 -- a label in brackets, or none
 abbrev pub IsMaybeLabel : Option RawLabel → Cursor → Cursor → Type 0
-IsMaybeLabel label = IsWritten (OptionalWithin most_depth) optional_label (option_map label_meaning) (option_map raw_tree label)
+IsMaybeLabel label = IsWritten (OptionalWithin MOST_DEPTH) optional_label (option_map label_meaning) (option_map raw_tree label)
 
 abbrev pub IsEdge : RawEdge → Cursor → Cursor → Type 0
-IsEdge edge = IsWritten (λ e. OptionalWithin most_depth e.label) edge_tokens edge_meaning (written_edge edge)
+IsEdge edge = IsWritten (λ e. OptionalWithin MOST_DEPTH e.label) edge_tokens edge_meaning (written_edge edge)
 
 abbrev pub AreEdgesWritten : List RawEdge → Cursor → Cursor → Type 0
-AreEdgesWritten edges = IsWritten (AllByRecursion (λ e. OptionalWithin most_depth e.label)) (flat_map edge_tokens) (map edge_meaning) (map written_edge edges)
+AreEdgesWritten edges = IsWritten (AllByRecursion (λ e. OptionalWithin MOST_DEPTH e.label)) (flat_map edge_tokens) (map edge_meaning) (map written_edge edges)
 
 -- a state without its edges
 pub record HeadPhrase : Type 0 where
@@ -255,14 +256,14 @@ abbrev pub written_head : StateHead → WrittenHead
 written_head h = record { label = option_map raw_tree h.label; number = h.number; marks = h.marks }
 
 abbrev pub IsHead : StateHead → Cursor → Cursor → Type 0
-IsHead head = IsWritten (λ h. OptionalWithin most_depth h.label) head_tokens head_meaning (written_head head)
+IsHead head = IsWritten (λ h. OptionalWithin MOST_DEPTH h.label) head_tokens head_meaning (written_head head)
 
 abbrev pub IsState : RawState → Cursor → Cursor → Type 0
-IsState state = IsWritten (StateWithin most_depth) state_tokens state_meaning (written_state state)
+IsState state = IsWritten (StateWithin MOST_DEPTH) state_tokens state_meaning (written_state state)
 
 -- the states of a body, behind which `--END--` is at hand
 pub record AreStatesWritten (states : List RawState) (a b : Cursor) : Type 0 where
-  pub written : IsWritten (AllByRecursion (StateWithin most_depth)) (flat_map state_tokens) (map state_meaning) (map written_state states) a b
+  pub written : IsWritten (AllByRecursion (StateWithin MOST_DEPTH)) (flat_map state_tokens) (map state_meaning) (map written_state states) a b
   pub ends : b.token ≡ token.End
 
 -- the tokens of an automaton before its `--END--`
@@ -272,5 +273,5 @@ open_tokens a =
 
 -- an automaton, whose `--END--` is at hand
 pub record IsAutomaton (automaton : Raw) (a b : Cursor) : Type 0 where
-  pub is_written : IsWritten (AutomatonWithin most_depth) open_tokens automaton_meaning (written automaton) a b
+  pub is_written : IsWritten (AutomatonWithin MOST_DEPTH) open_tokens automaton_meaning (written automaton) a b
   pub ends : b.token ≡ token.End

@@ -12,9 +12,9 @@ use Rattle.hoa_parser.specs.Phrases.Lnots.{no_lnot, and_lnot}
 use Rattle.hoa_parser.specs.Phrases.Lnot.{true_label, false_label, proposition, negated}
 use Rattle.hoa_parser.specs.Raw.{RawTree, raw_trees}
 use Rattle.aut_base.specs.CanonicalLabel.{Literal, cubes, is_independent}
-use Rattle.aut_base.specs.LabelText.{joined, literal_text, cube_text, cubes_text, label_text}
+use Rattle.aut_base.specs.LabelText.{joined, literal_text, cubes_text, label_text}
 use Rattle.aut_base.specs.Valuation.{truth_on}
-use Rattle.aut_base.specs.CanonicalLabel.{literal_tree, all_of, one_of, cubes_tree, canonical_label}
+use Rattle.aut_base.specs.CanonicalLabel.{literal_tree, all_of, one_of, canonical_label}
 use Rattle.hoa_writer.specs.CanonicalWritten.{written_label, written_labels}
 use Rattle.hoa_writer.proofs.spelling.SpelledOut.{Held, free_held, held_held, held_identifier, held_ended}
 use Rattle.hoa_writer.proofs.spelling.WordsSpelled.{number, bang, amp, bar_apart}
@@ -81,7 +81,7 @@ some_mean t u ((l ∷ ls) ∷ cs) e =
     let others = lands_mean cs in
     cc
 
-pub cubes_mean : (cs : List (List Literal)) → label_meaning (cubes_label cs) ≡ written_label (cubes_tree cs)
+pub cubes_mean : (cs : List (List Literal)) → label_meaning (cubes_label cs) ≡ written_label (one_of (map cube_tree cs))
 cubes_mean [] = refl
 cubes_mean ([] ∷ cs) = some_mean _ (cube_tree []) cs refl
 cubes_mean ((l ∷ ls) ∷ cs) = some_mean _ (cube_tree (l ∷ ls)) cs (cube_means l ls)
@@ -138,7 +138,8 @@ literal_spelled l h = elim l.holds as (λ b. Held (lnot_tokens (literal_lnot (re
   | false ↦ free_held bang (number l.prop h)
 ]
 
-cube_spelled : (m : ℕ) (l : Literal) (ls : List Literal) → m ≤ 2 ^ 32 → l.prop < m → AreBelow m ls → Held (lnot_tokens (literal_lnot l) ++ lnots_tokens (literal_lnots ls)) (cube_text (l ∷ ls))
+cube_spelled : (m : ℕ) (l : Literal) (ls : List Literal) → m ≤ 2 ^ 32 → l.prop < m → AreBelow m ls
+    → Held (lnot_tokens (literal_lnot l) ++ lnots_tokens (literal_lnots ls)) (joined (codes "&") (map literal_text (l ∷ ls)))
 cube_spelled m l [] b h k = held_ended (literal_spelled l (omega arith))
 cube_spelled m l (o ∷ os) b h k = held_held (literal_spelled l (omega arith)) (λ rest s. (refl, refl)) (free_held amp (cube_spelled m o os b k.0 k.1))
 
@@ -146,9 +147,10 @@ regroup : (a b c : List Token) {text : List ℕ} → Held ((a ++ b) ++ c) text �
 regroup a b c {text} h = subst (λ (us : List Token). Held us text) (append_assoc a b c) h
 
 lands_spelled : (m : ℕ) (l : Literal) (ls : List Literal) (cs : List (List Literal)) → m ≤ 2 ^ 32 → l.prop < m → AreBelow m ls → AreCubes m cs
-    → Held (lnot_tokens (literal_lnot l) ++ (lnots_tokens (literal_lnots ls) ++ lands_tokens (cubes_lands cs))) (joined (codes " | ") (map cube_text ((l ∷ ls) ∷ cs)))
+    → Held (lnot_tokens (literal_lnot l) ++ (lnots_tokens (literal_lnots ls) ++ lands_tokens (cubes_lands cs))) (cubes_text ((l ∷ ls) ∷ cs))
 lands_spelled m l ls [] b h k w =
-    subst (λ (us : List Token). Held (lnot_tokens (literal_lnot l) ++ us) (cube_text (l ∷ ls))) (sym (append-nil (lnots_tokens (literal_lnots ls)))) (cube_spelled m l ls b h k)
+    subst (λ (us : List Token). Held (lnot_tokens (literal_lnot l) ++ us) (joined (codes "&") (map literal_text (l ∷ ls))))
+    (sym (append-nil (lnots_tokens (literal_lnots ls)))) (cube_spelled m l ls b h k)
 lands_spelled m l ls ([] ∷ cs) b h k w = absurd w
 lands_spelled m l ls ((o ∷ os) ∷ cs) b h k w =
     regroup (lnot_tokens (literal_lnot l)) (lnots_tokens (literal_lnots ls)) (lands_tokens (cubes_lands ((o ∷ os) ∷ cs)))

@@ -3,7 +3,7 @@ use Rattle.std.proofs.Common.{◌≡◌, ℕ, zero, suc, ◌+◌, ◌-◌, ◌<�
 use Rattle.std.proofs.lemmas.List.{append-nil, get_or-drop, length-drop}
 use Rattle.std.specs.Prelude.{codes}
 use Rattle.aut_base.specs.CanonicalLabel.{Literal, is_independent, cubes}
-use Rattle.aut_base.specs.LabelText.{label_text, cube_text, cubes_text, joined}
+use Rattle.aut_base.specs.LabelText.{label_text, cubes_text, joined, literal_text}
 use Rattle.aut_base.specs.Valuation.{holds_in, truth_on}
 use Rattle.aut_base.proofs.canonical.ValuationLists.{independent_agrees, independent_from}
 use Rattle.label_guards.specs.declared.guard.Guard.{Guard}
@@ -151,10 +151,10 @@ tidy_cubes i (suc n) g =
           (long_under (record { prop = i; holds = false }) low) (long_under (record { prop = i; holds = true }) high))
     ]
 
-long_pieces : (cs : List (List Literal)) → AllLong cs → map cube_piece cs ≡ map cube_text cs
+long_pieces : (cs : List (List Literal)) → AllLong cs → map cube_piece cs ≡ map (λ cube. joined (codes "&") (map literal_text cube)) cs
 long_pieces [] h = refl
 long_pieces ([] ∷ cs) h = absurd h
-long_pieces ((l ∷ ls) ∷ cs) h = ap (λ xs. cube_text (l ∷ ls) ∷ xs) (long_pieces cs h)
+long_pieces ((l ∷ ls) ∷ cs) h = ap (λ xs. joined (codes "&") (map literal_text (l ∷ ls)) ∷ xs) (long_pieces cs h)
 
 tidy_text : (cs : List (List Literal)) → IsTidy cs → true ≡ is_any cs → pieces_after false (codes " | ") (map cube_piece cs) ≡ cubes_text cs
 tidy_text [] tidy h = absurd cc

@@ -1,12 +1,11 @@
 -- What holds of a condition by what holds of its parts, for each recursive function over conditions.
 use Rattle.std.proofs.Common.{◌≡◌, ◌∙◌, ℕ, Bool, ◌||◌, List, [], ◌∷◌, map, refl, sym, ap}
 use Rattle.std.specs.List.{list_any}
-use Rattle.aut_base.specs.Formula.{FormulaTree, more, formula_tree, formula_parts, formula_list, trees}
+use Rattle.aut_base.specs.Formula.{FormulaTree, more, formula_tree, formula_parts, formula_list, trees, and_of, some_of}
 use Rattle.aut_base.specs.declared.formula.Formula.TheVariants.{And, Or}
 use Rattle.aut_base.specs.declared.formula.Formulas.{Formulas}
 use Rattle.aut_base.proofs.trees.FormulaTrees.{formula_tree-And, formula_tree-Or}
 use Rattle.acc_forms.proofs.Parts.{met-And, met-Or}
-use Rattle.acc_forms.specs.Joined.{and_of, some_of}
 use Rattle.lasso_emptiness.specs.declared.verdict.Verdict.{Verdict}
 use Rattle.lasso_emptiness.specs.declared.verdict.Verdict.TheVariants.{Met, Never, Open}
 use Rattle.lasso_emptiness.specs.inner.Judged.{AreAllJudged, IsJudged, IsOneJudged, has_side, some_has_side}

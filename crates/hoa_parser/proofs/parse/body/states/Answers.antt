@@ -1,19 +1,19 @@
 use Rattle.std.proofs.Common.{[]}
+use Rattle.aut_base.specs.declared.limit.TheConstants.{MOST_DEPTH}
 use Rattle.hoa_parser.proofs.reading.RuleParts.{list_next, list_none}
 use Rattle.hoa_parser.proofs.reading.Steps.{fails_after, handed_on, no_memory, reads_then, reads_as, reads_at, token_refused}
 use Rattle.hoa_parser.specs.inner.Expecting as part
 use Rattle.hoa_parser.specs.Phrases.{StateWithin, state_meaning, state_tokens}
 use Rattle.hoa_parser.specs.Raw.{written_state}
-use Rattle.hoa_parser.specs.Standing.{most_depth}
 use Rattle.hoa_parser.proofs.grammar.OtherTokens.{other}
 use Rattle.hoa_lexer.specs.declared.token.Token.TheVariants as token
 use Rattle.hoa_parser.proofs.parse.body.states.Goals as goal
 
 pub states-init : goal.states-init
-states-init g c = list_none part.States (StateWithin most_depth) state_tokens state_meaning written_state _ _ c.new-states.ensures c.requires.unspent
+states-init g c = list_none part.States (StateWithin MOST_DEPTH) state_tokens state_meaning written_state _ _ c.new-states.ensures c.requires.unspent
 
 pub states-preserved : goal.states-preserved
-states-preserved g c = list_next part.States (StateWithin most_depth) state_tokens state_meaning written_state _ _ _ c.in_ok-push.ensures.ok c.states.invariant c.in_ok-state.ensures.reads
+states-preserved g c = list_next part.States (StateWithin MOST_DEPTH) state_tokens state_meaning written_state _ _ _ c.in_ok-push.ensures.ok c.states.invariant c.in_ok-state.ensures.reads
 
 pub returns-in_err-state-clause-reads : goal.returns-in_err-state-clause-reads
 returns-in_err-state-clause-reads g c = handed_on _ _ _ c.from_residual.ensures.1 (fails_after c.states.invariant c.in_err-state.ensures.reads)

@@ -1,18 +1,18 @@
 use Rattle.std.proofs.Common.{[]}
+use Rattle.aut_base.specs.declared.limit.TheConstants.{MOST_DEPTH}
 use Rattle.hoa_parser.proofs.reading.RuleParts.{list_next, list_none}
 use Rattle.hoa_parser.proofs.reading.Steps.{fails_after, handed_on, no_memory, reads_then, token_refused}
 use Rattle.hoa_parser.specs.inner.Expecting as part
 use Rattle.hoa_parser.specs.Phrases.{ItemWithin, item_meaning, item_tokens}
 use Rattle.hoa_parser.specs.Raw.{written_item}
-use Rattle.hoa_parser.specs.Standing.{most_depth}
 use Rattle.hoa_parser.proofs.grammar.OtherTokens.{other}
 use Rattle.hoa_parser.proofs.parse.item.items.Goals as goal
 
 pub items-init : goal.items-init
-items-init g c = list_none part.Items (ItemWithin most_depth) item_tokens item_meaning written_item _ _ c.new-items.ensures c.requires.unspent
+items-init g c = list_none part.Items (ItemWithin MOST_DEPTH) item_tokens item_meaning written_item _ _ c.new-items.ensures c.requires.unspent
 
 pub items-preserved : goal.items-preserved
-items-preserved g c = list_next part.Items (ItemWithin most_depth) item_tokens item_meaning written_item _ _ _ c.in_ok-push.ensures.ok c.items.invariant c.in_ok-item.ensures.reads
+items-preserved g c = list_next part.Items (ItemWithin MOST_DEPTH) item_tokens item_meaning written_item _ _ _ c.in_ok-push.ensures.ok c.items.invariant c.in_ok-item.ensures.reads
 
 pub returns-in_err-item-clause-reads : goal.returns-in_err-item-clause-reads
 returns-in_err-item-clause-reads g c = handed_on _ _ _ c.from_residual.ensures.1 (fails_after c.items.invariant c.in_err-item.ensures.reads)
