@@ -11,7 +11,8 @@ use Rattle.std.specs.Prelude.{flat_map, option_to_list, sum_by}
 use Rattle.aut_base.specs.declared.limit.TheConstants.{MOST_ALIASES}
 use Rattle.hoa_parser.specs.Raw as raw
 use Rattle.hoa_parser.specs.Raw.{RawTree, RawTrees, WrittenEdge, WrittenState}
-use Rattle.hoa_reader.specs.Validity.{aliases_among, all_leaves_pass, is_listed}
+use Rattle.hoa_reader.specs.Validity.{aliases_among, all_leaves_pass}
+use Rattle.hoa_reader.specs.inner.Places.{is_listed}
 use Rattle.hoa_reader.specs.inner.Rules.{state_labels}
 use Rattle.hoa_reader.specs.declared.elaborate.aliases.Known.{Known}
 use Rattle.hoa_reader.specs.declared.elaborate.places.Places.{Places}

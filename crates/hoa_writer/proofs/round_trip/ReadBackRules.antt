@@ -8,10 +8,11 @@ use Rattle.std.specs.List.{AllByRecursion, list_all, range_with_len}
 use Rattle.aut_base.proofs.words.Texts.{differ_texts}
 use Rattle.aut_base.specs.Automaton.{LabelledEdge, Automaton, IsEdgeOf, IsWellFormed}
 use Rattle.aut_base.specs.Label.{LabelTree}
+use Rattle.hoa_parser.specs.Naming.{name_item}
 use Rattle.hoa_parser.specs.Raw.{RawTree, WrittenEdge, WrittenItem, WrittenState}
 use Rattle.aut_base.specs.Text.{same_text}
 use Rattle.hoa_reader.specs.Validity.{AcceptanceLine, AliasLine, IsValid, acceptance_item, aliases_among, all_differ, body_labels, edges_written}
-use Rattle.hoa_reader.specs.Validity.{has_edge_per_letter, is_acc_name, is_name, is_tool, keeps_rule, marks_below, may_be_passed_over, names_agree}
+use Rattle.hoa_reader.specs.Validity.{has_edge_per_letter, is_acc_name, is_tool, keeps_rule, marks_below, may_be_passed_over, names_agree}
 use Rattle.hoa_reader.specs.Validity.{names_item, no_edge_labelled, numbers_below, props_below, sets_below, starts_written, states_item, used_states}
 use Rattle.hoa_reader.specs.Validity.{uses_earlier, written_names}
 use Rattle.hoa_reader.specs.inner.Rules.{is_one_state, labels_one_way, state_labels}
@@ -40,13 +41,13 @@ lines_once a None =
     (two _ _ (once (λ i. is_some (names_item i)) 0 a (λ s. refl) refl)
     (two _ _ (exactly (λ i. is_some (acceptance_item i)) 0 a (λ s. refl) refl)
     (two _ _ (once is_acc_name 0 a (λ s. refl) refl)
-    (two _ _ (once is_tool 0 a (λ s. refl) refl) (once is_name 0 a (λ s. refl) refl)))))
+    (two _ _ (once is_tool 0 a (λ s. refl) refl) (once (λ i. is_some (name_item i)) 0 a (λ s. refl) refl)))))
 lines_once a (Some text) =
     two _ _ (once (λ i. is_some (states_item i)) 1 a (λ s. refl) refl)
     (two _ _ (once (λ i. is_some (names_item i)) 0 a (λ s. refl) refl)
     (two _ _ (exactly (λ i. is_some (acceptance_item i)) 0 a (λ s. refl) refl)
     (two _ _ (once is_acc_name 0 a (λ s. refl) refl)
-    (two _ _ (once is_tool 0 a (λ s. refl) refl) (once is_name 1 a (λ s. refl) refl)))))
+    (two _ _ (once is_tool 0 a (λ s. refl) refl) (once (λ i. is_some (name_item i)) 1 a (λ s. refl) refl)))))
 
 words_known : (a : Automaton) (name : Option (List ℕ)) → keeps_rule V3 (canonical_written a name) ≡ true
 words_known a None = all_starts may_be_passed_over a.starts (closing a) (λ s. refl) refl
