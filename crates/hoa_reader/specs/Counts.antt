@@ -40,7 +40,7 @@ weight w = sum_by (λ s. sum_by (λ e. option_map_or (size_in w) s.label (option
 
 -- how far labels grow when their aliases are replaced
 abbrev pub growth : Written → ℕ
-growth w = max (greatest (map (λ t. height (expanded (meanings_of w) t)) (body_labels w))) (weight w / 8192)
+growth w = max (greatest (map (λ t. height (expanded (meanings_of w) t)) (body_labels w.states))) (weight w / 8192)
 
 -- A count of what is written, the limit on it, and the greatest number that is read.
 pub record Counted : Type 0 where

@@ -74,9 +74,9 @@ starts_written w = filter_map start_item w.items
 abbrev pub edges_written : Written → List WrittenEdge
 edges_written w = flat_map (λ s. s.edges) w.states
 
--- the labels of states and edges
-abbrev pub body_labels : Written → List RawTree
-body_labels w = flat_map (λ s. option_to_list s.label ++ flat_map (λ e. option_to_list e.label) s.edges) w.states
+-- the labels of these states and of their edges
+abbrev pub body_labels : List WrittenState → List RawTree
+body_labels states = flat_map (λ s. option_to_list s.label ++ flat_map (λ e. option_to_list e.label) s.edges) states
 
 -- every number of a state, wherever it stands
 abbrev pub used_states : Written → List ℕ
@@ -157,12 +157,12 @@ alias_names w = map (λ line. line.name) (alias_lines w)
 abbrev pub defines_its_aliases : Written → Bool
 defines_its_aliases w =
     all_differ same_text (alias_names w)
-    && (uses_earlier [] (alias_lines w) && list_all (aliases_among (alias_names w)) (body_labels w))
+    && (uses_earlier [] (alias_lines w) && list_all (aliases_among (alias_names w)) (body_labels w.states))
 
 abbrev pub propositions_have_names : Written → Bool
 propositions_have_names w =
     list_all (λ line. props_below (length (written_names w)) line.label) (alias_lines w)
-    && list_all (props_below (length (written_names w))) (body_labels w)
+    && list_all (props_below (length (written_names w))) (body_labels w.states)
 
 -- the sets of a state and of its edges are below n
 abbrev pub marks_below : ℕ → WrittenState → Bool

@@ -20,8 +20,7 @@ use Rattle.hoa_parser.specs.Raw.{RawTree, Written, WrittenEdge, WrittenState}
 use Rattle.hoa_reader.proofs.description.StatesInRange.{tree_edges_from}
 use Rattle.hoa_reader.proofs.labels.LettersApart.{letter_of_all, number_small, number_there, one_number, settled_letter}
 use Rattle.hoa_reader.specs.Described.{below, described, edges_of, expanded, edge_label, letter_label, meanings_of, state_count, tree_edge_of, tree_edges_of}
-use Rattle.hoa_reader.specs.Validity.{written_names}
-use Rattle.hoa_reader.specs.inner.Rules.{has_no_label}
+use Rattle.hoa_reader.specs.Validity.{no_edge_labelled, written_names}
 use Rattle.hoa_reader.specs.declared.elaborate.frame.Frame.{Frame}
 use Rattle.hoa_reader.specs.inner.Frames.{IsFrameOf}
 use Rattle.hoa_reader.specs.inner.Implicit.{AreImplicit, each_implicit, is_implicit}
@@ -156,7 +155,7 @@ one_state : (w : Written) (q : ℕ) → AreImplicit (width w) (state_count w) w.
 one_state w q are within =
     let found = alone_there (width w) 0 q w.states are.each (omega arith) (omega (arith, within, are.size)) in
     let s = found.state in
-    let bare = and_parts (has_no_label s) (length s.edges == 2 ^ width w) found.implicit in
+    let bare = and_parts (is_none s.label && no_edge_labelled s) (length s.edges == 2 ^ width w) found.implicit in
     let none = and_parts (is_none s.label) (list_all (λ (e : WrittenEdge). is_none e.label) s.edges) bare.0 in
     let own = nothing s.label none.0 in
     let count : length s.edges ≡ 2 ^ width w = eqb-true (length s.edges) (2 ^ width w) bare.1 in

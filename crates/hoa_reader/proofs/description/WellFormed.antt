@@ -20,7 +20,7 @@ use Rattle.hoa_reader.specs.Described.{meanings_of, state_count}
 use Rattle.hoa_parser.specs.Raw.{RawTree, Written, WrittenEdge, WrittenState}
 use Rattle.hoa_reader.specs.Validity.{IsValid, acceptance_of, alias_lines, body_labels, edges_written, keeps_rule, numbers_below, props_below}
 use Rattle.hoa_reader.specs.Validity.{starts_written, states_item, used_states, written_names}
-use Rattle.hoa_reader.specs.inner.Rules.{is_one_state, state_labels}
+use Rattle.hoa_reader.proofs.validity.RuleParts.{is_one_state, state_labels}
 use Rattle.hoa_reader.specs.declared.elaborate.Rule.TheVariants.{V4, V5, V6, V8, V9}
 use Rattle.aut_base.proofs.lists.AllByRecursion.{AllByRecursion-left, AllByRecursion-right, AllByRecursion-both, AllByRecursion-enumerate_from}
 use Rattle.aut_base.proofs.lists.AllByRecursion.{AllByRecursion-from_flat_map, AllByRecursion-from_map, AllByRecursion-from_list_all, AllByRecursion-map}
@@ -146,7 +146,7 @@ state_edges_good w one states props =
     (λ (s : WrittenState). Labels k (state_labels s)) w.states
     (AllByRecursion-from_flat_map (λ (e : WrittenEdge). only_state e.to < n) (λ (s : WrittenState). s.edges) w.states to)
     (AllByRecursion-from_flat_map (λ t. props_below k t ≡ true) state_labels w.states
-    (AllByRecursion-from_list_all (props_below k) (body_labels w) labels.1))) in
+    (AllByRecursion-from_list_all (props_below k) (body_labels w.states) labels.1))) in
     AllByRecursion-weaker G (λ (s : WrittenState). AllByRecursion (IsEdgeOf (described w)) (tree_edges_of w s)) w.states
     (λ (s : WrittenState) g. tree_edges_good w means s (good_state n k s g)) facts
 

@@ -1,6 +1,7 @@
 -- What was read, piece by piece, as the rules speak of it.
 use Rattle.std.specs.Prelude.{◌≡◌, ℕ, Bool, true, map, flat_map, ◌&&◌, ◌==◌, nat_le, List, [], ◌∷◌, count_by, Option, Some, None, is_some}
 use Rattle.std.specs.Borrow.{Bor}
+use Rattle.aut_base.specs.Formula as formula
 use Rattle.aut_base.specs.Formula.{formula_tree}
 use Rattle.hoa_reader.specs.inner.Places.{is_listed, place_in}
 use Rattle.hoa_parser.specs.Naming.{name_item}
@@ -19,6 +20,10 @@ alias_def d = record { name = d.name.now; label = raw_tree d.label.now }
 
 abbrev pub acceptance_def : AcceptanceDef → AcceptanceLine
 acceptance_def d = record { sets = d.sets; formula = formula_tree d.formula.now }
+
+-- what counts where no line has the condition
+abbrev pub no_acceptance : AcceptanceLine
+no_acceptance = record { sets = 0; formula = formula.True }
 
 -- the label that a reference leads to
 abbrev pub label_refs : Bor RawLabel → RawTree

@@ -29,7 +29,7 @@ fn has_more_edges(raw: &Raw, parts: &Parts<'_>) -> bool
 /// Whether a label of the body is taller than may be. Where no alias stands in one, the labels aren't gone over again.
 fn is_tall<'a>(raw: &'a Raw, parts: &Parts<'a>, known: &Places<'a, Known>) -> bool
     requires { ArePartsOf (written raw.now) parts.now }
-    ensures { result ≡ are_tall known.now (body_labels (written raw.now)) }
+    ensures { result ≡ are_tall known.now (body_labels (written raw.now).states) }
 {
     if parts.sums.plain {
         return parts.sums.height > u64::from(MOST_ALIASES);

@@ -17,5 +17,5 @@ returns-then-aliases_props_below c =
     ∙ c.if-aliases_props_below.true in
     ap (λ (s : Sums). nat_le s.props n) c.requires.sums
     ∙ sym (body_props _ n w.states)
-    ∙ ap (λ b. b && list_all (props_below n) (body_labels w)) (sym aliases)
-    ∙ ap (λ m. list_all (λ (line : AliasLine). props_below m line.label) (alias_lines w) && list_all (props_below m) (body_labels w)) count
+    ∙ ap (λ b. b && list_all (props_below n) (body_labels w.states)) (sym aliases)
+    ∙ ap (λ m. list_all (λ (line : AliasLine). props_below m line.label) (alias_lines w) && list_all (props_below m) (body_labels w.states)) count
