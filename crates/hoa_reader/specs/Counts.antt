@@ -1,10 +1,9 @@
 -- What is counted of a written automaton that keeps the rules, and the numbers that the counts may not pass.
-use Rattle.std.specs.Prelude.{◌≡◌, ◌+◌, ◌/◌, max, ℕ, true, false, not, if◌then◌else◌, nat_lt, List, [], ◌∷◌, length, map, sum_by}
+use Rattle.std.specs.Prelude.{◌≡◌, ◌+◌, ◌/◌, max, ℕ, false, not, if◌then◌else◌, nat_lt, List, [], ◌∷◌, length, map, sum_by}
 use Rattle.std.specs.List.{AllByRecursion}
 use Rattle.std.specs.Option.{option_map_or}
 use Rattle.aut_base.specs.Label as label
 use Rattle.aut_base.specs.Label.{LabelTree, LabelTrees, label_size}
-use Rattle.aut_base.specs.Lists.{FirstIn}
 use Rattle.aut_base.specs.declared.limit.Limit.{Limit}
 use Rattle.aut_base.specs.declared.limit.Limit.TheVariants as limit
 use Rattle.aut_base.specs.declared.limit.TheConstants.{MOST_NAMES, MOST_SETS, MOST_STATES, MOST_EDGES, MOST_ALIASES}
@@ -63,10 +62,6 @@ limit_counts w =
 
 abbrev pub IsCountWithin : Counted → Type 0
 IsCountWithin c = nat_lt c.most c.count ≡ false
-
--- The limit is that of a count that passes its number, and each that is examined before it is within its own.
-abbrev pub PassesFirst : Limit → Written → Type 0
-PassesFirst which w = (c : Counted) × FirstIn IsCountWithin (limit_counts w) c × (nat_lt c.most c.count ≡ true) × (which ≡ c.which)
 
 -- none passes its number
 abbrev pub PassesNone : Written → Type 0
