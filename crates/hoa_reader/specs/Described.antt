@@ -66,21 +66,18 @@ literal i k = if (i / (2 ^ k)) % 2 == 1 then LabelTree.Prop k else LabelTree.Not
 abbrev pub letter_label : ℕ → ℕ → LabelTree
 letter_label n i = all_of (map (literal i) (below n))
 
--- The label of the i-th edge of a state: the state's if it has one, else the edge's own, else the letter's.
-abbrev pub edge_label : Written → WrittenState → ℕ → WrittenEdge → LabelTree
-edge_label w s i e =
-    option_map_or (expanded (meanings_of w)) s.label
-    (option_map_or (expanded (meanings_of w)) e.label (letter_label (length (written_names w)) i))
-
 -- the sets that are among these marks, in order
 abbrev pub marks_in_order : ℕ → List ℕ → List ℕ
 marks_in_order sets marks = filter (λ set. is_in set marks) (below sets)
 
--- The i-th edge of a state. It is in the state's sets and in its own.
+-- The i-th edge of a state. Its label is the state's if it has one, else the edge's own, else the letter's. It is in the state's sets and in
+-- its own.
 abbrev pub tree_edge_of : Written → WrittenState → ℕ → WrittenEdge → LabelledEdge
 tree_edge_of w s i e = record {
   from = s.number;
-  label = edge_label w s i e;
+  label =
+      option_map_or (expanded (meanings_of w)) s.label
+      (option_map_or (expanded (meanings_of w)) e.label (letter_label (length (written_names w)) i));
   to = get_or e.to 0 0;
   marks = marks_in_order (acceptance_of w).sets (s.marks ++ e.marks);
 }

@@ -159,18 +159,9 @@ defines_its_aliases w =
     all_differ same_text (alias_names w)
     && (uses_earlier [] (alias_lines w) && list_all (aliases_among (alias_names w)) (body_labels w.states))
 
-abbrev pub propositions_have_names : Written → Bool
-propositions_have_names w =
-    list_all (λ line. props_below (length (written_names w)) line.label) (alias_lines w)
-    && list_all (props_below (length (written_names w))) (body_labels w.states)
-
 -- the sets of a state and of its edges are below n
 abbrev pub marks_below : ℕ → WrittenState → Bool
 marks_below n s = numbers_below n s.marks && list_all (λ e. numbers_below n e.marks) s.edges
-
-abbrev pub sets_are_below : Written → Bool
-sets_are_below w =
-    sets_below (acceptance_of w).sets (acceptance_of w).formula && list_all (marks_below (acceptance_of w).sets) w.states
 
 abbrev pub no_edge_labelled : WrittenState → Bool
 no_edge_labelled s = list_all (λ e. is_none e.label) s.edges
@@ -195,9 +186,9 @@ keeps_rule V6 w = list_all (λ n. numbers_below n (used_states w)) (filter_map s
 -- No alias is defined twice; the label of one uses aliases of earlier lines, a label of the body uses aliases of any line.
 keeps_rule V7 w = defines_its_aliases w
 -- Every proposition of a label, be it an alias's or one of the body, has a name.
-keeps_rule V8 w = propositions_have_names w
+keeps_rule V8 w = list_all (props_below (length (written_names w))) (map (λ line. line.label) (alias_lines w) ++ body_labels w.states)
 -- Every set of the condition, of a state and of an edge is below their number.
-keeps_rule V9 w = sets_are_below w
+keeps_rule V9 w = sets_below (acceptance_of w).sets (acceptance_of w).formula && list_all (marks_below (acceptance_of w).sets) w.states
 -- No state is defined twice.
 keeps_rule V10 w = all_differ ◌==◌ (map (λ s. s.number) w.states)
 -- In a state with a label no edge has one; in another all edges have one, or none has.

@@ -1,6 +1,6 @@
 -- What a valid text describes is well formed.
 use Rattle.std.proofs.Common.{◌≡◌, ◌<◌, ◌==◌, ℕ, Bool, true, List, [], ◌∷◌, ◌++◌, length, map, filter, nat_lt, get_or, Option, Some, None, All, zero}
-use Rattle.std.proofs.Common.{suc, arith, AllPairs}
+use Rattle.std.proofs.Common.{suc, arith, AllPairs, sym, ◌∙◌}
 use Rattle.std.proofs.lemmas.List.Kept.{AllPairs-filter}
 use Rattle.std.proofs.lemmas.List.Quantifiers.{all_pairs_push}
 use Rattle.std.proofs.lemmas.List.Elements.{All-from_recursion}
@@ -20,7 +20,7 @@ use Rattle.hoa_reader.specs.Described.{meanings_of, state_count}
 use Rattle.hoa_parser.specs.Raw.{RawTree, Written, WrittenEdge, WrittenState}
 use Rattle.hoa_reader.specs.Validity.{IsValid, acceptance_of, alias_lines, body_labels, edges_written, keeps_rule, numbers_below, props_below}
 use Rattle.hoa_reader.specs.Validity.{starts_written, states_item, used_states, written_names}
-use Rattle.hoa_reader.proofs.validity.RuleParts.{is_one_state, state_labels}
+use Rattle.hoa_reader.proofs.validity.RuleParts.{all_labels, is_one_state, state_labels}
 use Rattle.hoa_reader.specs.declared.elaborate.Rule.TheVariants.{V4, V5, V6, V8, V9}
 use Rattle.aut_base.proofs.lists.AllByRecursion.{AllByRecursion-left, AllByRecursion-right, AllByRecursion-both, AllByRecursion-enumerate_from}
 use Rattle.aut_base.proofs.lists.AllByRecursion.{AllByRecursion-from_flat_map, AllByRecursion-from_map, AllByRecursion-from_list_all, AllByRecursion-map}
@@ -131,7 +131,7 @@ state_edges_good w one states props =
     let n = state_count w in
     let k = length (written_names w) in
     let P : ℕ → Type 0 = λ q. q < n in
-    let labels = and_parts _ _ props in
+    let labels = and_parts _ _ (sym (all_labels (props_below k) (alias_lines w) (body_labels w.states)) ∙ props) in
     let numbers = map (λ (s : WrittenState). s.number) w.states in
     let goals = flat_map (λ (e : WrittenEdge). e.to) (edges_written w) in
     let others = AllByRecursion-right P (flat_map (λ (q : List ℕ). q) (starts_written w)) (numbers ++ goals) (states_below w states) in

@@ -114,7 +114,7 @@ propositions_named : (a : Automaton) (name : Option (List ℕ)) → keeps_rule V
 propositions_named a name =
     let w = canonical_written a name in
     let labels = body_labels w.states in
-    ap (λ (lines : List AliasLine). list_all (λ line. props_below (length (written_names w)) line.label) lines && list_all (props_below (length (written_names w))) labels) (no_aliases a name)
+    ap (λ (lines : List AliasLine). list_all (props_below (length (written_names w))) (map (λ line. line.label) lines ++ labels)) (no_aliases a name)
     ∙ (ap (λ (names : List (List ℕ)). list_all (props_below (length names)) labels) (names_found a name)
     ∙ every_passes (props_below (length a.names)) labels (each_label a name (λ t. props_below (length a.names) t ≡ true) (props_are_below (length a.names))))
 
