@@ -4,4 +4,5 @@ pub mod FirstInList
 pub mod Leaves
 pub mod NamesDiffer
 pub mod RisingNumbers
+pub mod RuleParts
 pub mod ValidityLaws

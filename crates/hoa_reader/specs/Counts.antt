@@ -1,15 +1,14 @@
 -- What is counted of a written automaton that keeps the rules, and the numbers that the counts may not pass.
-use Rattle.std.specs.Prelude.{◌≡◌, ◌+◌, ◌/◌, max, ℕ, Bool, true, false, not, if◌then◌else◌, nat_lt, List, [], ◌∷◌, length, map, sum_by}
+use Rattle.std.specs.Prelude.{◌≡◌, ◌+◌, ◌/◌, max, ℕ, false, not, if◌then◌else◌, nat_lt, List, [], ◌∷◌, length, map, sum_by}
 use Rattle.std.specs.List.{AllByRecursion}
 use Rattle.std.specs.Option.{option_map_or}
 use Rattle.aut_base.specs.Label as label
 use Rattle.aut_base.specs.Label.{LabelTree, LabelTrees, label_size}
-use Rattle.aut_base.specs.Lists.{FirstIn}
 use Rattle.aut_base.specs.declared.limit.Limit.{Limit}
 use Rattle.aut_base.specs.declared.limit.Limit.TheVariants as limit
 use Rattle.aut_base.specs.declared.limit.TheConstants.{MOST_NAMES, MOST_SETS, MOST_STATES, MOST_EDGES, MOST_ALIASES}
 use Rattle.hoa_reader.specs.Described.{edges_of, expanded, greatest, meanings_of, state_count}
-use Rattle.hoa_parser.specs.Raw.{RawTree, Written, WrittenEdge, WrittenState}
+use Rattle.hoa_parser.specs.Raw.{RawTree, Written}
 use Rattle.hoa_reader.specs.Validity.{acceptance_of, aliases_among, body_labels, written_names}
 
 -- how many signs of a label stand one inside the other at most, and of each of more labels
@@ -26,29 +25,21 @@ abbrev mutual
   greatest_height label.none = 0
   greatest_height (label.more t ts) = max (height t) (greatest_height ts)
 
--- height and size of a label whose aliases are replaced
-abbrev pub height_in : Written → RawTree → ℕ
-height_in w t = height (expanded (meanings_of w) t)
-
+-- the size of a label whose aliases are replaced
 abbrev pub size_in : Written → RawTree → ℕ
 size_in w t = label_size (expanded (meanings_of w) t)
 
-abbrev pub holds_alias : RawTree → Bool
-holds_alias t = not (aliases_among [] t)
-
--- What an edge weighs: the label of its state is copied for it, and so are the labels of its aliases.
+-- What edges weigh: the label of its state is copied for each, and so are the labels of its aliases. A label of its own without aliases
+-- weighs nothing.
 abbrev pub own_weight : Written → RawTree → ℕ
-own_weight w t = if holds_alias t then size_in w t else 0
-
-abbrev pub edge_weight : Written → WrittenState → WrittenEdge → ℕ
-edge_weight w s e = option_map_or (size_in w) s.label (option_map_or (own_weight w) e.label 0)
+own_weight w t = if not (aliases_among [] t) then size_in w t else 0
 
 abbrev pub weight : Written → ℕ
-weight w = sum_by (λ s. sum_by (edge_weight w s) s.edges) w.states
+weight w = sum_by (λ s. sum_by (λ e. option_map_or (size_in w) s.label (option_map_or (own_weight w) e.label 0)) s.edges) w.states
 
 -- how far labels grow when their aliases are replaced
 abbrev pub growth : Written → ℕ
-growth w = max (greatest (map (height_in w) (body_labels w))) (weight w / 8192)
+growth w = max (greatest (map (λ t. height (expanded (meanings_of w) t)) (body_labels w.states))) (weight w / 8192)
 
 -- A count of what is written, the limit on it, and the greatest number that is read.
 pub record Counted : Type 0 where
@@ -71,10 +62,6 @@ limit_counts w =
 
 abbrev pub IsCountWithin : Counted → Type 0
 IsCountWithin c = nat_lt c.most c.count ≡ false
-
--- The limit is that of a count that passes its number, and each that is examined before it is within its own.
-abbrev pub PassesFirst : Limit → Written → Type 0
-PassesFirst which w = (c : Counted) × FirstIn IsCountWithin (limit_counts w) c × (nat_lt c.most c.count ≡ true) × (which ≡ c.which)
 
 -- none passes its number
 abbrev pub PassesNone : Written → Type 0

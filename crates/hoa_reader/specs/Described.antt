@@ -1,4 +1,5 @@
--- The automaton that is described by what is written. It is what it should be where no rule is broken.
+-- The automaton that is described by what is written. It is what it should be where no rule is broken. Then each start and each edge
+-- names one state.
 use Rattle.std.specs.Prelude.{◌/◌, ◌%◌, ◌^◌, ◌+◌, max, ℕ, zero, suc, ◌==◌, if◌then◌else◌, List, [], ◌∷◌, ◌++◌, length, map, filter, filter_map, find, flat_map, get_or}
 use Rattle.std.specs.List.{enumerate_from}
 use Rattle.std.specs.Option.{option_map_or}
@@ -25,13 +26,6 @@ greatest (x ∷ xs) = max x (greatest xs)
 -- the number of states is written, or is the least one that is above each number that is used
 abbrev pub state_count : Written → ℕ
 state_count w = get_or (filter_map states_item w.items) 0 (greatest (map (λ q. q + 1) (used_states w)))
-
--- the state that a start or an edge names
-abbrev pub only_state : List ℕ → ℕ
-only_state states = get_or states 0 0
-
-abbrev pub starts_of : Written → List ℕ
-starts_of w = distinct ◌==◌ (map only_state (starts_written w))
 
 -- an alias and what it stands for, with no alias left in it
 pub record Meaning : Type 0 where
@@ -72,39 +66,33 @@ literal i k = if (i / (2 ^ k)) % 2 == 1 then LabelTree.Prop k else LabelTree.Not
 abbrev pub letter_label : ℕ → ℕ → LabelTree
 letter_label n i = all_of (map (literal i) (below n))
 
--- The label of the i-th edge of a state: the state's if it has one, else the edge's own, else the letter's.
-abbrev pub edge_label : Written → WrittenState → ℕ → WrittenEdge → LabelTree
-edge_label w s i e =
-    option_map_or (expanded (meanings_of w)) s.label
-    (option_map_or (expanded (meanings_of w)) e.label (letter_label (length (written_names w)) i))
-
 -- the sets that are among these marks, in order
 abbrev pub marks_in_order : ℕ → List ℕ → List ℕ
 marks_in_order sets marks = filter (λ set. is_in set marks) (below sets)
 
--- The i-th edge of a state. It is in the state's sets and in its own.
+-- The i-th edge of a state. Its label is the state's if it has one, else the edge's own, else the letter's. It is in the state's sets and in
+-- its own.
 abbrev pub tree_edge_of : Written → WrittenState → ℕ → WrittenEdge → LabelledEdge
 tree_edge_of w s i e = record {
   from = s.number;
-  label = edge_label w s i e;
-  to = only_state e.to;
+  label =
+      option_map_or (expanded (meanings_of w)) s.label
+      (option_map_or (expanded (meanings_of w)) e.label (letter_label (length (written_names w)) i));
+  to = get_or e.to 0 0;
   marks = marks_in_order (acceptance_of w).sets (s.marks ++ e.marks);
 }
 
 abbrev pub tree_edges_of : Written → WrittenState → List LabelledEdge
 tree_edges_of w s = map (λ p. tree_edge_of w s p.0 p.1) (enumerate_from 0 s.edges)
 
--- the edges of a state; it has none where the body doesn't define it
-abbrev pub tree_edges_from : Written → ℕ → List LabelledEdge
-tree_edges_from w q = flat_map (tree_edges_of w) (filter (λ s. s.number == q) w.states)
-
+-- those of each state, in order; a state has none where the body doesn't define it
 abbrev pub edges_of : Written → List LabelledEdge
-edges_of w = flat_map (tree_edges_from w) (below (state_count w))
+edges_of w = flat_map (λ q. flat_map (tree_edges_of w) (filter (λ s. s.number == q) w.states)) (below (state_count w))
 
 abbrev pub described : Written → Automaton
 described w = record {
   names = written_names w;
-  starts = starts_of w;
+  starts = distinct ◌==◌ (map (λ states. get_or states 0 0) (starts_written w));
   states = state_count w;
   edges = edges_of w;
   sets = (acceptance_of w).sets;

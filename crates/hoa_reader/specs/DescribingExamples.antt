@@ -6,8 +6,9 @@ use Rattle.aut_base.specs.Formula as formula
 use Rattle.aut_base.specs.Label as label
 use Rattle.aut_base.specs.Label.{LabelTree}
 use Rattle.aut_base.specs.declared.limit.Limit.TheVariants as limit
-use Rattle.hoa_reader.specs.Counts.{IsCountWithin, PassesFirst, PassesNone, growth, height_in, limit_counts, size_in, weight}
-use Rattle.hoa_reader.specs.Described.{described, letter_label, starts_of, state_count}
+use Rattle.hoa_reader.specs.Counts.{IsCountWithin, PassesNone, growth, height, limit_counts, size_in, weight}
+use Rattle.hoa_reader.specs.Described.{below, described, expanded, letter_label, meanings_of, state_count}
+use Rattle.hoa_reader.specs.Elaborating.{PassesLimit}
 use Rattle.hoa_parser.specs.Raw as raw
 use Rattle.hoa_parser.specs.Raw.{RawTree, Written, WrittenEdge, WrittenItem, WrittenState}
 use Rattle.hoa_reader.specs.Validity.{IsFirstBroken, IsValid, keeps_rule, rules}
@@ -150,7 +151,7 @@ pub record DescriptionExamples : Type 0 where
   pub used_start : state_count (text (raw.Start (6 ∷ []) ∷ []) (written_state_with 2 [] ∷ [])) ≡ 7
   pub used_state : state_count (text (raw.Start (1 ∷ []) ∷ []) (written_state_with 2 [] ∷ [])) ≡ 3
   pub none_used : state_count (text [] []) ≡ 0
-  pub repeated_starts : starts_of (text (raw.Start (2 ∷ []) ∷ raw.Start (0 ∷ []) ∷ raw.Start (2 ∷ []) ∷ raw.Start (1 ∷ []) ∷ []) []) ≡ 2 ∷ 0 ∷ 1 ∷ []
+  pub repeated_starts : (described (text (raw.Start (2 ∷ []) ∷ raw.Start (0 ∷ []) ∷ raw.Start (2 ∷ []) ∷ raw.Start (1 ∷ []) ∷ []) [])).starts ≡ 2 ∷ 0 ∷ 1 ∷ []
   -- marks of a state and of its edge, joined
   pub joined_marks : map (λ e. e.marks) (described (record {
     version = codes "v1";
@@ -162,7 +163,7 @@ pub record DescriptionExamples : Type 0 where
 pub record CountExamples : Type 0 where
   -- The label of `@z` is an Or of an And, `f` and a Not of that And: 1 + 3 + 1 + (1 + 3) signs, four of them one inside the other.
   -- The other edge holds no alias, and weighs nothing.
-  pub height_of_chain : height_in chained (raw.Alias (codes "z")) ≡ 4
+  pub height_of_chain : height (expanded (meanings_of chained) (raw.Alias (codes "z"))) ≡ 4
   pub size_of_chain : size_in chained (raw.Alias (codes "z")) ≡ 9
   pub weight_of_chain : weight chained ≡ 9
   pub aliases_of_chain : growth chained ≡ 4
@@ -173,9 +174,9 @@ pub record CountExamples : Type 0 where
   -- nothing is counted of edges without labels, nor of an alias that nothing uses
   pub uncounted : growth (text (raw.AliasOf (codes "x") (raw.Not raw.True) ∷ []) (written_state_with 0 (written_edge_to None 0 [] ∷ []) ∷ [])) ≡ 0
   -- Of two counts that pass their numbers the earlier one is first.
-  pub many_sets : PassesFirst limit.Sets (record { version = codes "v1"; items = raw.Acceptance 513 formula.True ∷ raw.States 100001 ∷ []; states = [] })
-  pub many_states : PassesFirst limit.States (text (raw.States 100001 ∷ []) [])
-  pub too_many_names : PassesFirst limit.Names (text (raw.Ap 33 (replicate 33 (codes "a")) ∷ []) [])
+  pub many_sets : PassesLimit limit.Sets (record { version = codes "v1"; items = raw.Acceptance 513 formula.True ∷ raw.States 100001 ∷ []; states = [] })
+  pub many_states : PassesLimit limit.States (text (raw.States 100001 ∷ []) [])
+  pub too_many_names : PassesLimit limit.Names (text (raw.Ap 33 (map (λ k. k ∷ []) (below 33)) ∷ []) [])
   -- each greatest number is still read
   pub most_names : AllByRecursion IsCountWithin (take 1 (limit_counts (text (raw.Ap 32 (replicate 32 (codes "a")) ∷ []) [])))
   pub most_sets : AllByRecursion IsCountWithin (take 2 (limit_counts (record { version = codes "v1"; items = raw.Acceptance 512 formula.True ∷ []; states = [] })))

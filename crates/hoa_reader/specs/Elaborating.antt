@@ -1,11 +1,12 @@
 -- What is answered of an automaton that was read.
-use Rattle.std.specs.Prelude.{◌≡◌, Result, Ok, Err}
+use Rattle.std.specs.Prelude.{◌≡◌, true, nat_lt, Result, Ok, Err}
 use Rattle.aut_base.specs.Automaton.{IsWellFormed, automaton}
 use Rattle.aut_base.specs.CanonicalLabel.{canonical}
+use Rattle.aut_base.specs.Lists.{FirstIn}
 use Rattle.aut_base.specs.declared.description.Description.{Description}
 use Rattle.aut_base.specs.declared.limit.Limit.{Limit}
 use Rattle.aut_core.specs.SymbolicAutomata.{automaton_of}
-use Rattle.hoa_reader.specs.Counts.{PassesFirst, PassesNone}
+use Rattle.hoa_reader.specs.Counts.{Counted, IsCountWithin, PassesNone, limit_counts}
 use Rattle.hoa_reader.specs.Described.{described}
 use Rattle.hoa_parser.specs.Naming.{name_of}
 use Rattle.hoa_parser.specs.Raw.{Written}
@@ -14,10 +15,9 @@ use Rattle.hoa_reader.specs.declared.elaborate.ElabFault.{ElabFault}
 use Rattle.hoa_reader.specs.declared.elaborate.ElabFault.TheVariants as fault
 use Rattle.hoa_reader.specs.declared.elaborate.Named.{Named}
 
--- It is valid, and this limit is the first that one of its counts passes.
-pub record PassesLimit (which : Limit) (w : Written) : Type 0 where
-  pub valid : IsValid w
-  pub passes : PassesFirst which w
+-- It is valid, and the limit is that of a count that passes its number, where each that is examined before it is within its own.
+abbrev pub PassesLimit : Limit → Written → Type 0
+PassesLimit which w = IsValid w × (c : Counted) × FirstIn IsCountWithin (limit_counts w) c × (nat_lt c.most c.count ≡ true) × (which ≡ c.which)
 
 -- why there is no answer
 abbrev pub IsRefusedFor : ElabFault → Written → Type 0

@@ -7,14 +7,11 @@ use Rattle.aut_base.specs.Formula as formula
 use Rattle.aut_base.specs.Formula.{FormulaTree, FormulaTrees}
 use Rattle.aut_base.specs.Lists.{FirstIn}
 use Rattle.aut_base.specs.Text.{same_text}
+use Rattle.hoa_parser.specs.Naming.{name_item}
 use Rattle.hoa_parser.specs.Raw as raw
-use Rattle.hoa_parser.specs.Raw.{RawTree, RawTrees, Written, WrittenEdge, WrittenItem, WrittenState, States, Start, Ap, AliasOf, Acceptance, AccName, Tool, Name, Properties, Other}
+use Rattle.hoa_parser.specs.Raw.{RawTree, RawTrees, Written, WrittenEdge, WrittenItem, WrittenState, States, Start, Ap, AliasOf, Acceptance, AccName, Tool, Properties, Other}
 use Rattle.hoa_reader.specs.declared.elaborate.Rule.{Rule}
 use Rattle.hoa_reader.specs.declared.elaborate.Rule.TheVariants.{V1, V2, V3, V4, V5, V6, V7, V8, V9, V10, V11, V12}
-
--- the text is one of these
-abbrev pub is_listed : List (List ℕ) → List ℕ → Bool
-is_listed texts text = list_any (λ other. same_text other text) texts
 
 -- no item is the same as a later one
 abbrev pub all_differ : {X : Type 0} → (X → X → Bool) → List X → Bool
@@ -60,10 +57,6 @@ abbrev pub is_tool : WrittenItem → Bool
 is_tool Tool = true
 is_tool _ = false
 
-abbrev pub is_name : WrittenItem → Bool
-is_name (Name text) = true
-is_name _ = false
-
 -- What the whole says. Where a line that may stand once stands twice, the first counts.
 abbrev pub written_names : Written → List (List ℕ)
 written_names w = get_or (filter_map names_item w.items) 0 []
@@ -81,9 +74,9 @@ starts_written w = filter_map start_item w.items
 abbrev pub edges_written : Written → List WrittenEdge
 edges_written w = flat_map (λ s. s.edges) w.states
 
--- the labels of states and edges
-abbrev pub body_labels : Written → List RawTree
-body_labels w = flat_map (λ s. option_to_list s.label ++ flat_map (λ e. option_to_list e.label) s.edges) w.states
+-- the labels of these states and of their edges
+abbrev pub body_labels : List WrittenState → List RawTree
+body_labels states = flat_map (λ s. option_to_list s.label ++ flat_map (λ e. option_to_list e.label) s.edges) states
 
 -- every number of a state, wherever it stands
 abbrev pub used_states : Written → List ℕ
@@ -110,7 +103,7 @@ props_below n = leaves_pass (λ i. nat_lt i n) (λ name. true)
 
 -- every alias of the label is one of these
 abbrev pub aliases_among : List (List ℕ) → RawTree → Bool
-aliases_among names = leaves_pass (λ i. true) (is_listed names)
+aliases_among names = leaves_pass (λ i. true) (λ name. list_any (λ other. same_text other name) names)
 
 -- every number is below n
 abbrev pub numbers_below : ℕ → List ℕ → Bool
@@ -130,11 +123,6 @@ abbrev mutual
   all_sets_below n formula.none = true
   all_sets_below n (formula.more f fs) = sets_below n f && all_sets_below n fs
 
--- V1: the version is `v1`.
-abbrev pub has_version_one : Written → Bool
-has_version_one w = same_text w.version (codes "v1")
-
--- V2: there is one line with the acceptance condition; each other line that holds for the whole stands once or not at all.
 abbrev pub at_most_once : (WrittenItem → Bool) → Written → Bool
 at_most_once is w = nat_le (count_by is w.items) 1
 
@@ -142,10 +130,9 @@ abbrev pub lines_stand_once : Written → Bool
 lines_stand_once w =
     at_most_once (λ i. is_some (states_item i)) w && (at_most_once (λ i. is_some (names_item i)) w
     && (count_by (λ i. is_some (acceptance_item i)) w.items == 1
-    && (at_most_once is_acc_name w && (at_most_once is_tool w && at_most_once is_name w))))
+    && (at_most_once is_acc_name w && (at_most_once is_tool w && at_most_once (λ i. is_some (name_item i)) w))))
 
--- V3: names of headers that are not known, and of properties, don't begin with a capital letter. One that does changes
--- what the automaton means, and may not be passed over.
+-- A name that begins with a capital letter changes what the automaton means, and may not be passed over.
 abbrev pub begins_with_capital : List ℕ → Bool
 begins_with_capital [] = false
 begins_with_capital (b ∷ bs) = nat_le 65 b && nat_le b 90
@@ -155,27 +142,11 @@ may_be_passed_over (Properties words) = list_all (λ word. not (begins_with_capi
 may_be_passed_over (Other name) = not (begins_with_capital name)
 may_be_passed_over _ = true
 
-abbrev pub unknown_may_be_passed_over : Written → Bool
-unknown_may_be_passed_over w = list_all may_be_passed_over w.items
-
--- V4: after `AP:` stand as many names as its number says, all different.
 abbrev pub names_agree : WrittenItem → Bool
 names_agree (Ap count names) = (length names == count) && all_differ same_text names
 names_agree _ = true
 
-abbrev pub has_counted_names : Written → Bool
-has_counted_names w = list_all names_agree w.items
-
--- V5: each start is one state, and each edge leads to one.
-abbrev pub names_single_states : Written → Bool
-names_single_states w = list_all (λ states. length states == 1) (starts_written w) && list_all (λ e. length e.to == 1) (edges_written w)
-
--- V6: where the number of states is written, every state is below it.
-abbrev pub states_are_below : Written → Bool
-states_are_below w = list_all (λ n. numbers_below n (used_states w)) (filter_map states_item w.items)
-
--- V7: no alias is defined twice; the label of one uses aliases of earlier lines, a label of the body uses aliases of any line.
--- `earlier` holds the aliases of the lines before.
+-- `earlier` holds the aliases of the lines before
 abbrev pub uses_earlier : List (List ℕ) → List AliasLine → Bool
 uses_earlier earlier [] = true
 uses_earlier earlier (line ∷ lines) = aliases_among earlier line.label && uses_earlier (earlier ++ line.name ∷ []) lines
@@ -186,53 +157,44 @@ alias_names w = map (λ line. line.name) (alias_lines w)
 abbrev pub defines_its_aliases : Written → Bool
 defines_its_aliases w =
     all_differ same_text (alias_names w)
-    && (uses_earlier [] (alias_lines w) && list_all (aliases_among (alias_names w)) (body_labels w))
+    && (uses_earlier [] (alias_lines w) && list_all (aliases_among (alias_names w)) (body_labels w.states))
 
--- V8: every proposition of a label, be it an alias's or one of the body, has a name.
-abbrev pub propositions_have_names : Written → Bool
-propositions_have_names w =
-    list_all (λ line. props_below (length (written_names w)) line.label) (alias_lines w)
-    && list_all (props_below (length (written_names w))) (body_labels w)
-
--- V9: every set of the condition, of a state and of an edge is below their number.
+-- the sets of a state and of its edges are below n
 abbrev pub marks_below : ℕ → WrittenState → Bool
 marks_below n s = numbers_below n s.marks && list_all (λ e. numbers_below n e.marks) s.edges
 
-abbrev pub sets_are_below : Written → Bool
-sets_are_below w =
-    sets_below (acceptance_of w).sets (acceptance_of w).formula && list_all (marks_below (acceptance_of w).sets) w.states
-
--- V10: no state is defined twice.
-abbrev pub defines_states_once : Written → Bool
-defines_states_once w = all_differ ◌==◌ (map (λ s. s.number) w.states)
-
--- V11: in a state with a label no edge has one; in another all edges have one, or none has.
 abbrev pub no_edge_labelled : WrittenState → Bool
 no_edge_labelled s = list_all (λ e. is_none e.label) s.edges
 
-abbrev pub labels_each_state_one_way : Written → Bool
-labels_each_state_one_way w = list_all (λ s. no_edge_labelled s || (is_none s.label && list_all (λ e. is_some e.label) s.edges)) w.states
-
--- V12: a state without any label has no edges, or one for each letter over n names.
+-- The state has a label, or no edges, or one for each letter over n names.
 abbrev pub has_edge_per_letter : ℕ → WrittenState → Bool
 has_edge_per_letter n s = (length s.edges == 0) || ((length s.edges == 2 ^ n) || not (is_none s.label && no_edge_labelled s))
 
-abbrev pub has_edges_for_all_letters : Written → Bool
-has_edges_for_all_letters w = list_all (has_edge_per_letter (length (written_names w))) w.states
-
 abbrev pub keeps_rule : Rule → Written → Bool
-keeps_rule V1 = has_version_one
-keeps_rule V2 = lines_stand_once
-keeps_rule V3 = unknown_may_be_passed_over
-keeps_rule V4 = has_counted_names
-keeps_rule V5 = names_single_states
-keeps_rule V6 = states_are_below
-keeps_rule V7 = defines_its_aliases
-keeps_rule V8 = propositions_have_names
-keeps_rule V9 = sets_are_below
-keeps_rule V10 = defines_states_once
-keeps_rule V11 = labels_each_state_one_way
-keeps_rule V12 = has_edges_for_all_letters
+-- The version is `v1`.
+keeps_rule V1 w = same_text w.version (codes "v1")
+-- There is one line with the acceptance condition; each other line that holds for the whole stands once or not at all.
+keeps_rule V2 w = lines_stand_once w
+-- Names of headers that are not known, and of properties, don't begin with a capital letter.
+keeps_rule V3 w = list_all may_be_passed_over w.items
+-- After `AP:` stand as many names as its number says, all different.
+keeps_rule V4 w = list_all names_agree w.items
+-- Each start is one state, and each edge leads to one.
+keeps_rule V5 w = list_all (λ states. length states == 1) (starts_written w) && list_all (λ e. length e.to == 1) (edges_written w)
+-- Where the number of states is written, every state is below it.
+keeps_rule V6 w = list_all (λ n. numbers_below n (used_states w)) (filter_map states_item w.items)
+-- No alias is defined twice; the label of one uses aliases of earlier lines, a label of the body uses aliases of any line.
+keeps_rule V7 w = defines_its_aliases w
+-- Every proposition of a label, be it an alias's or one of the body, has a name.
+keeps_rule V8 w = list_all (props_below (length (written_names w))) (map (λ line. line.label) (alias_lines w) ++ body_labels w.states)
+-- Every set of the condition, of a state and of an edge is below their number.
+keeps_rule V9 w = sets_below (acceptance_of w).sets (acceptance_of w).formula && list_all (marks_below (acceptance_of w).sets) w.states
+-- No state is defined twice.
+keeps_rule V10 w = all_differ ◌==◌ (map (λ s. s.number) w.states)
+-- In a state with a label no edge has one; in another all edges have one, or none has.
+keeps_rule V11 w = list_all (λ s. no_edge_labelled s || (is_none s.label && list_all (λ e. is_some e.label) s.edges)) w.states
+-- A state without any label has no edges, or one for each letter over the names.
+keeps_rule V12 w = list_all (has_edge_per_letter (length (written_names w))) w.states
 
 -- all of them, in the order in which they are examined
 abbrev pub rules : List Rule

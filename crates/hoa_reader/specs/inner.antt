@@ -11,7 +11,6 @@ pub mod Numbers
 pub mod PickedOut
 pub mod Places
 pub mod Rising
-pub mod Rules
 pub mod Sums
 pub mod TreeEdges
 pub mod Weighing

@@ -8,7 +8,7 @@ use Rattle.std.proofs.lemmas.List.{drop_all}
 use Rattle.std.proofs.Math.Seq.{drop-cons}
 use Rattle.aut_base.proofs.lists.Lists.{drop-slice_get}
 use Rattle.aut_base.specs.Text.{line}
-use Rattle.made_stream.specs.Made.{made_text, mark, ring_text, state_back, state_on}
+use Rattle.made_stream.specs.Made.{ring_text, state_back}
 use Rattle.made_stream.specs.inner.Parts.{behind_part, behind_state, ring_part_text, rings_behind}
 use Rattle.made_stream.specs.declared.made.place.Part.{Part}
 use Rattle.made_stream.specs.declared.made.place.Part.TheVariants as part
@@ -28,13 +28,19 @@ last_lines :
 last_lines true = refl
 last_lines false = refl
 
-last_text :
-    (ring state : ℕ) → ring_part_text ring state part.Last ≡ line (codes "[0] 0" ++ mark ring) ++ line (codes "--END--")
+abbrev edge_back : ℕ → List ℕ
+edge_back ring = line (codes "[0] 0" ++ cond (ring % 2 == 1) (codes " {0}") [])
+
+last_text : (ring state : ℕ) → ring_part_text ring state part.Last ≡ edge_back ring ++ line (codes "--END--")
 unfolding ring_part_text
 last_text ring state = rw (decimal_digit 0 (lit< tt)) (last_lines (ring % 2 == 1))
 
 regrouped : (a b c d : List ℕ) → a ++ (b ++ (c ++ d)) ≡ ((a ++ b) ++ c) ++ d
 regrouped a b c d = sym (append_assoc a b (c ++ d)) ∙ sym (append_assoc (a ++ b) c d)
+
+-- a state, and the edge to the next one
+abbrev state_on : ℕ → List ℕ
+state_on state = line (codes "State: " ++ decimal state) ++ line (codes "[0] " ++ decimal (state + 1))
 
 -- the line of a state, and the rest of the ring after it
 states :
@@ -47,7 +53,7 @@ states ring state zero all =
     let here = line (codes "State: " ++ decimal state) in
     rw e
     (ap (λ t. here ++ t) (last_text ring state)
-    ∙ sym (append_assoc here (line (codes "[0] 0" ++ mark ring)) (line (codes "--END--"))))
+    ∙ sym (append_assoc here (edge_back ring) (line (codes "--END--"))))
 states ring state (suc more) all =
     let here = line (codes "State: " ++ decimal state) in
     let edge = line (codes "[0] " ++ decimal (state + 1)) in
@@ -85,7 +91,7 @@ unfolding rings_behind
 ring_behind count ring before = let e : count - ring ≡ suc (count - (ring + 1)) = omega arith in rw e refl
 
 -- the whole text is the first ring and all rings after it
-pub all_rings : (count : ℕ) → 0 < count → ring_text 1 ++ rings_behind count 1 ≡ made_text count
+pub all_rings : (count : ℕ) → 0 < count → ring_text 1 ++ rings_behind count 1 ≡ flat_map ring_text (range_with_len 1 count)
 unfolding rings_behind
 all_rings count some = let e : count - 0 ≡ count = omega arith in sym (ring_behind count 0 some) ∙ rw e refl
 

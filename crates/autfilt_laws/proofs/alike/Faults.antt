@@ -50,18 +50,18 @@ unfit_whole a w next f (inl h) valid within none = none_first h.0 w h.2 valid
 unfit_whole a w next f (inr h) valid within none = go h.2
   where
     go : PassesLimit h.0 w ⊎ a.over h.0 w → ⊥
-    go (inl p) = no_count h.0 w p.passes within
+    go (inl p) = no_count h.0 w p within
     go (inr o) = none h.0 o
 
 -- at most one fault goes with it
 one_passed : (a : Asking) → IsOneAsking a → (which other : Limit) (w : Written) → PassesLimit which w ⊎ a.over which w → PassesLimit other w ⊎ a.over other w → which ≡ other
 one_passed a one which other w (inl x) (inl y) = one_limit which other w x y
-one_passed a one which other w (inl x) (inr y) = absurd (no_count which w x.passes (one.within other w y))
-one_passed a one which other w (inr x) (inl y) = absurd (no_count other w y.passes (one.within which w x))
+one_passed a one which other w (inl x) (inr y) = absurd (no_count which w x (one.within other w y))
+one_passed a one which other w (inr x) (inl y) = absurd (no_count other w y (one.within which w x))
 one_passed a one which other w (inr x) (inr y) = one.limit which other w x y
 
 is_valid : (a : Asking) → IsOneAsking a → (which : Limit) (w : Written) → PassesLimit which w ⊎ a.over which w → IsValid w
-is_valid a one which w (inl x) = x.valid
+is_valid a one which w (inl x) = x.0
 is_valid a one which w (inr x) = one.valid which w x
 
 pub one_fit : (a : Asking) → IsOneAsking a → (s : Standing) (f g : RunFault) → Fits a s f → Fits a s g → f ≡ g

@@ -6,7 +6,8 @@ use Rattle.std.specs.Prelude.{nat_lt}
 use Rattle.aut_base.specs.Lists.{FirstIn}
 use Rattle.aut_base.specs.declared.limit.Limit.{Limit}
 use Rattle.hoa_parser.specs.Raw.{Written}
-use Rattle.hoa_reader.specs.Counts.{Counted, IsCountWithin, PassesFirst, PassesNone, limit_counts}
+use Rattle.hoa_reader.specs.Counts.{Counted, IsCountWithin, PassesNone, limit_counts}
+use Rattle.hoa_reader.specs.Elaborating.{PassesLimit}
 use Rattle.hoa_reader.specs.Validity.{IsFirstBroken, IsValid, keeps_rule, rules}
 use Rattle.hoa_reader.specs.declared.elaborate.Rule.{Rule}
 
@@ -35,12 +36,12 @@ keeps_or_breaks w = go (all_or_first (λ rule. keeps_rule rule w ≡ true) (λ r
     go (inl h) = inl h
     go (inr (rule, first, fails)) = inr (rule, (first, fails))
 
-pub within_or_passes : (w : Written) → PassesNone w ⊎ ((which : Limit) × PassesFirst which w)
-within_or_passes w = go (all_or_first IsCountWithin (λ c. nat_lt c.most c.count ≡ true) test (limit_counts w))
+pub within_or_passes : (w : Written) → IsValid w → PassesNone w ⊎ ((which : Limit) × PassesLimit which w)
+within_or_passes w valid = go (all_or_first IsCountWithin (λ c. nat_lt c.most c.count ≡ true) test (limit_counts w))
   where
     test : (c : Counted) → IsCountWithin c ⊎ (nat_lt c.most c.count ≡ true)
     test c = elim (cases_Bool (nat_lt c.most c.count)) [ inl passes ↦ inr passes | inr within ↦ inl within ]
 
-    go : PassesNone w ⊎ First IsCountWithin (λ c. nat_lt c.most c.count ≡ true) (limit_counts w) → PassesNone w ⊎ ((which : Limit) × PassesFirst which w)
+    go : PassesNone w ⊎ First IsCountWithin (λ c. nat_lt c.most c.count ≡ true) (limit_counts w) → PassesNone w ⊎ ((which : Limit) × PassesLimit which w)
     go (inl h) = inl h
-    go (inr (c, first, passes)) = inr (c.which, (c, first, passes, refl))
+    go (inr (c, first, passes)) = inr (c.which, (valid, c, first, passes, refl))

@@ -16,7 +16,7 @@ use Rattle.hoa_lexer.specs.Blanks.{IsBlanks}
 use Rattle.hoa_parser.specs.Raw.{Written}
 use Rattle.hoa_parser.specs.Standing as standing
 use Rattle.hoa_parser.specs.Standing.{IsWhole, SomeStanding, Standing, Stands}
-use Rattle.hoa_reader.specs.Counts.{PassesFirst, PassesNone}
+use Rattle.hoa_reader.specs.Counts.{PassesNone}
 use Rattle.hoa_reader.specs.Elaborating.{PassesLimit}
 use Rattle.hoa_reader.specs.Validity.{IsFirstBroken, IsValid}
 use Rattle.hoa_reader.specs.declared.elaborate.Rule.{Rule}
@@ -42,21 +42,20 @@ pub data Found (over : Limit → Written → Type 0) (start : ℕ) (rest : List 
   OneRefused : IsRefused over start rest → Found over start rest
 
 module _ (over : Limit → Written → Type 0) (start : ℕ) (rest : List ℕ) where
-  within : (w : Written) (next : List ℕ) → IsWhole start rest w next → IsValid w → PassesNone w ⊎ ((which : Limit) × PassesFirst which w) → Found over start rest
+  within : (w : Written) (next : List ℕ) → IsWhole start rest w next → IsValid w → PassesNone w ⊎ ((which : Limit) × PassesLimit which w) → Found over start rest
   within w next whole valid (inl h) = OneGood w next (record { whole = whole; valid = valid; within = h })
   within w next whole valid (inr h) =
-      let passed : PassesLimit h.0 w = record { valid = valid; passes = h.1 } in
-      let of_whole = counts_pass h.0 w passed in
+      let of_whole = counts_pass h.0 w h.1 in
       OneRefused (record {
         fault = run.Limit h.0;
         by_text = tt;
         other = passed_other h.0 of_whole;
         left = next;
-        stops = inr (inr (record { automaton = w; whole = whole; holds = inl passed }));
+        stops = inr (inr (record { automaton = w; whole = whole; holds = inl h.1 }));
       })
 
   whole_found : (w : Written) (next : List ℕ) → IsWhole start rest w next → IsValid w ⊎ ((rule : Rule) × IsFirstBroken rule w) → Found over start rest
-  whole_found w next whole (inl h) = within w next whole h (within_or_passes w)
+  whole_found w next whole (inl h) = within w next whole h (within_or_passes w h)
   whole_found w next whole (inr h) = OneRefused (record { fault = run.Invalid h.0; by_text = tt; other = λ e. cc; left = next; stops = record { automaton = w; whole = whole; holds = h.1 } })
 
   found_so : AreShown → (s : Standing) → Stands s start rest → Found over start rest

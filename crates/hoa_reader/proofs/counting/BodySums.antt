@@ -11,7 +11,7 @@ use Rattle.hoa_reader.proofs.counting.AfterAll.{after_all-append, goals-cons, nu
 use Rattle.hoa_reader.proofs.counting.Weights.{edges-cons}
 use Rattle.hoa_reader.specs.inner.Numbers.{after_all}
 use Rattle.hoa_reader.specs.Validity.{aliases_among, all_leaves_pass, has_edge_per_letter, marks_below, numbers_below, props_below}
-use Rattle.hoa_reader.specs.inner.Rules.{is_one_state, labels_one_way, state_labels}
+use Rattle.hoa_reader.proofs.validity.RuleParts.{is_one_state, labels_one_way, state_labels}
 use Rattle.hoa_reader.specs.declared.elaborate.sums.Sums.{Sums}
 use Rattle.hoa_reader.specs.inner.Growing.{cap}
 use Rattle.hoa_reader.specs.inner.PickedOut.{edge_targets, numbers}

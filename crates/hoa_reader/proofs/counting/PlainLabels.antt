@@ -11,8 +11,9 @@ use Rattle.std.specs.Prelude.{flat_map, option_to_list, sum_by}
 use Rattle.aut_base.specs.declared.limit.TheConstants.{MOST_ALIASES}
 use Rattle.hoa_parser.specs.Raw as raw
 use Rattle.hoa_parser.specs.Raw.{RawTree, RawTrees, WrittenEdge, WrittenState}
-use Rattle.hoa_reader.specs.Validity.{aliases_among, all_leaves_pass, is_listed}
-use Rattle.hoa_reader.specs.inner.Rules.{state_labels}
+use Rattle.hoa_reader.specs.Validity.{aliases_among, all_leaves_pass}
+use Rattle.hoa_reader.specs.inner.Places.{is_listed}
+use Rattle.hoa_reader.proofs.validity.RuleParts.{state_labels}
 use Rattle.hoa_reader.specs.declared.elaborate.aliases.Known.{Known}
 use Rattle.hoa_reader.specs.declared.elaborate.places.Places.{Places}
 use Rattle.hoa_reader.specs.inner.Growing.{all_capped, cap, capped_weight, capped_height, capped_size, capped_sum, heights_in, sizes_in}

@@ -1,5 +1,5 @@
 -- What is counted of labels, and what they weigh.
-use Rattle.std.proofs.Common.{◌≡◌, ◌<◌, ◌+◌, ◌-◌, ◌^◌, ◌/◌, max, ℕ, Bool, true, false, cond, ◌||◌, List, [], ◌∷◌, length, map, Option, Some, None, nat_lt, refl, arith}
+use Rattle.std.proofs.Common.{◌≡◌, ◌<◌, ◌+◌, ◌-◌, ◌^◌, ◌/◌, max, ℕ, Bool, true, false, not, cond, ◌||◌, List, [], ◌∷◌, length, map, Option, Some, None, nat_lt, refl, arith}
 use Rattle.std.proofs.lemmas.Bool.Decides.{nat_tests}
 use Rattle.std.proofs.lemmas.List.{length-append}
 use Rattle.std.proofs.lemmas.List.Sums.{sum_by-cons}
@@ -8,11 +8,12 @@ use Rattle.std.specs.Option.{option_map_or}
 use Rattle.aut_base.specs.declared.limit.TheConstants.{MOST_ALIASES}
 use Rattle.aut_base.specs.Label.{label_size}
 use Rattle.hoa_reader.proofs.labels.Meanings.{known_heights, known_sizes}
-use Rattle.hoa_reader.specs.Counts.{height, holds_alias}
+use Rattle.hoa_reader.specs.Counts.{height}
 use Rattle.hoa_reader.specs.Described.{greatest}
 use Rattle.hoa_reader.specs.Described.{Meaning, expanded}
 use Rattle.hoa_reader.specs.inner.Growing.{AreAliasesKnown, cap, capped_height, capped_size, heights_in, sizes_in}
 use Rattle.hoa_parser.specs.Raw.{RawTree, WrittenEdge, WrittenState}
+use Rattle.hoa_reader.specs.Validity.{aliases_among}
 use Rattle.hoa_reader.specs.inner.Weighing.{all_edges, are_tall, states_counted, edge_counted, own_counted, state_counted}
 use Rattle.hoa_reader.specs.declared.elaborate.aliases.Known.{Known}
 use Rattle.hoa_reader.specs.declared.elaborate.parts.AliasDef.{AliasDef}
@@ -34,7 +35,7 @@ tall_law ms defs known all (t ∷ ts) =
 
 -- the weights of edges, as they are counted
 abbrev pub own_weighed : List Meaning → RawTree → ℕ
-own_weighed ms t = cond (holds_alias t) (label_size (expanded ms t)) 0
+own_weighed ms t = cond (not (aliases_among [] t)) (label_size (expanded ms t)) 0
 
 abbrev pub edge_weighed : List Meaning → WrittenState → WrittenEdge → ℕ
 edge_weighed ms s e = option_map_or (λ t. label_size (expanded ms t)) s.label (option_map_or (own_weighed ms) e.label 0)
@@ -46,7 +47,7 @@ own_law false c n e = omega arith
 edge_law : (ms : List Meaning) (defs : List AliasDef) (known : Places Known) → AreAliasesKnown ms defs known → (o p : Option RawTree)
     → option_map_or (capped_size (sizes_in known)) o (option_map_or (own_counted known) p 0) ≡ cap (option_map_or (λ t. label_size (expanded ms t)) o (option_map_or (own_weighed ms) p 0))
 edge_law ms defs known all None None = omega arith
-edge_law ms defs known all None (Some t) = own_law (holds_alias t) (capped_size (sizes_in known) t) (label_size (expanded ms t)) (known_sizes ms defs known all t)
+edge_law ms defs known all None (Some t) = own_law (not (aliases_among [] t)) (capped_size (sizes_in known) t) (label_size (expanded ms t)) (known_sizes ms defs known all t)
 edge_law ms defs known all (Some t) p = known_sizes ms defs known all t
 
 sum_law : {X : Type 0} (f g : X → ℕ) → ((x : X) → cap (f x) ≡ cap (g x)) → (xs : List X) → cap (sum_by f xs) ≡ cap (sum_by g xs)

@@ -1,8 +1,9 @@
 -- The worked examples, by computation.
-use Rattle.std.proofs.Common.{[], ◌∷◌, codes, drop, refl, replicate, take}
+use Rattle.std.proofs.Common.{[], ◌∷◌, codes, drop, map, refl, take}
 use Rattle.aut_base.specs.Formula as formula
 use Rattle.hoa_parser.specs.Raw as raw
 use Rattle.hoa_reader.proofs.counting.PassedFirst.{passed_first}
+use Rattle.hoa_reader.specs.Described.{below}
 use Rattle.hoa_reader.specs.DescribingExamples.{CountExamples, DescribingExamples, DescriptionExamples, RuleExamples, text}
 use Rattle.hoa_reader.specs.Validity.{rules}
 
@@ -75,9 +76,15 @@ count_examples = record {
   no_weight = refl;
   height_of_state = refl;
   uncounted = refl;
-  many_sets = passed_first 1 _ (record { version = codes "v1"; items = raw.Acceptance 513 formula.True ∷ raw.States 100001 ∷ []; states = [] }) refl (refl, tt) refl;
-  many_states = passed_first 2 _ (text (raw.States 100001 ∷ []) []) refl (refl, (refl, tt)) refl;
-  too_many_names = passed_first 0 _ (text (raw.Ap 33 (replicate 33 (codes "a")) ∷ []) []) refl tt refl;
+  many_sets =
+      passed_first 1 _ (record { version = codes "v1"; items = raw.Acceptance 513 formula.True ∷ raw.States 100001 ∷ []; states = [] })
+      (refl, (refl, (refl, (refl, (refl, (refl, (refl, (refl, (refl, (refl, (refl, (refl, tt)))))))))))) refl (refl, tt) refl;
+  many_states =
+      passed_first 2 _ (text (raw.States 100001 ∷ []) [])
+      (refl, (refl, (refl, (refl, (refl, (refl, (refl, (refl, (refl, (refl, (refl, (refl, tt)))))))))))) refl (refl, (refl, tt)) refl;
+  too_many_names =
+      passed_first 0 _ (text (raw.Ap 33 (map (λ k. k ∷ []) (below 33)) ∷ []) [])
+      (refl, (refl, (refl, (refl, (refl, (refl, (refl, (refl, (refl, (refl, (refl, (refl, tt)))))))))))) refl tt refl;
   most_names = (refl, tt);
   most_sets = (refl, (refl, tt));
   most_states = (refl, (refl, (refl, tt)));

@@ -10,9 +10,8 @@ use Rattle.aut_base.specs.declared.formula.Formula.TheVariants as of_formula
 use Rattle.hoa_parser.specs.Raw as raw
 use Rattle.hoa_parser.specs.Raw.{WrittenItem}
 use Rattle.hoa_reader.specs.Validity.{acceptance_item}
-use Rattle.hoa_reader.specs.inner.Rules.{no_acceptance}
 use Rattle.hoa_reader.specs.inner.Headers.{first_given, formula_item}
-use Rattle.hoa_reader.specs.inner.PickedOut.{list_of}
+use Rattle.hoa_reader.specs.inner.PickedOut.{list_of, no_acceptance}
 
 first_none : {X : Type 0} (o : Option X) → first_given o None ≡ o
 first_none (Some x) = refl

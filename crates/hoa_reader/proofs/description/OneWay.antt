@@ -17,10 +17,10 @@ use Rattle.aut_base.specs.Label.{LabelTree, holds_at, truth}
 use Rattle.aut_base.specs.Word.{NameSet}
 use Rattle.aut_core.specs.Deterministic.{AreApart, GoesOneWay, is_met}
 use Rattle.hoa_parser.specs.Raw.{RawTree, Written, WrittenEdge, WrittenState}
+use Rattle.hoa_reader.proofs.description.StatesInRange.{tree_edges_from}
 use Rattle.hoa_reader.proofs.labels.LettersApart.{letter_of_all, number_small, number_there, one_number, settled_letter}
-use Rattle.hoa_reader.specs.Described.{below, described, edges_of, expanded, edge_label, letter_label, meanings_of, state_count, tree_edge_of, tree_edges_from, tree_edges_of}
-use Rattle.hoa_reader.specs.Validity.{written_names}
-use Rattle.hoa_reader.specs.inner.Rules.{has_no_label}
+use Rattle.hoa_reader.specs.Described.{below, described, edges_of, expanded, letter_label, meanings_of, state_count, tree_edge_of, tree_edges_of}
+use Rattle.hoa_reader.specs.Validity.{no_edge_labelled, written_names}
 use Rattle.hoa_reader.specs.declared.elaborate.frame.Frame.{Frame}
 use Rattle.hoa_reader.specs.inner.Frames.{IsFrameOf}
 use Rattle.hoa_reader.specs.inner.Implicit.{AreImplicit, each_implicit, is_implicit}
@@ -48,7 +48,7 @@ met_at : (w : Written) (s : WrittenState) (i : ℕ) (e : WrittenEdge) → s.labe
     → is_met (written_names w) letter (settled (width w) (tree_edge_of w s i e)) ≡ is_at i (width w) (holds_at (written_names w) letter)
 met_at w s i e own other letter =
     let f = expanded (meanings_of w) in
-    let label : edge_label w s i e ≡ letter_label (width w) i =
+    let label : (tree_edge_of w s i e).label ≡ letter_label (width w) i =
     ap (λ (o : Option RawTree). option_map_or f o (option_map_or f e.label (letter_label (width w) i))) own ∙ ap (λ (o : Option RawTree). option_map_or f o (letter_label (width w) i)) other in
     ap (λ (t : LabelTree). truth (holds_at (written_names w) letter) (canonical_label (width w) t)) label ∙ settled_letter (width w) i (holds_at (written_names w) letter)
 
@@ -155,7 +155,7 @@ one_state : (w : Written) (q : ℕ) → AreImplicit (width w) (state_count w) w.
 one_state w q are within =
     let found = alone_there (width w) 0 q w.states are.each (omega arith) (omega (arith, within, are.size)) in
     let s = found.state in
-    let bare = and_parts (has_no_label s) (length s.edges == 2 ^ width w) found.implicit in
+    let bare = and_parts (is_none s.label && no_edge_labelled s) (length s.edges == 2 ^ width w) found.implicit in
     let none = and_parts (is_none s.label) (list_all (λ (e : WrittenEdge). is_none e.label) s.edges) bare.0 in
     let own = nothing s.label none.0 in
     let count : length s.edges ≡ 2 ^ width w = eqb-true (length s.edges) (2 ^ width w) bare.1 in

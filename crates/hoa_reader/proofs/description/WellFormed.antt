@@ -1,6 +1,6 @@
 -- What a valid text describes is well formed.
 use Rattle.std.proofs.Common.{◌≡◌, ◌<◌, ◌==◌, ℕ, Bool, true, List, [], ◌∷◌, ◌++◌, length, map, filter, nat_lt, get_or, Option, Some, None, All, zero}
-use Rattle.std.proofs.Common.{suc, arith, AllPairs}
+use Rattle.std.proofs.Common.{suc, arith, AllPairs, sym, ◌∙◌}
 use Rattle.std.proofs.lemmas.List.Kept.{AllPairs-filter}
 use Rattle.std.proofs.lemmas.List.Quantifiers.{all_pairs_push}
 use Rattle.std.proofs.lemmas.List.Elements.{All-from_recursion}
@@ -13,14 +13,14 @@ use Rattle.aut_base.specs.Automaton.{LabelledEdge, IsEdgeOf, IsWellFormed}
 use Rattle.aut_base.specs.Label.{AllBelow, LabelTree}
 use Rattle.aut_base.specs.Marks.{is_in}
 use Rattle.hoa_reader.proofs.description.LabelsInRange.{MeansBelow, expanded_below, letter_below, meanings_below, numbers_are_below, sets_in_range}
-use Rattle.hoa_reader.proofs.description.StatesInRange.{all_used_below, all_without_repeats, edges_in_order, they_differ}
-use Rattle.hoa_reader.specs.Described.{Meaning, tree_edge_of, tree_edges_from, tree_edges_of, below, described, edges_of, expanded}
-use Rattle.hoa_reader.specs.inner.Numbers.{after_all}
-use Rattle.hoa_reader.specs.Described.{meanings_of, only_state, state_count}
+use Rattle.hoa_reader.proofs.description.StatesInRange.{all_used_below, all_without_repeats, edges_in_order, they_differ, tree_edges_from}
+use Rattle.hoa_reader.specs.Described.{Meaning, tree_edge_of, tree_edges_of, below, described, edges_of, expanded}
+use Rattle.hoa_reader.specs.inner.Numbers.{after_all, only_state}
+use Rattle.hoa_reader.specs.Described.{meanings_of, state_count}
 use Rattle.hoa_parser.specs.Raw.{RawTree, Written, WrittenEdge, WrittenState}
 use Rattle.hoa_reader.specs.Validity.{IsValid, acceptance_of, alias_lines, body_labels, edges_written, keeps_rule, numbers_below, props_below}
 use Rattle.hoa_reader.specs.Validity.{starts_written, states_item, used_states, written_names}
-use Rattle.hoa_reader.specs.inner.Rules.{is_one_state, state_labels}
+use Rattle.hoa_reader.proofs.validity.RuleParts.{all_labels, is_one_state, state_labels}
 use Rattle.hoa_reader.specs.declared.elaborate.Rule.TheVariants.{V4, V5, V6, V8, V9}
 use Rattle.aut_base.proofs.lists.AllByRecursion.{AllByRecursion-left, AllByRecursion-right, AllByRecursion-both, AllByRecursion-enumerate_from}
 use Rattle.aut_base.proofs.lists.AllByRecursion.{AllByRecursion-from_flat_map, AllByRecursion-from_map, AllByRecursion-from_list_all, AllByRecursion-map}
@@ -131,7 +131,7 @@ state_edges_good w one states props =
     let n = state_count w in
     let k = length (written_names w) in
     let P : ℕ → Type 0 = λ q. q < n in
-    let labels = and_parts _ _ props in
+    let labels = and_parts _ _ (sym (all_labels (props_below k) (alias_lines w) (body_labels w.states)) ∙ props) in
     let numbers = map (λ (s : WrittenState). s.number) w.states in
     let goals = flat_map (λ (e : WrittenEdge). e.to) (edges_written w) in
     let others = AllByRecursion-right P (flat_map (λ (q : List ℕ). q) (starts_written w)) (numbers ++ goals) (states_below w states) in
@@ -146,7 +146,7 @@ state_edges_good w one states props =
     (λ (s : WrittenState). Labels k (state_labels s)) w.states
     (AllByRecursion-from_flat_map (λ (e : WrittenEdge). only_state e.to < n) (λ (s : WrittenState). s.edges) w.states to)
     (AllByRecursion-from_flat_map (λ t. props_below k t ≡ true) state_labels w.states
-    (AllByRecursion-from_list_all (props_below k) (body_labels w) labels.1))) in
+    (AllByRecursion-from_list_all (props_below k) (body_labels w.states) labels.1))) in
     AllByRecursion-weaker G (λ (s : WrittenState). AllByRecursion (IsEdgeOf (described w)) (tree_edges_of w s)) w.states
     (λ (s : WrittenState) g. tree_edges_good w means s (good_state n k s g)) facts
 

@@ -15,11 +15,11 @@ use Rattle.hoa_reader.specs.Described.{Meaning, each_expanded, expanded, meaning
 use Rattle.hoa_reader.specs.inner.Growing.{AreAliasesKnown, IsKnownAs, IsKnownBy, alias_name, cap, capped_height, capped_heights, capped_size, capped_sizes}
 use Rattle.hoa_reader.specs.inner.Growing.{known_height, known_size, meaning_names, meanings_by}
 use Rattle.hoa_reader.specs.inner.PickedOut.{alias_def, line_names}
-use Rattle.hoa_reader.specs.inner.Places.{place_in}
+use Rattle.hoa_reader.specs.inner.Places.{is_listed, place_in}
 use Rattle.hoa_parser.specs.Raw as raw
 use Rattle.hoa_parser.specs.Raw.{RawTree, RawTrees, raw_tree}
 use Rattle.aut_base.specs.Text.{same_text}
-use Rattle.hoa_reader.specs.Validity.{AliasLine, aliases_among, all_leaves_pass, is_listed, leaves_pass}
+use Rattle.hoa_reader.specs.Validity.{AliasLine, aliases_among, all_leaves_pass, leaves_pass}
 use Rattle.hoa_reader.specs.declared.elaborate.aliases.Known.{Known}
 use Rattle.hoa_reader.specs.declared.elaborate.parts.AliasDef.{AliasDef}
 use Rattle.hoa_reader.specs.declared.elaborate.places.Places.{Places}

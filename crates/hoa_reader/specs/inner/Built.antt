@@ -6,7 +6,7 @@ use Rattle.aut_core.specs.SymbolicAutomata.{SymbolicAutomaton}
 use Rattle.aut_core.specs.Links.{StandFor}
 use Rattle.hoa_parser.specs.Raw.{Written}
 use Rattle.hoa_reader.specs.Counts.{PassesNone}
-use Rattle.hoa_reader.specs.Described.{edges_of, starts_of, state_count}
+use Rattle.hoa_reader.specs.Described.{described, edges_of, state_count}
 use Rattle.hoa_reader.specs.Validity.{IsValid, acceptance_of, written_names}
 use Rattle.hoa_reader.specs.declared.elaborate.body.Body.{Body}
 use Rattle.hoa_reader.specs.inner.Implicit.{AreImplicit}
@@ -17,7 +17,7 @@ use Rattle.hoa_reader.specs.inner.TreeEdges.{settled}
 pub record IsBodyOf (w : Written) (b : Body) : Type 0 where
   pub valid : IsValid w
   pub within : PassesNone w
-  pub starts : b.starts ≡ starts_of w
+  pub starts : b.starts ≡ (described w).starts
   pub states : b.states ≡ state_count w
   pub sets : b.sets ≡ (acceptance_of w).sets
   pub count : b.guards.names ≡ length (written_names w)

@@ -2,7 +2,7 @@
 use Rattle.std.specs.Prelude.{◌≡◌, [], length, filter_map, List, Result, Ok, Err}
 use Rattle.hoa_parser.specs.Raw.{Written, WrittenItem}
 use Rattle.hoa_reader.specs.Counts.{PassesNone}
-use Rattle.hoa_reader.specs.Described.{meanings_after, starts_of, state_count}
+use Rattle.hoa_reader.specs.Described.{described, meanings_after, state_count}
 use Rattle.hoa_reader.specs.Elaborating.{IsRefusedFor}
 use Rattle.hoa_reader.specs.Validity.{IsValid, acceptance_of, alias_item, written_names}
 use Rattle.hoa_reader.specs.declared.elaborate.ElabFault.{ElabFault}
@@ -17,7 +17,7 @@ use Rattle.hoa_reader.specs.inner.TreeEdges.{HasKnown}
 pub record IsFrameOf (w : Written) (f : Frame) : Type 0 where
   pub valid : IsValid w
   pub within : PassesNone w
-  pub starts : f.starts ≡ starts_of w
+  pub starts : f.starts ≡ (described w).starts
   pub states : f.states ≡ state_count w
   pub rising : f.rising ≡ rises_from 0 (numbers w.states)
   pub count : f.names ≡ length (written_names w)

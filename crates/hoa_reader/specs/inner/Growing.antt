@@ -4,10 +4,10 @@ use Rattle.aut_base.specs.Label.{LabelTree, label_size}
 use Rattle.hoa_reader.specs.Counts.{height}
 use Rattle.hoa_reader.specs.Described.{Meaning, expanded, meaning_of, meanings_after}
 use Rattle.hoa_reader.specs.inner.PickedOut.{alias_def}
-use Rattle.hoa_reader.specs.inner.Places.{place_in}
+use Rattle.hoa_reader.specs.inner.Places.{is_listed, place_in}
 use Rattle.hoa_parser.specs.Raw as raw
 use Rattle.hoa_parser.specs.Raw.{RawTree, RawTrees, raw_tree}
-use Rattle.hoa_reader.specs.Validity.{aliases_among, is_listed}
+use Rattle.hoa_reader.specs.Validity.{aliases_among}
 use Rattle.hoa_reader.specs.declared.elaborate.aliases.Known.{Known}
 use Rattle.hoa_reader.specs.declared.elaborate.parts.AliasDef.{AliasDef}
 use Rattle.hoa_reader.specs.declared.elaborate.places.Places.{Places}

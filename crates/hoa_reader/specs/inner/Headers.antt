@@ -5,7 +5,7 @@ use Rattle.aut_base.specs.Formula.{FormulaTree, formula_tree}
 use Rattle.hoa_parser.specs.Naming.{name_item}
 use Rattle.hoa_parser.specs.Raw.{WrittenItem}
 use Rattle.hoa_reader.specs.Validity.{acceptance_item, names_item}
-use Rattle.hoa_reader.specs.inner.Rules.{no_acceptance}
+use Rattle.hoa_reader.specs.inner.PickedOut.{no_acceptance}
 use Rattle.hoa_reader.specs.declared.elaborate.header.Header.{Header}
 
 -- the first of both, where there is one

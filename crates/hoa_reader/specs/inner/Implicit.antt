@@ -1,11 +1,11 @@
 -- Labels that are implicit at every state (HOA v1, implicit labels).
-use Rattle.std.specs.Prelude.{◌≡◌, ℕ, ◌+◌, ◌^◌, ◌==◌, ◌&&◌, Bool, true, List, [], ◌∷◌, length}
+use Rattle.std.specs.Prelude.{◌≡◌, ℕ, ◌+◌, ◌^◌, ◌==◌, ◌&&◌, Bool, true, List, [], ◌∷◌, is_none, length}
 use Rattle.hoa_parser.specs.Raw.{WrittenState}
-use Rattle.hoa_reader.specs.inner.Rules.{has_no_label}
+use Rattle.hoa_reader.specs.Validity.{no_edge_labelled}
 
 -- the state has no label, and an edge for each letter over n names
 abbrev pub is_implicit : ℕ → WrittenState → Bool
-is_implicit n s = has_no_label s && (length s.edges == 2 ^ n)
+is_implicit n s = (is_none s.label && no_edge_labelled s) && (length s.edges == 2 ^ n)
 
 -- they are all so, and their numbers are those from k on, in order
 abbrev pub each_implicit : ℕ → ℕ → List WrittenState → Bool

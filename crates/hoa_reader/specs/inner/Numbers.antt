@@ -1,7 +1,11 @@
 -- What is said of the numbers of states, under names of their own.
-use Rattle.std.specs.Prelude.{ℕ, ◌+◌, ◌==◌, List, map}
+use Rattle.std.specs.Prelude.{ℕ, ◌+◌, ◌==◌, List, get_or, map}
 use Rattle.aut_base.specs.Lists.{distinct}
 use Rattle.hoa_reader.specs.Described.{greatest}
+
+-- the state that a start or an edge names
+abbrev pub only_state : List ℕ → ℕ
+only_state states = get_or states 0 0
 
 -- the numbers in order, each where it stands first
 abbrev pub without_repeats : List ℕ → List ℕ

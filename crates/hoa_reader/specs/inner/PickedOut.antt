@@ -1,11 +1,13 @@
 -- What was read, piece by piece, as the rules speak of it.
 use Rattle.std.specs.Prelude.{◌≡◌, ℕ, Bool, true, map, flat_map, ◌&&◌, ◌==◌, nat_le, List, [], ◌∷◌, count_by, Option, Some, None, is_some}
 use Rattle.std.specs.Borrow.{Bor}
+use Rattle.aut_base.specs.Formula as formula
 use Rattle.aut_base.specs.Formula.{formula_tree}
-use Rattle.hoa_reader.specs.inner.Places.{place_in}
+use Rattle.hoa_reader.specs.inner.Places.{is_listed, place_in}
+use Rattle.hoa_parser.specs.Naming.{name_item}
 use Rattle.hoa_parser.specs.Raw.{RawTree, WrittenEdge, WrittenItem, WrittenState, raw_tree}
 use Rattle.aut_base.specs.Text.{same_text}
-use Rattle.hoa_reader.specs.Validity.{AcceptanceLine, AliasLine, acceptance_item, all_differ, is_acc_name, is_listed, is_name, is_tool, names_item, states_item, uses_earlier}
+use Rattle.hoa_reader.specs.Validity.{AcceptanceLine, AliasLine, acceptance_item, all_differ, is_acc_name, is_tool, names_item, states_item, uses_earlier}
 use Rattle.hoa_reader.specs.declared.elaborate.parts.AcceptanceDef.{AcceptanceDef}
 use Rattle.hoa_reader.specs.declared.elaborate.parts.AliasDef.{AliasDef}
 use Rattle.hoa_reader.specs.declared.elaborate.places.Places.{Places}
@@ -18,6 +20,10 @@ alias_def d = record { name = d.name.now; label = raw_tree d.label.now }
 
 abbrev pub acceptance_def : AcceptanceDef → AcceptanceLine
 acceptance_def d = record { sets = d.sets; formula = formula_tree d.formula.now }
+
+-- what counts where no line has the condition
+abbrev pub no_acceptance : AcceptanceLine
+no_acceptance = record { sets = 0; formula = formula.True }
 
 -- the label that a reference leads to
 abbrev pub label_refs : Bor RawLabel → RawTree
@@ -35,7 +41,7 @@ is_line line.Names i = is_some (names_item i)
 is_line line.Acceptance i = is_some (acceptance_item i)
 is_line line.AccName i = is_acc_name i
 is_line line.Tool i = is_tool i
-is_line line.Name i = is_name i
+is_line line.Name i = is_some (name_item i)
 
 abbrev pub stands_once : Line → List WrittenItem → Bool
 stands_once which items = nat_le (count_by (is_line which) items) 1

@@ -5,7 +5,6 @@ use Rattle.hoa_parser.specs.Raw as raw
 use Rattle.hoa_parser.specs.Raw.{RawTree, RawTrees, WrittenEdge, WrittenState}
 use Rattle.hoa_reader.specs.inner.Numbers.{after_all}
 use Rattle.hoa_reader.specs.Validity.{aliases_among}
-use Rattle.hoa_reader.specs.inner.Rules.{is_one_state}
 use Rattle.hoa_reader.specs.declared.elaborate.sums.Sums.{Sums}
 use Rattle.hoa_reader.specs.inner.Growing.{cap, capped_height, capped_size}
 
@@ -44,7 +43,7 @@ option_size label = option_map_or (capped_size one_sign) label 0
 -- what an edge tells
 abbrev pub edge_sums : WrittenEdge → Sums
 edge_sums e = record {
-  single = is_one_state e.to;
+  single = length e.to == 1;
   after = after_all e.to;
   props = option_props e.label;
   plain = option_plain e.label;

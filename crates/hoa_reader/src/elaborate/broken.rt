@@ -4,7 +4,8 @@ ghost use Rattle.std.specs.Prelude.{◌≡◌, IfOk, MatchOption};
 ghost use Rattle.std.specs.List.{list_all};
 ghost use Rattle.hoa_reader.specs.inner.Gathered.{ArePartsOf};
 ghost use Rattle.hoa_parser.specs.Raw.{written};
-ghost use Rattle.hoa_reader.specs.Validity.{IsFirstBroken, IsValid, defines_its_aliases, keeps_rule, marks_below, names_single_states, propositions_have_names, sets_are_below};
+ghost use Rattle.hoa_reader.specs.Validity.{IsFirstBroken, IsValid, defines_its_aliases, keeps_rule, marks_below};
+ghost use Rattle.hoa_reader.specs.declared.elaborate.Rule.TheVariants.{V5, V8, V9};
 
 use crate::Rule;
 use crate::elaborate::parts::Parts;
@@ -32,7 +33,7 @@ const RULES: [Rule; 12] = [
 /// Whether each start and each edge names one state.
 fn names_single_states(raw: &Raw, parts: &Parts<'_>) -> bool
     requires { ArePartsOf (written raw.now) parts.now }
-    ensures { result ≡ names_single_states (written raw.now) }
+    ensures { result ≡ keeps_rule V5 (written raw.now) }
 {
     rules::start_in_single_states(&parts.starts) && parts.sums.single
 }
@@ -52,7 +53,7 @@ fn defines_its_aliases<'a>(alloc: Global, raw: &'a Raw, parts: &Parts<'a>) -> Re
 /// Whether every proposition has a name.
 fn propositions_have_names(raw: &Raw, parts: &Parts<'_>) -> bool
     requires { ArePartsOf (written raw.now) parts.now }
-    ensures { result ≡ propositions_have_names (written raw.now) }
+    ensures { result ≡ keeps_rule V8 (written raw.now) }
 {
     let names = parts.names.len();
     leaves::aliases_props_below(&parts.defs, names) && parts.sums.props <= names as u64
@@ -69,7 +70,7 @@ fn marks_are_below(raw: &Raw, parts: &Parts<'_>, sets: u32) -> bool
 /// Whether every set is below their number.
 fn sets_are_below(raw: &Raw, parts: &Parts<'_>) -> bool
     requires { ArePartsOf (written raw.now) parts.now }
-    ensures { result ≡ sets_are_below (written raw.now) }
+    ensures { result ≡ keeps_rule V9 (written raw.now) }
 {
     match &parts.acceptance {
         Some(acceptance) => {

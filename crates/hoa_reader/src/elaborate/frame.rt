@@ -5,10 +5,9 @@ ghost use Rattle.aut_base.specs.Formula.{formula_tree};
 ghost use Rattle.hoa_parser.specs.Raw.{written, written_item};
 ghost use Rattle.hoa_reader.specs.Counts.{PassesNone};
 ghost use Rattle.hoa_reader.specs.Validity.{IsValid, acceptance_item, alias_item};
-ghost use Rattle.hoa_reader.specs.inner.Rules.{no_acceptance};
 ghost use Rattle.hoa_reader.specs.inner.Frames.{IsFrameOf, IsSharedBy};
 ghost use Rattle.hoa_reader.specs.inner.Gathered.{ArePartsOf};
-ghost use Rattle.hoa_reader.specs.inner.PickedOut.{are_defined};
+ghost use Rattle.hoa_reader.specs.inner.PickedOut.{are_defined, no_acceptance};
 
 use crate::elaborate::aliases::known_aliases;
 use crate::elaborate::edges::Shared;

@@ -4,9 +4,9 @@ ghost use Rattle.std.specs.Prelude.{◌≡◌, ◌&&◌, [], map, true, false, i
 ghost use Rattle.std.specs.List.{list_all};
 ghost use Rattle.aut_base.specs.Formula.{formula_list, formula_tree, trees};
 ghost use Rattle.hoa_reader.specs.inner.PickedOut.{HasDefined, alias_def, are_defined, label_refs, line_names};
-ghost use Rattle.hoa_reader.specs.inner.Places.{place_in};
+ghost use Rattle.hoa_reader.specs.inner.Places.{is_listed, place_in};
 ghost use Rattle.hoa_parser.specs.Raw.{raw_tree, raw_trees};
-ghost use Rattle.hoa_reader.specs.Validity.{aliases_among, all_leaves_pass, all_sets_below, is_listed, leaves_pass, props_below, sets_below};
+ghost use Rattle.hoa_reader.specs.Validity.{aliases_among, all_leaves_pass, all_sets_below, leaves_pass, props_below, sets_below};
 
 use crate::elaborate::cube::cube_shape;
 use crate::elaborate::parts::AliasDef;

@@ -1,14 +1,14 @@
 //! The first limit that is passed.
 
-ghost use Rattle.std.specs.Prelude.{◌≡◌, ◌<◌, ◌-◌, ◌^◌, length, true, nat_lt, MatchOption};
+ghost use Rattle.std.specs.Prelude.{◌≡◌, ◌<◌, ◌-◌, ◌^◌, length, nat_lt, MatchOption};
 ghost use Rattle.aut_base.specs.declared.limit.TheConstants.{MOST_ALIASES, MOST_EDGES};
-ghost use Rattle.hoa_reader.specs.Counts.{PassesFirst, PassesNone, growth};
+ghost use Rattle.hoa_reader.specs.Counts.{PassesNone, growth};
+ghost use Rattle.hoa_reader.specs.Elaborating.{PassesLimit};
 ghost use Rattle.hoa_reader.specs.inner.Gathered.{ArePartsOf};
 ghost use Rattle.hoa_reader.specs.inner.Growing.{AreAliasesKnown, meanings_by};
 ghost use Rattle.hoa_parser.specs.Raw.{written};
-ghost use Rattle.hoa_reader.specs.Validity.{body_labels, keeps_rule};
+ghost use Rattle.hoa_reader.specs.Validity.{IsValid, body_labels};
 ghost use Rattle.hoa_reader.specs.inner.Weighing.{all_edges, are_tall, states_counted};
-ghost use Rattle.hoa_reader.specs.declared.elaborate.Rule.TheVariants.{V6};
 
 use crate::elaborate::aliases::Known;
 use crate::elaborate::counts::{are_heavy, are_tall};
@@ -29,7 +29,7 @@ fn has_more_edges(raw: &Raw, parts: &Parts<'_>) -> bool
 /// Whether a label of the body is taller than may be. Where no alias stands in one, the labels aren't gone over again.
 fn is_tall<'a>(raw: &'a Raw, parts: &Parts<'a>, known: &Places<'a, Known>) -> bool
     requires { ArePartsOf (written raw.now) parts.now }
-    ensures { result ≡ are_tall known.now (body_labels (written raw.now)) }
+    ensures { result ≡ are_tall known.now (body_labels (written raw.now).states) }
 {
     if parts.sums.plain {
         return parts.sums.height > u64::from(MOST_ALIASES);
@@ -71,8 +71,8 @@ pub(crate) fn first_passed<'a>(
 ) -> Option<Limit>
     requires parts { ArePartsOf (written raw.now) parts.now }
     requires known { AreAliasesKnown (meanings_by parts.now.defs.items) parts.now.defs.items known.now }
-    requires below { keeps_rule V6 (written raw.now) ≡ true }
-    ensures { MatchOption result (PassesNone (written raw.now)) (λ which. PassesFirst which (written raw.now)) }
+    requires valid { IsValid (written raw.now) }
+    ensures { MatchOption result (PassesNone (written raw.now)) (λ which. PassesLimit which (written raw.now)) }
 {
     if parts.names.len() > MOST_NAMES as usize {
         return Some(Limit::Names);

@@ -4,9 +4,8 @@ ghost use Rattle.std.specs.Prelude.{◌≡◌, [], ◌++◌, false, map, flat_ma
 ghost use Rattle.std.specs.Option.{option_map, option_map_or};
 ghost use Rattle.hoa_reader.specs.inner.Gathered.{ArePartsOf};
 ghost use Rattle.hoa_parser.specs.Raw.{raw_tree, written, written_edge, written_item, written_state};
-ghost use Rattle.hoa_reader.specs.Validity.{acceptance_item, alias_item, names_item, start_item, states_item};
-ghost use Rattle.hoa_reader.specs.inner.Rules.{no_acceptance, state_labels};
-ghost use Rattle.hoa_reader.specs.inner.PickedOut.{alias_def, acceptance_def, label_refs, list_of};
+ghost use Rattle.hoa_reader.specs.Validity.{acceptance_item, alias_item, body_labels, names_item, start_item, states_item};
+ghost use Rattle.hoa_reader.specs.inner.PickedOut.{alias_def, acceptance_def, label_refs, list_of, no_acceptance};
 
 use crate::elaborate::rules::numbers_rise;
 use crate::elaborate::sums::{Sums, body_sums};
@@ -101,7 +100,7 @@ pub(crate) fn starts_of(alloc: Global, items: &[Item]) -> Result<Vec<&FewNumbers
 
 /// The labels of states and edges, in order.
 pub(crate) fn labels_of(alloc: Global, states: &[RawState]) -> Result<Vec<&RawLabel>, Memory>
-    ensures { IfOk result (λ labels. map label_refs labels.items ≡ flat_map state_labels (map written_state states.now)) }
+    ensures { IfOk result (λ labels. map label_refs labels.items ≡ body_labels (map written_state states.now)) }
 {
     let mut labels = Vec::new(alloc);
     'states: for state in states {
@@ -117,7 +116,7 @@ fn labels_with_aliases(
     states: &[RawState],
     plain: bool,
 ) -> Result<Vec<&RawLabel>, Memory>
-    ensures { IfOk result (λ labels. plain ≡ false → map label_refs labels.items ≡ flat_map state_labels (map written_state states.now)) }
+    ensures { IfOk result (λ labels. plain ≡ false → map label_refs labels.items ≡ body_labels (map written_state states.now)) }
 {
     if plain {
         return Ok(Vec::new(alloc));

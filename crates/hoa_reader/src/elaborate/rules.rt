@@ -1,13 +1,12 @@
 //! The rules that speak of a few lines, or of the numbers of states.
 
-ghost use Rattle.std.specs.Prelude.{◌≡◌, ℕ, ◌==◌, ◌^◌, codes, count_by, filter_map, nat_le, not, map, IfOk};
+ghost use Rattle.std.specs.Prelude.{◌≡◌, ℕ, ◌==◌, ◌^◌, codes, count_by, filter_map, length, nat_le, not, map, IfOk};
 ghost use Rattle.std.specs.List.{list_all};
 ghost use Rattle.hoa_reader.specs.inner.PickedOut.{is_line, lines_once, numbers};
 ghost use Rattle.hoa_reader.specs.inner.Rising.{rises_from};
 ghost use Rattle.hoa_parser.specs.Raw.{written_item, written_state};
 ghost use Rattle.aut_base.specs.Text.{same_text};
 ghost use Rattle.hoa_reader.specs.Validity.{all_differ, begins_with_capital, may_be_passed_over, names_agree, states_item};
-ghost use Rattle.hoa_reader.specs.inner.Rules.{is_one_state};
 
 use crate::elaborate::places::Places;
 use aut_base::{FewNumbers, Memory, Text};
@@ -206,7 +205,7 @@ pub(crate) fn all_names_agree(alloc: Global, items: &[Item]) -> Result<bool, Mem
 
 /// Whether each start is one state.
 pub(crate) fn start_in_single_states(starts: &[&FewNumbers]) -> bool
-    ensures { result ≡ list_all is_one_state (map (λ s. s.now) starts.now) }
+    ensures { result ≡ list_all (λ states. length states == 1) (map (λ s. s.now) starts.now) }
 {
     'starts: for states in starts {
         if states.len() != 1 {

@@ -3,7 +3,8 @@
 ghost use Rattle.std.specs.Prelude.{◌≡◌, ◌+◌, ◌&&◌, [], true, max, map};
 ghost use Rattle.std.specs.Option.{option_map};
 ghost use Rattle.hoa_parser.specs.Raw.{raw_tree, raw_trees};
-ghost use Rattle.hoa_reader.specs.Validity.{aliases_among, all_leaves_pass, is_listed};
+ghost use Rattle.hoa_reader.specs.Validity.{aliases_among, all_leaves_pass};
+ghost use Rattle.hoa_reader.specs.inner.Places.{is_listed};
 ghost use Rattle.hoa_reader.specs.inner.Growing.{cap, capped_height, capped_heights, capped_size, capped_sizes};
 ghost use Rattle.hoa_reader.specs.inner.Sums.{all_props_after, one_sign, option_height, option_plain, option_props, option_size, props_after};
 

@@ -1,8 +1,7 @@
 //! The starts and the names that are described.
 
 ghost use Rattle.std.specs.Prelude.{◌≡◌, ◌≢◌, AllPairs, map, IfOk};
-ghost use Rattle.hoa_reader.specs.Described.{only_state};
-ghost use Rattle.hoa_reader.specs.inner.Numbers.{without_repeats};
+ghost use Rattle.hoa_reader.specs.inner.Numbers.{only_state, without_repeats};
 
 use aut_base::{FewNumbers, Memory, Names, Numbers, Text};
 use std::alloc::Global;

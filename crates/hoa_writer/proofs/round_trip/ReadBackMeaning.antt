@@ -11,8 +11,9 @@ use Rattle.aut_base.specs.Automaton.{LabelledEdge, Automaton, IsEdgeOf, IsWellFo
 use Rattle.aut_base.specs.Formula.{FormulaTree}
 use Rattle.aut_base.specs.Label.{LabelTree}
 use Rattle.hoa_reader.proofs.description.LabelsInRange.{numbers_are_below}
-use Rattle.hoa_reader.specs.Described.{tree_edge_of, tree_edges_from, tree_edges_of, below, described, edges_of, marks_in_order, meanings_of, only_state, starts_of}
-use Rattle.hoa_reader.specs.inner.Numbers.{after_all, without_repeats}
+use Rattle.hoa_reader.proofs.description.StatesInRange.{tree_edges_from}
+use Rattle.hoa_reader.specs.Described.{tree_edge_of, tree_edges_of, below, described, edges_of, marks_in_order, meanings_of}
+use Rattle.hoa_reader.specs.inner.Numbers.{after_all, only_state, without_repeats}
 use Rattle.hoa_parser.specs.Raw.{Written, WrittenState}
 use Rattle.hoa_reader.specs.Validity.{AcceptanceLine, acceptance_of, used_states}
 use Rattle.hoa_writer.proofs.round_trip.CanonicalLines.{acceptance_found, names_found, starts_found, states_found}
@@ -102,7 +103,7 @@ only_ones : (starts : List ℕ) → map only_state (map (λ s. s ∷ []) starts)
 only_ones [] = refl
 only_ones (s ∷ ss) = ap (λ xs. s ∷ xs) (only_ones ss)
 
-starts_back : (a : Automaton) (name : Option (List ℕ)) → IsWellFormed a → starts_of (canonical_written a name) ≡ a.starts
+starts_back : (a : Automaton) (name : Option (List ℕ)) → IsWellFormed a → (described (canonical_written a name)).starts ≡ a.starts
 starts_back a name h =
     ap (λ groups. without_repeats (map only_state groups)) (starts_found a name)
     ∙ (ap without_repeats (only_ones a.starts) ∙ no_repeats a.starts (pairs_from (λ p q. p ≢ q) a.starts h.starts_differ))

@@ -8,13 +8,14 @@ use Rattle.std.specs.List.{AllByRecursion, list_all, range_with_len}
 use Rattle.aut_base.proofs.words.Texts.{differ_texts}
 use Rattle.aut_base.specs.Automaton.{LabelledEdge, Automaton, IsEdgeOf, IsWellFormed}
 use Rattle.aut_base.specs.Label.{LabelTree}
+use Rattle.hoa_parser.specs.Naming.{name_item}
 use Rattle.hoa_parser.specs.Raw.{RawTree, WrittenEdge, WrittenItem, WrittenState}
 use Rattle.aut_base.specs.Text.{same_text}
+use Rattle.hoa_reader.proofs.validity.RuleParts.{is_one_state, labels_one_way, state_labels}
 use Rattle.hoa_reader.specs.Validity.{AcceptanceLine, AliasLine, IsValid, acceptance_item, aliases_among, all_differ, body_labels, edges_written}
-use Rattle.hoa_reader.specs.Validity.{has_edge_per_letter, is_acc_name, is_name, is_tool, keeps_rule, marks_below, may_be_passed_over, names_agree}
+use Rattle.hoa_reader.specs.Validity.{has_edge_per_letter, is_acc_name, is_tool, keeps_rule, marks_below, may_be_passed_over, names_agree}
 use Rattle.hoa_reader.specs.Validity.{names_item, no_edge_labelled, numbers_below, props_below, sets_below, starts_written, states_item, used_states}
 use Rattle.hoa_reader.specs.Validity.{uses_earlier, written_names}
-use Rattle.hoa_reader.specs.inner.Rules.{is_one_state, labels_one_way, state_labels}
 use Rattle.hoa_reader.specs.declared.elaborate.Rule.TheVariants.{V2, V3, V4, V5, V6, V7, V8, V9, V10, V11, V12}
 use Rattle.hoa_writer.proofs.round_trip.CanonicalLines.{acceptance_found, all_starts, closing, counted_from, each_edge, each_state, edges_at}
 use Rattle.hoa_writer.proofs.round_trip.CanonicalLines.{names_found, no_aliases, no_starts_counted, starting, starts_found, states_found}
@@ -40,13 +41,13 @@ lines_once a None =
     (two _ _ (once (λ i. is_some (names_item i)) 0 a (λ s. refl) refl)
     (two _ _ (exactly (λ i. is_some (acceptance_item i)) 0 a (λ s. refl) refl)
     (two _ _ (once is_acc_name 0 a (λ s. refl) refl)
-    (two _ _ (once is_tool 0 a (λ s. refl) refl) (once is_name 0 a (λ s. refl) refl)))))
+    (two _ _ (once is_tool 0 a (λ s. refl) refl) (once (λ i. is_some (name_item i)) 0 a (λ s. refl) refl)))))
 lines_once a (Some text) =
     two _ _ (once (λ i. is_some (states_item i)) 1 a (λ s. refl) refl)
     (two _ _ (once (λ i. is_some (names_item i)) 0 a (λ s. refl) refl)
     (two _ _ (exactly (λ i. is_some (acceptance_item i)) 0 a (λ s. refl) refl)
     (two _ _ (once is_acc_name 0 a (λ s. refl) refl)
-    (two _ _ (once is_tool 0 a (λ s. refl) refl) (once is_name 1 a (λ s. refl) refl)))))
+    (two _ _ (once is_tool 0 a (λ s. refl) refl) (once (λ i. is_some (name_item i)) 1 a (λ s. refl) refl)))))
 
 words_known : (a : Automaton) (name : Option (List ℕ)) → keeps_rule V3 (canonical_written a name) ≡ true
 words_known a None = all_starts may_be_passed_over a.starts (closing a) (λ s. refl) refl
@@ -96,7 +97,7 @@ states_below a name h =
 
 -- labels of the body
 each_label : (a : Automaton) (name : Option (List ℕ)) (P : RawTree → Type 0) → ((t : LabelTree) → P (written_label (canonical_label (length a.names) t)))
-    → AllByRecursion P (body_labels (canonical_written a name))
+    → AllByRecursion P (body_labels (canonical_written a name).states)
 each_label a name P h =
     AllByRecursion-flat_map P state_labels (canonical_written a name).states (each_state a name (λ s. AllByRecursion P (state_labels s))
     (λ q l. AllByRecursion-flat_map P (λ (e : WrittenEdge). option_to_list e.label) (canonical_state a q).edges
@@ -104,7 +105,7 @@ each_label a name P h =
 
 aliases_defined : (a : Automaton) (name : Option (List ℕ)) → keeps_rule V7 (canonical_written a name) ≡ true
 aliases_defined a name =
-    let labels = body_labels (canonical_written a name) in
+    let labels = body_labels (canonical_written a name).states in
     ap (λ (lines : List AliasLine). all_differ same_text (map (λ line. line.name) lines) && (uses_earlier [] lines && list_all (aliases_among (map (λ line. line.name) lines)) labels))
     (no_aliases a name)
     ∙ every_passes (aliases_among []) labels (each_label a name (λ t. aliases_among [] t ≡ true) (no_alias (length a.names) []))
@@ -112,8 +113,8 @@ aliases_defined a name =
 propositions_named : (a : Automaton) (name : Option (List ℕ)) → keeps_rule V8 (canonical_written a name) ≡ true
 propositions_named a name =
     let w = canonical_written a name in
-    let labels = body_labels w in
-    ap (λ (lines : List AliasLine). list_all (λ line. props_below (length (written_names w)) line.label) lines && list_all (props_below (length (written_names w))) labels) (no_aliases a name)
+    let labels = body_labels w.states in
+    ap (λ (lines : List AliasLine). list_all (props_below (length (written_names w))) (map (λ line. line.label) lines ++ labels)) (no_aliases a name)
     ∙ (ap (λ (names : List (List ℕ)). list_all (props_below (length names)) labels) (names_found a name)
     ∙ every_passes (props_below (length a.names)) labels (each_label a name (λ t. props_below (length a.names) t ≡ true) (props_are_below (length a.names))))
 

@@ -9,9 +9,9 @@ use Rattle.hoa_reader.proofs.description.Framed.{framed_edges, framed_marks}
 use Rattle.hoa_reader.proofs.validity.NamesDiffer.{valid_names}
 use Rattle.hoa_reader.specs.Described.{edges_of}
 use Rattle.hoa_reader.specs.Validity.{acceptance_item, marks_below}
-use Rattle.hoa_reader.specs.inner.Rules.{no_acceptance}
 use Rattle.hoa_reader.specs.inner.Frames.{IsSharedBy}
 use Rattle.hoa_reader.specs.inner.Headers.{first_names}
+use Rattle.hoa_reader.specs.inner.PickedOut.{no_acceptance}
 use Rattle.hoa_reader.specs.inner.TreeEdges.{edges_for}
 use Rattle.hoa_reader.proofs.elaborate.description.Goals as goal
 

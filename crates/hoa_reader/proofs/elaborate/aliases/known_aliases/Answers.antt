@@ -9,10 +9,10 @@ use Rattle.hoa_reader.proofs.labels.Meanings.{known_listed, known_push, names_by
 use Rattle.hoa_reader.specs.Described.{Meaning, expanded, meanings_after}
 use Rattle.hoa_reader.specs.inner.Growing.{AreAliasesKnown, meanings_by}
 use Rattle.hoa_reader.specs.inner.PickedOut.{alias_def}
-use Rattle.hoa_reader.specs.inner.Places.{place_in}
+use Rattle.hoa_reader.specs.inner.Places.{is_listed, place_in}
 use Rattle.hoa_parser.specs.Raw.{raw_tree}
 use Rattle.aut_base.specs.Text.{same_text}
-use Rattle.hoa_reader.specs.Validity.{aliases_among, all_differ, is_listed, uses_earlier}
+use Rattle.hoa_reader.specs.Validity.{aliases_among, all_differ, uses_earlier}
 use Rattle.hoa_reader.specs.declared.elaborate.parts.AliasDef.{AliasDef}
 use Rattle.hoa_reader.proofs.elaborate.aliases.known_aliases.Goals as goal
 use Rattle.aut_base.proofs.lists.Lists.{take-push, split-at, drop-at, slice_get-at}

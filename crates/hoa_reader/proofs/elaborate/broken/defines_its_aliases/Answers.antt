@@ -23,16 +23,16 @@ plain_defines lines ts plain =
 pub returns-then-parts : goal.returns-then-parts
 returns-then-parts c =
     let w = written c.args.raw.now in
-    let plain : list_all (aliases_among []) (body_labels w) ≡ true = body_plain _ w.states ∙ sym (ap (λ (s : Sums). s.plain) c.requires.sums) ∙ c.if-parts.true in
+    let plain : list_all (aliases_among []) (body_labels w.states) ≡ true = body_plain _ w.states ∙ sym (ap (λ (s : Sums). s.plain) c.requires.sums) ∙ c.if-parts.true in
     IfOk-weaker c.are_defined.result _ _
-    (λ kept is. is ∙ ap are_defined (ap (map alias_def) c.deref.ensures.value ∙ c.requires.defs) ∙ plain_defines (alias_lines w) (body_labels w) plain) c.are_defined.ensures
+    (λ kept is. is ∙ ap are_defined (ap (map alias_def) c.deref.ensures.value ∙ c.requires.defs) ∙ plain_defines (alias_lines w) (body_labels w.states) plain) c.are_defined.ensures
 
 pub returns : goal.returns
 returns c =
     let w = written c.args.raw.now in
     let defs : map alias_def c.deref-2.result.now ≡ alias_lines w = ap (map alias_def) c.deref-2.ensures.value ∙ c.requires.defs in
-    let labels : map label_refs c.deref-3.result.now ≡ body_labels w = ap (map label_refs) c.deref-3.ensures.value ∙ c.requires.labels c.if-parts.false in
+    let labels : map label_refs c.deref-3.result.now ≡ body_labels w.states = ap (map label_refs) c.deref-3.ensures.value ∙ c.requires.labels c.if-parts.false in
     IfOk-weaker c.defines_aliases.result _ _
     (λ kept is. is ∙ (λ i. are_defined (defs i) && list_all (aliases_among (line_names (defs i))) (labels i))
-    ∙ and_in_turn (all_differ same_text (line_names (alias_lines w))) (uses_earlier [] (alias_lines w)) (list_all (aliases_among (line_names (alias_lines w))) (body_labels w)))
+    ∙ and_in_turn (all_differ same_text (line_names (alias_lines w))) (uses_earlier [] (alias_lines w)) (list_all (aliases_among (line_names (alias_lines w))) (body_labels w.states)))
     c.defines_aliases.ensures

@@ -3,7 +3,7 @@ use Rattle.std.specs.Borrow.{Bor}
 use Rattle.std.specs.List.{list_all}
 use Rattle.hoa_parser.specs.Raw.{WrittenEdge, WrittenState, written}
 use Rattle.hoa_reader.specs.Validity.{edges_written, starts_written}
-use Rattle.hoa_reader.specs.inner.Rules.{is_one_state}
+use Rattle.hoa_reader.proofs.validity.RuleParts.{is_one_state}
 use Rattle.hoa_reader.proofs.counting.BodySums.{body_single}
 use Rattle.hoa_reader.specs.declared.elaborate.sums.Sums.{Sums}
 use Rattle.hoa_reader.proofs.elaborate.broken.names_single_states.Goals as goal

@@ -1,5 +1,5 @@
 use Rattle.std.proofs.Common.{◌∙◌, ap}
-use Rattle.hoa_reader.specs.Described.{only_state}
+use Rattle.hoa_reader.specs.inner.Numbers.{only_state}
 use Rattle.hoa_reader.proofs.elaborate.edges.edge_of.Goals as goal
 
 pub returns : goal.returns

@@ -3,6 +3,9 @@ use Rattle.hoa_reader.proofs.description.Refusals.{frame_none}
 use Rattle.hoa_reader.specs.declared.elaborate.ElabFault.TheVariants as fault
 use Rattle.hoa_reader.proofs.elaborate.examined.examine.Goals as goal
 
+pub first_passed-requires-clause-valid : goal.first_passed-requires-clause-valid
+first_passed-requires-clause-valid c = rw c.in_default.is at c.in_ok-rule.ensures
+
 pub frame_of-requires-clause-valid : goal.frame_of-requires-clause-valid
 frame_of-requires-clause-valid c = rw c.in_default.is at c.in_ok-rule.ensures
 

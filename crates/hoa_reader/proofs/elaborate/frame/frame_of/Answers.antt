@@ -1,7 +1,6 @@
 use Rattle.std.proofs.Common.{◌∙◌, ℕ, List, ap, length, map}
 use Rattle.std.specs.Borrow.{Bor}
-use Rattle.hoa_reader.specs.Described.{only_state}
-use Rattle.hoa_reader.specs.inner.Numbers.{without_repeats}
+use Rattle.hoa_reader.specs.inner.Numbers.{only_state, without_repeats}
 use Rattle.hoa_reader.proofs.elaborate.frame.frame_of.Goals as goal
 
 pub returns : goal.returns

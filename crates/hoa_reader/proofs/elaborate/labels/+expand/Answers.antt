@@ -10,9 +10,8 @@ use Rattle.hoa_parser.proofs.grammar.RawTrees.{raw_tree-Alias, raw_tree-And-fiel
 use Rattle.hoa_reader.proofs.labels.Meanings.{meaning_missing}
 use Rattle.hoa_reader.specs.Described.{each_expanded, expanded, meaning_of}
 use Rattle.hoa_reader.specs.inner.Growing.{AreAliasesKnown, IsKnownBy, IsKnownOne, alias_name, meaning_names, meanings_by, expansion_steps}
-use Rattle.hoa_reader.specs.inner.Places.{place_in}
+use Rattle.hoa_reader.specs.inner.Places.{is_listed, place_in}
 use Rattle.hoa_parser.specs.Raw.{raw_tree, raw_trees}
-use Rattle.hoa_reader.specs.Validity.{is_listed}
 use Rattle.hoa_reader.specs.declared.elaborate.aliases.Known.{Known}
 use Rattle.hoa_reader.specs.declared.elaborate.parts.AliasDef.{AliasDef}
 use Rattle.hoa_reader.specs.declared.elaborate.places.Places.{Places}

@@ -6,10 +6,10 @@ use Rattle.hoa_reader.proofs.labels.AliasNames.{named, named-append}
 use Rattle.hoa_reader.proofs.validity.AllDiffer.{differ_more, found_or, repeats, some_not_none}
 use Rattle.hoa_reader.proofs.validity.Leaves.{leaves_agree}
 use Rattle.hoa_reader.specs.inner.PickedOut.{alias_def}
-use Rattle.hoa_reader.specs.inner.Places.{place_in}
+use Rattle.hoa_reader.specs.inner.Places.{is_listed, place_in}
 use Rattle.hoa_parser.specs.Raw.{raw_tree}
 use Rattle.aut_base.specs.Text.{same_text}
-use Rattle.hoa_reader.specs.Validity.{aliases_among, all_differ, is_listed, uses_earlier}
+use Rattle.hoa_reader.specs.Validity.{aliases_among, all_differ, uses_earlier}
 use Rattle.hoa_reader.proofs.elaborate.leaves.defined.Goals as goal
 use Rattle.aut_base.proofs.lists.Lists.{take-push, split-at}
 

@@ -4,9 +4,9 @@ use Rattle.std.proofs.lemmas.List.{drop_more}
 use Rattle.std.specs.List.{list_all}
 use Rattle.hoa_reader.proofs.validity.Leaves.{leaves_agree}
 use Rattle.hoa_reader.specs.inner.PickedOut.{HasDefined, alias_def, label_refs, line_names}
-use Rattle.hoa_reader.specs.inner.Places.{place_in}
+use Rattle.hoa_reader.specs.inner.Places.{is_listed, place_in}
 use Rattle.hoa_parser.specs.Raw.{RawTree, raw_tree}
-use Rattle.hoa_reader.specs.Validity.{aliases_among, is_listed}
+use Rattle.hoa_reader.specs.Validity.{aliases_among}
 use Rattle.hoa_reader.proofs.elaborate.leaves.defines_aliases.Goals as goal
 
 pub labels-preserved : goal.labels-preserved

@@ -20,34 +20,34 @@ states_within : (c : After-has_more_edges) → nat_lt MOST_STATES (state_count (
 states_within c = ap (nat_lt MOST_STATES) (sym c.state_count.ensures) ∙ grind (arith, nat_tests)
 
 edges_counted : (c : After-has_more_edges) → c.has_more_edges.result ≡ nat_lt MOST_EDGES (length (edges_of (written c.args.raw.now)))
-edges_counted c = c.has_more_edges.ensures ∙ ap (nat_lt MOST_EDGES) (sym (edge_count (written c.args.raw.now) c.requires.below))
+edges_counted c = c.has_more_edges.ensures ∙ ap (nat_lt MOST_EDGES) (sym (edge_count (written c.args.raw.now) c.requires.valid.1.1.1.1.1.0))
 
 pub returns-then-parts : goal.returns-then-parts
 returns-then-parts c =
-    passed_first 0 _ (written c.args.raw.now) refl tt (ap (λ (ns : List (List ℕ)). nat_lt MOST_NAMES (length ns)) (sym c.requires.parts.names) ∙ grind (arith, nat_tests))
+    passed_first 0 _ (written c.args.raw.now) c.requires.valid refl tt (ap (λ (ns : List (List ℕ)). nat_lt MOST_NAMES (length ns)) (sym c.requires.parts.names) ∙ grind (arith, nat_tests))
 
 pub returns-then-set_count-gt-MOST_SETS : goal.returns-then-set_count-gt-MOST_SETS
 returns-then-set_count-gt-MOST_SETS c =
     let at = goal.at.returns-then-set_count-gt-MOST_SETS c in
-    passed_first 1 _ (written c.args.raw.now) refl (names_within at.After-set_count, tt) (ap (nat_lt MOST_SETS) (sym c.set_count.ensures) ∙ grind (arith, nat_tests))
+    passed_first 1 _ (written c.args.raw.now) c.requires.valid refl (names_within at.After-set_count, tt) (ap (nat_lt MOST_SETS) (sym c.set_count.ensures) ∙ grind (arith, nat_tests))
 
 pub returns-then-state_count-from : goal.returns-then-state_count-from
 returns-then-state_count-from c =
     let at = goal.at.returns-then-state_count-from c in
-    passed_first 2 _ (written c.args.raw.now) refl (names_within at.After-set_count, (sets_within at.After-state_count, tt))
+    passed_first 2 _ (written c.args.raw.now) c.requires.valid refl (names_within at.After-set_count, (sets_within at.After-state_count, tt))
     (ap (nat_lt MOST_STATES) (sym c.state_count.ensures) ∙ grind (arith, nat_tests))
 
 pub returns-then-has_more_edges : goal.returns-then-has_more_edges
 returns-then-has_more_edges c =
     let at = goal.at.returns-then-has_more_edges c in
-    passed_first 3 _ (written c.args.raw.now) refl
+    passed_first 3 _ (written c.args.raw.now) c.requires.valid refl
     (names_within at.After-set_count, (sets_within at.After-state_count, (states_within at.After-has_more_edges, tt))) (sym (edges_counted at.After-has_more_edges) ∙ c.if-has_more_edges.true)
 
 pub returns-then-grow_too_far : goal.returns-then-grow_too_far
 returns-then-grow_too_far c =
     let at = goal.at.returns-then-grow_too_far c in
     let edges = sym (edges_counted at.After-has_more_edges) ∙ c.if-has_more_edges.false in
-    passed_first 4 _ (written c.args.raw.now) refl (names_within at.After-set_count, (sets_within at.After-state_count, (states_within at.After-has_more_edges, (edges, tt))))
+    passed_first 4 _ (written c.args.raw.now) c.requires.valid refl (names_within at.After-set_count, (sets_within at.After-state_count, (states_within at.After-has_more_edges, (edges, tt))))
     (sym c.grow_too_far.ensures ∙ c.if-grow_too_far.true)
 
 pub returns : goal.returns

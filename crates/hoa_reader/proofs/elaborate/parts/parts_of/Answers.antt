@@ -6,10 +6,9 @@ use Rattle.hoa_parser.specs.declared.raw.RawState.{RawState}
 use Rattle.hoa_reader.proofs.counting.AfterAll.{after_all-append}
 use Rattle.hoa_reader.proofs.counting.BodySums.{body_after}
 use Rattle.hoa_reader.specs.inner.Numbers.{after_all}
-use Rattle.hoa_reader.specs.Validity.{acceptance_item, alias_item, names_item, start_item, starts_written, written_names}
-use Rattle.hoa_reader.specs.inner.Rules.{no_acceptance, state_labels}
+use Rattle.hoa_reader.specs.Validity.{acceptance_item, alias_item, body_labels, names_item, start_item, starts_written, written_names}
 use Rattle.hoa_reader.specs.declared.elaborate.sums.Sums.{Sums}
-use Rattle.hoa_reader.specs.inner.PickedOut.{edge_targets, numbers, starts_named}
+use Rattle.hoa_reader.specs.inner.PickedOut.{edge_targets, no_acceptance, numbers, starts_named}
 use Rattle.hoa_reader.specs.inner.Rising.{rises_from}
 use Rattle.hoa_reader.specs.inner.Sums.{body_sums}
 use Rattle.hoa_reader.proofs.elaborate.parts.parts_of.Goals as goal
@@ -36,7 +35,7 @@ returns c =
       defs = c.in_ok-aliases_of.ensures ∙ ap (λ (is : List Item). filter_map alias_item (map written_item is)) items;
       starts = starts;
       sums = sums;
-      labels = λ some. c.in_ok-labels_with_aliases.ensures some ∙ ap (λ (ss : List RawState). flat_map state_labels (map written_state ss)) states;
+      labels = λ some. c.in_ok-labels_with_aliases.ensures some ∙ ap (λ (ss : List RawState). body_labels (map written_state ss)) states;
       after = omega (arith, c.after_starts-after.ensures, started, body, first, second);
       rising = c.numbers_rise.ensures ∙ ap (λ (ss : List RawState). rises_from 0 (numbers (map written_state ss))) states;
     }

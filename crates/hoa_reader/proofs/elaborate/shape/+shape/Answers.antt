@@ -6,7 +6,8 @@ use Rattle.hoa_parser.specs.declared.raw.RawLabel.{RawLabel}
 use Rattle.hoa_reader.proofs.counting.BodySums.{and_in_turn, and_true}
 use Rattle.hoa_reader.proofs.labels.CubeShapes.{cube_leaves, cube_said}
 use Rattle.hoa_reader.proofs.labels.Meanings.{sizes_fit}
-use Rattle.hoa_reader.specs.Validity.{aliases_among, all_leaves_pass, is_listed}
+use Rattle.hoa_reader.specs.Validity.{aliases_among, all_leaves_pass}
+use Rattle.hoa_reader.specs.inner.Places.{is_listed}
 use Rattle.hoa_reader.specs.inner.Growing.{cap, capped_height, capped_heights, capped_size, capped_sizes}
 use Rattle.hoa_reader.specs.inner.Sums.{all_props_after, one_sign, props_after}
 use Rattle.hoa_reader.proofs.elaborate.shape.+shape.Goals as goal

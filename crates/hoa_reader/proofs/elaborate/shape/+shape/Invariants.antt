@@ -1,6 +1,7 @@
 use Rattle.std.proofs.Common.{◌≡◌, ◌≤◌, ◌^◌, ◌-◌, ◌+◌, ◌&&◌, [], true, max, map, drop}
 use Rattle.hoa_parser.specs.Raw.{RawTrees, raw_tree, raw_trees}
-use Rattle.hoa_reader.specs.Validity.{all_leaves_pass, is_listed}
+use Rattle.hoa_reader.specs.Validity.{all_leaves_pass}
+use Rattle.hoa_reader.specs.inner.Places.{is_listed}
 use Rattle.hoa_reader.specs.inner.Growing.{cap, capped_heights, capped_sizes}
 use Rattle.hoa_reader.specs.inner.Sums.{all_props_after, one_sign}
 use Rattle.hoa_reader.proofs.elaborate.shape.+shape.Given as goal

@@ -15,12 +15,11 @@ use Rattle.hoa_reader.proofs.labels.Meanings.{meaning_missing}
 use Rattle.hoa_reader.proofs.labels.WrittenGuards.{all_more, all_none, and_replaced, cube_written, guard_beside, guard_of_label, guard_same}
 use Rattle.hoa_reader.proofs.labels.WrittenGuards.{or_replaced, part_is_below, part_is_smaller, some_more, some_none}
 use Rattle.hoa_reader.specs.Described.{meaning_of}
-use Rattle.hoa_reader.specs.Validity.{is_listed}
 use Rattle.hoa_reader.specs.declared.elaborate.aliases.Known.{Known}
 use Rattle.hoa_reader.specs.declared.elaborate.edges.Shared.{Shared}
 use Rattle.hoa_reader.specs.declared.elaborate.parts.AliasDef.{AliasDef}
 use Rattle.hoa_reader.specs.inner.Growing.{IsKnownBy, IsKnownOne, alias_name, meaning_names, meanings_by}
-use Rattle.hoa_reader.specs.inner.Places.{place_in}
+use Rattle.hoa_reader.specs.inner.Places.{is_listed, place_in}
 use Rattle.hoa_reader.specs.inner.TreeEdges.{HasKnown, parts_replaced, replaced}
 use Rattle.hoa_reader.proofs.elaborate.written.+guard_written.Goals as goal
 
