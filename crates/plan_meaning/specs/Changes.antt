@@ -1,11 +1,11 @@
 -- What a plan makes of an automaton: operations, at most one form, and completion, one after the other.
-use Rattle.std.specs.Prelude.{◌≡◌, ◌⊎◌, ◌<◌, ℕ, true, List, [], ◌∷◌, ◌++◌, length, Option, Result, Ok, Err}
+use Rattle.std.specs.Prelude.{◌≡◌, ◌⊎◌, ◌<◌, ℕ, true, List, [], ◌∷◌, ◌++◌, Option, Result, Ok, Err}
 use Rattle.std.specs.Bool.{then_some}
 use Rattle.std.specs.Option.{option_map}
 use Rattle.std.specs.Result.{result_map_both}
 use Rattle.acc_forms.specs.Atoms.{has_fin}
 use Rattle.acc_forms.specs.Terms.{of_terms, terms}
-use Rattle.ap_project.specs.Hiding.{HiddenSays, hidden}
+use Rattle.ap_project.specs.Hiding.{HiddenSays, SomeWord, hidden}
 use Rattle.aut_base.specs.Acceptance.{Accepts}
 use Rattle.aut_base.specs.Automaton.{Automaton}
 use Rattle.aut_base.specs.Word.{NameSet, letter_at}
@@ -161,14 +161,6 @@ ChangedTo result cs a = Changed (result_map_both automaton_of (λ fault. fault) 
 abbrev pub Language : Type 1
 Language = List NameSet → List NameSet → Type 0
 
--- some lasso word of the language has the same first n letters
-pub record SomePrefix (says : List NameSet → List NameSet → Type 0) (u v : List NameSet) (n : ℕ) : Type 0 where
-  pub stem : List NameSet
-  pub cycle : List NameSet
-  pub some : 0 < length cycle
-  pub said : says stem cycle
-  pub same : (k : ℕ) → k < n → letter_at stem cycle k ≡ letter_at u v k
-
 -- what a form makes of a language: a monitor its safety closure, the words each of whose prefixes is a prefix of some word
 -- of it, and any other form the language itself
 abbrev pub said_in_form : Form → Language → Language
@@ -178,7 +170,7 @@ said_in_form form.Parity says u v = says u v
 said_in_form form.Buchi says u v = says u v
 said_in_form form.RemoveFin says u v = says u v
 said_in_form form.Dnf says u v = says u v
-said_in_form form.Monitor says u v = (n : ℕ) → SomePrefix says u v n
+said_in_form form.Monitor says u v = (n : ℕ) → SomeWord says (λ x y. (k : ℕ) → k < n → letter_at x y k ≡ letter_at u v k)
 
 -- what a change makes of a language: the intersection with that of the operand, the union with it, the language with a name
 -- hidden, its complement, what the form makes of it, or the language itself
