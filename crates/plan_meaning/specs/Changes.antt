@@ -27,7 +27,7 @@ use Rattle.filter_plan.specs.declared.plan.Plan.{Plan}
 use Rattle.fin_removal.specs.Copies.{HasTooManyTerms, without_fin}
 use Rattle.monitor_form.specs.Subsets.{IsMonitorAutomaton, MeetsLimit}
 use Rattle.parity_det.specs.Complements.{IsComplementAutomaton}
-use Rattle.parity_det.specs.Determinisation.{IsParityAutomatonOf}
+use Rattle.parity_det.specs.Determinisation.{IsDeterminisation}
 use Rattle.plan_meaning.specs.Limits.{PassesBuchi, PassesOfBoth, PassesOfEither, PassesOfSum, PassesParityLimit, PassesUnlessDeterministic, limits_of_parity, limits_of_product}
 use Rattle.plan_meaning.specs.Operands.{operand_at, place_of_product, place_of_product_or, place_of_sum}
 use Rattle.plan_meaning.specs.Standing.{those_standing}
@@ -49,8 +49,8 @@ pub data Change : Type 0 where
 
 abbrev pub IsMadeInForm : Form → Automaton → Automaton → Type 0
 IsMadeInForm form.AsIs a made = ⊥
-IsMadeInForm form.Deterministic a made = (core.IsDeterministic a × (made ≡ a)) ⊎ ((core.IsDeterministic a → ⊥) × IsParityAutomatonOf a made)
-IsMadeInForm form.Parity a made = IsParityAutomatonOf a made
+IsMadeInForm form.Deterministic a made = (core.IsDeterministic a × (made ≡ a)) ⊎ ((core.IsDeterministic a → ⊥) × IsDeterminisation (buchi a) made)
+IsMadeInForm form.Parity a made = IsDeterminisation (buchi a) made
 IsMadeInForm form.Buchi a made = made ≡ buchi a
 IsMadeInForm form.RemoveFin a made = made ≡ without_fin a
 IsMadeInForm form.Dnf a made = made ≡ record a { formula = of_terms (terms a.formula) }
