@@ -4,6 +4,7 @@ use Rattle.std.specs.Bool.{then_some}
 use Rattle.std.specs.Option.{option_map}
 use Rattle.std.specs.Result.{result_map_both}
 use Rattle.acc_forms.specs.Atoms.{has_fin}
+use Rattle.acc_forms.specs.Joined.{conj, disj}
 use Rattle.acc_forms.specs.Terms.{of_terms, terms}
 use Rattle.ap_project.specs.Hiding.{HiddenSays, SomeWord, hidden}
 use Rattle.aut_base.specs.Acceptance.{Accepts}
@@ -14,7 +15,7 @@ use Rattle.aut_base.specs.declared.limit.Limit.TheVariants as limit
 use Rattle.aut_core.specs.SymbolicAutomata.{SymbolicAutomaton, automaton_of}
 use Rattle.aut_core.specs.Deterministic as core
 use Rattle.aut_ops.specs.Completion.{completed}
-use Rattle.aut_ops.specs.Products.{IsUnionProductOf, IsProductOf}
+use Rattle.aut_ops.specs.Products.{IsProduct, over_both}
 use Rattle.aut_ops.specs.Sums.{summed}
 use Rattle.aut_ops.specs.Trimming.{IsTrimmed}
 use Rattle.degeneralise.specs.Buchi.{NeedsTooManyTerms, buchi}
@@ -58,8 +59,8 @@ IsMadeInForm form.Monitor a made = IsMonitorAutomaton a made
 
 -- what the change makes of an automaton, exactly
 abbrev pub Makes : Change → Automaton → Automaton → Type 0
-Makes (Product b) a made = IsProductOf a b made
-Makes (ProductOr b) a made = IsUnionProductOf a b made
+Makes (Product b) a made = IsProduct conj (over_both a b a) (over_both a b b) made
+Makes (ProductOr b) a made = IsProduct disj (over_both a b (completed a)) (over_both a b (completed b)) made
 Makes (Sum b) a made = made ≡ summed a b
 Makes (RemoveAp h) a made = made ≡ hidden h.how h.name a
 Makes Trim a made = IsTrimmed a made
