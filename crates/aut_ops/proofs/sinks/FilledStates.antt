@@ -23,7 +23,8 @@ use Rattle.aut_ops.specs.inner.Parts.{filled_edges, sink_marks}
 use Rattle.aut_ops.specs.Labels.{is_never}
 
 -- whether there are letters that meet no edge, by the guard of these letters
-pub gap_is : (t : Store) (gap : Guard) (n : ℕ) (es : List LabelledEdge) (b : Bool) → (IsTrue b ↔ IsNeverMet t gap) → t.names ≡ n → label_in t gap ≡ missing_label n es → is_never n (missing_label n es) ≡ b
+pub gap_is : (t : Store) (gap : Guard) (n : ℕ) (es : List LabelledEdge) (b : Bool) → (IsTrue b ↔ IsNeverMet t gap) → t.names ≡ n → label_in t gap ≡ missing_label n es
+    → is_never n (missing_label n es) ≡ b
 gap_is t gap n es b is names label = sym (never_is t gap b is ∙ (ap (λ m. is_never m (label_in t gap)) names ∙ ap (is_never n) label))
 
 pub both_rows : (s t : Store) (links row new : List Link) → Keeps s t → All (λ l. Has s l.guard) links → All (λ l. Has s l.guard) row → new ≡ links ++ row
