@@ -1,5 +1,5 @@
 -- Steps one after the other make their changes one after the other.
-use Rattle.std.proofs.Common.{◌≡◌, ◌↔◌, ◌⊎◌, ℕ, List, [], ◌∷◌, ◌++◌, Result, Ok, Err, inl, inr, refl, subst}
+use Rattle.std.proofs.Common.{◌≡◌, ◌↔◌, ◌⊎◌, List, [], ◌∷◌, ◌++◌, Result, Ok, Err, inl, inr, refl, subst}
 use Rattle.std.specs.Result.{IsErrAnd}
 use Rattle.ap_project.proofs.Languages.{said_too, same_hidden}
 use Rattle.ap_project.specs.Hiding.{AcceptsHidden, hidden}
