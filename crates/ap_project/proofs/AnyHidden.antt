@@ -11,9 +11,9 @@ use Rattle.aut_base.specs.Automaton.{Automaton, LabelledEdge}
 use Rattle.aut_base.specs.Formula.{met}
 use Rattle.aut_base.specs.Label.{LabelTree, holds_at, truth}
 use Rattle.aut_base.specs.Word.{NameSet, SpellsSame, copies}
-use Rattle.ap_project.proofs.Letters.{absent_itself, but_including, but_without, including_again, present_itself, without_same, without_twice}
+use Rattle.ap_project.proofs.Letters.{SameBut, absent_itself, but_including, but_without, including, including_again, present_itself, without, without_same, without_twice}
 use Rattle.ap_project.proofs.Related.{Carries, Related, accepts_carried, as_many, map_related, related_letters, related_map, some_letter, unrolled}
-use Rattle.ap_project.specs.Hiding.{AgreeOff, SameBut, SomeSays, hidden_truth, including, without}
+use Rattle.ap_project.specs.Hiding.{AgreeOff, SomeWord, hidden_truth}
 use Rattle.ap_project.specs.Laws.{Forth, HiddenAny, IsHidden}
 use Rattle.ap_project.specs.declared.hide.Hide.TheVariants.{Any}
 
@@ -108,7 +108,7 @@ module _ (name : List ℕ) (a h : Automaton) (is : IsHidden Any name a h) where
         marks = cc (old.twin.marks, rest.marks);
       }
 
-  choose : (u v : List NameSet) → Accepts h u v → SomeSays name (λ x y. Accepts a x y) u v
+  choose : (u v : List NameSet) → Accepts h u v → SomeWord (λ x y. Accepts a x y) (AgreeOff name u v)
   choose u v r =
       let stem = u ++ copies r.stem_rounds v in
       let round = copies r.cycle_rounds v in
@@ -120,8 +120,6 @@ module _ (name : List ℕ) (a h : Automaton) (is : IsHidden Any name a h) where
         stem = path_edges.letters;
         cycle = cycle.letters;
         some = omega (arith, some, as_many (SameBut name) round cycle.letters cycle.same);
-        same = λ n s t first second. related_letters (SameBut name) stem round path_edges.letters cycle.letters path_edges.same cycle.same some n s t
-            (sym (unrolled r.stem_rounds r.cycle_rounds u v r.endless some n) ∙ first) second;
         said = record {
           endless = omega (arith, some, as_many (SameBut name) round cycle.letters cycle.same);
           start = r.start;
@@ -136,9 +134,11 @@ module _ (name : List ℕ) (a h : Automaton) (is : IsHidden Any name a h) where
           returns = subst (λ w. IsPath a r.state w cycle.path_edges r.state) (sym (append-nil cycle.letters)) cycle.leads;
           meets = ap (λ marks. met marks a.formula) cycle.marks ∙ (ap (met (map (λ (e : LabelledEdge). e.marks) r.cycle)) (sym is.formula) ∙ r.meets);
         };
+        same = λ n s t first second. related_letters (SameBut name) stem round path_edges.letters cycle.letters path_edges.same cycle.same some n s t
+            (sym (unrolled r.stem_rounds r.cycle_rounds u v r.endless some n) ∙ first) second;
       }
 
-  back_to : (u v : List NameSet) → 0 < length v → SomeSays name (λ x y. Accepts a x y) u v → Accepts h u v
+  back_to : (u v : List NameSet) → 0 < length v → SomeWord (λ x y. Accepts a x y) (AgreeOff name u v) → Accepts h u v
   back_to u v some s =
       let f = without name in
       let some_f : 0 < length (map f v) = omega (arith, some, length-map v f) in

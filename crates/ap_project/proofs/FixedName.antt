@@ -4,8 +4,9 @@ use Rattle.aut_base.specs.Acceptance.{Accepts}
 use Rattle.aut_base.specs.Automaton.{Automaton}
 use Rattle.aut_base.specs.Label.{LabelTree, holds_at, truth}
 use Rattle.aut_base.specs.Word.{NameSet}
+use Rattle.ap_project.proofs.Letters.{including, without}
 use Rattle.ap_project.proofs.Related.{Carries, Related, accepts_carried, map_related, related_map}
-use Rattle.ap_project.specs.Hiding.{hidden_truth, including, without}
+use Rattle.ap_project.specs.Hiding.{hidden_truth}
 use Rattle.ap_project.specs.Laws.{HiddenAbsent, HiddenPresent, IsHidden}
 use Rattle.ap_project.specs.declared.hide.Hide.{Hide}
 use Rattle.ap_project.specs.declared.hide.Hide.TheVariants.{Absent, Present}

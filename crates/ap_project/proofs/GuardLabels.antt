@@ -19,9 +19,9 @@ use Rattle.label_guards.specs.Guards.{GoesBelow, IsFreeOf, IsGuardOf, truth_in, 
 use Rattle.label_guards.specs.Store.{Has, Keeps, Store, label_in}
 use Rattle.label_guards.specs.declared.guard.Guard.{Guard}
 use Rattle.ap_project.proofs.HiddenLabels.{holds_there, letter_has, others_differ}
-use Rattle.ap_project.proofs.Letters.{but_including, but_without, has_name, lacks_name}
+use Rattle.ap_project.proofs.Letters.{SameBut, but_including, but_without, has_name, including, lacks_name, without}
 use Rattle.ap_project.proofs.OtherNames.{apart, is_left}
-use Rattle.ap_project.specs.Hiding.{SameBut, hidden_label, hidden_truth, hidden_value, including, names_without, without}
+use Rattle.ap_project.specs.Hiding.{hidden_label, hidden_truth, hidden_value, names_without}
 use Rattle.ap_project.specs.declared.hide.Hide.{Hide}
 use Rattle.ap_project.specs.inner.HiddenGuards.{AreHidden, ArePlacesOfNames, ArePlacesWithin, IsHiddenGuard, IsGuardInserted, hidden_in, name_at, same_guard}
 

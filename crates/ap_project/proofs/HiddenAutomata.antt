@@ -19,10 +19,10 @@ use Rattle.aut_core.specs.OtherNames.{is_among}
 use Rattle.label_guards.specs.Store.{Has, label_in}
 use Rattle.ap_project.proofs.HiddenLabels.{holds_there, label_says, others_differ}
 use Rattle.ap_project.proofs.Languages.{accepts_hidden}
-use Rattle.ap_project.proofs.Letters.{but_including, but_without}
+use Rattle.ap_project.proofs.Letters.{SameBut, but_including, but_without, including, without}
 use Rattle.ap_project.proofs.OtherNames.{all_left, fewer}
 use Rattle.ap_project.proofs.Relabelled.{relabelled_is_hidden}
-use Rattle.ap_project.specs.Hiding.{AcceptsHidden, SameBut, hidden, hidden_label, hidden_truth, hidden_value, including, names_without, without}
+use Rattle.ap_project.specs.Hiding.{AcceptsHidden, hidden, hidden_label, hidden_truth, hidden_value, names_without}
 use Rattle.ap_project.specs.Laws.{HiddenAccepts, IsHidden}
 use Rattle.ap_project.specs.inner.HiddenGuards.{hidden_link}
 use Rattle.ap_project.specs.declared.hide.Hide.{Hide}

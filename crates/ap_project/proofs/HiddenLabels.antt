@@ -13,9 +13,9 @@ use Rattle.aut_base.specs.Label.{AllBelow, LabelTree, holds_at, truth}
 use Rattle.aut_base.specs.Text.{same_text}
 use Rattle.aut_base.specs.Valuation.{holds_in, letter_of, valuation_of}
 use Rattle.aut_base.specs.Word.{NameSet}
-use Rattle.ap_project.proofs.Letters.{including_alike, without_alike}
+use Rattle.ap_project.proofs.Letters.{including, including_alike, without, without_alike}
 use Rattle.ap_project.proofs.OtherNames.{is_left}
-use Rattle.ap_project.specs.Hiding.{hidden_label, hidden_truth, hidden_value, including, names_without, without}
+use Rattle.ap_project.specs.Hiding.{hidden_label, hidden_truth, hidden_value, names_without}
 use Rattle.ap_project.specs.declared.hide.Hide.{Hide}
 
 pub others_differ : (name : List ℕ) (names : List (List ℕ)) → AllPairs (λ p q. p ≢ q) names → AllPairs (λ p q. p ≢ q) (names_without name names)

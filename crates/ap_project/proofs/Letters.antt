@@ -8,7 +8,18 @@ use Rattle.std.specs.FinMap.{nat_cmp-IsAntisymmetric, slice_cmp-IsAntisymmetric}
 use Rattle.std.specs.FinSet as set
 use Rattle.aut_base.proofs.words.LetterNames.{same_name}
 use Rattle.aut_base.specs.Word.{NameSet}
-use Rattle.ap_project.specs.Hiding.{SameBut, including, without}
+
+-- the letter with the name taken out
+abbrev pub without : List ℕ → NameSet → NameSet
+without name x = set.remove x name
+
+-- the letter with the name put in
+abbrev pub including : List ℕ → NameSet → NameSet
+including name x = set.insert x name
+
+-- both letters have the same names, apart from this one
+abbrev pub SameBut : List ℕ → NameSet → NameSet → Type 0
+SameBut name x y = (other : List ℕ) → other ≢ name → set.contains x other ≡ set.contains y other
 
 same_from : (x y : NameSet) → ((q : List ℕ) → set.contains x q ≡ set.contains y q) → x ≡ y
 same_from x y is = set.same_set nat_list_cmp_total (slice_cmp-IsAntisymmetric nat_cmp-IsAntisymmetric) x y is

@@ -12,14 +12,6 @@ use Rattle.aut_core.specs.OtherNames.{is_among}
 use Rattle.ap_project.specs.declared.hide.Hide.{Hide}
 use Rattle.ap_project.specs.declared.hide.Hide.TheVariants.{Any, Absent, Present}
 
--- the letter with the name taken out
-abbrev pub without : List ℕ → NameSet → NameSet
-without name x = remove x name
-
--- the letter with the name put in
-abbrev pub including : List ℕ → NameSet → NameSet
-including name x = insert x name
-
 -- the truth with a proposition hidden, from the truth where the proposition is false (`fails`) and where it is true
 -- (`holds`)
 abbrev pub hidden_value : Hide → Bool → Bool → Bool
@@ -29,7 +21,7 @@ hidden_value Present fails holds = holds
 
 -- the truth of a label over these names at a letter, with the name hidden
 abbrev pub hidden_truth : Hide → List ℕ → List (List ℕ) → LabelTree → NameSet → Bool
-hidden_truth how name names t x = hidden_value how (truth (holds_at names (without name x)) t) (truth (holds_at names (including name x)) t)
+hidden_truth how name names t x = hidden_value how (truth (holds_at names (remove x name)) t) (truth (holds_at names (insert x name)) t)
 
 -- the names but for this one, in order
 abbrev pub names_without : List ℕ → List (List ℕ) → List (List ℕ)
@@ -47,29 +39,26 @@ hidden how name a =
     if is_among a.names name then record a { names = names_without name a.names; edges = map (λ (e : LabelledEdge). record e { label = hidden_label how name a.names e.label }) a.edges }
     else a
 
--- both letters have the same names, apart from this one
-abbrev pub SameBut : List ℕ → NameSet → NameSet → Type 0
-SameBut name x y = (other : List ℕ) → other ≢ name → contains x other ≡ contains y other
-
 -- The lasso words agree off the name: at each position, their letters have the same other names. Their stems and cycles may
 -- differ in length.
 abbrev pub AgreeOff : List ℕ → List NameSet → List NameSet → List NameSet → List NameSet → Type 0
-AgreeOff name u v x y = (n : ℕ) (a b : NameSet) → letter_at u v n ≡ Some a → letter_at x y n ≡ Some b → SameBut name a b
+AgreeOff name u v x y = (n : ℕ) (a b : NameSet) → letter_at u v n ≡ Some a → letter_at x y n ≡ Some b
+    → (other : List ℕ) → other ≢ name → contains a other ≡ contains b other
 
--- some lasso word of the language agrees with this one off the name
-pub record SomeSays (name : List ℕ) (says : List NameSet → List NameSet → Type 0) (u v : List NameSet) : Type 0 where
+-- some lasso word of the language that is also in the other one, a language being the statement, of each stem and cycle, that
+-- the lasso word is in it
+pub record SomeWord (says Like : List NameSet → List NameSet → Type 0) : Type 0 where
   pub stem : List NameSet
   pub cycle : List NameSet
   pub some : 0 < length cycle
-  pub same : AgreeOff name u v stem cycle
   pub said : says stem cycle
+  pub same : Like stem cycle
 
--- The language with the name hidden. A language is given by the statement, of each stem and cycle, that the lasso word is
--- in it.
+-- the language with the name hidden
 abbrev pub HiddenSays : Hide → List ℕ → (List NameSet → List NameSet → Type 0) → List NameSet → List NameSet → Type 0
-HiddenSays Any name says u v = SomeSays name says u v
-HiddenSays Absent name says u v = says (map (without name) u) (map (without name) v)
-HiddenSays Present name says u v = says (map (including name) u) (map (including name) v)
+HiddenSays Any name says u v = SomeWord says (AgreeOff name u v)
+HiddenSays Absent name says u v = says (map (λ x. remove x name) u) (map (λ x. remove x name) v)
+HiddenSays Present name says u v = says (map (λ x. insert x name) u) (map (λ x. insert x name) v)
 
 -- among the lasso words with a non-empty cycle, h accepts exactly those of a's language with the name hidden
 abbrev pub AcceptsHidden : Hide → List ℕ → Automaton → Automaton → Type 0

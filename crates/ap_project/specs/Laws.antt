@@ -1,10 +1,11 @@
 -- Laws on automata and languages with a name hidden.
 use Rattle.std.specs.Prelude.{◌≡◌, ◌↔◌, ◌<◌, ℕ, true, List, Contains, length, map}
+use Rattle.std.specs.FinSet.{insert, remove}
 use Rattle.aut_base.specs.Acceptance.{Accepts}
 use Rattle.aut_base.specs.Automaton.{Automaton, IsWellFormed, LabelledEdge}
 use Rattle.aut_base.specs.Label.{LabelTree, holds_at, truth}
 use Rattle.aut_base.specs.Word.{NameSet}
-use Rattle.ap_project.specs.Hiding.{AcceptsHidden, SomeSays, hidden, hidden_truth, including, without}
+use Rattle.ap_project.specs.Hiding.{AcceptsHidden, AgreeOff, SomeWord, hidden, hidden_truth}
 use Rattle.ap_project.specs.declared.hide.Hide.{Hide}
 use Rattle.ap_project.specs.declared.hide.Hide.TheVariants.{Any, Absent, Present}
 
@@ -39,13 +40,13 @@ pub record IsHidden (how : Hide) (name : List ℕ) (a h : Automaton) : Type 0 wh
 -- The language of h: under `Any` for words with a non-empty cycle, and below under `Absent` and `Present` for all stems and
 -- cycles.
 abbrev pub HiddenAny : Type 0
-HiddenAny = (name : List ℕ) (a h : Automaton) → IsHidden Any name a h → (u v : List NameSet) → 0 < length v → Accepts h u v ↔ SomeSays name (λ x y. Accepts a x y) u v
+HiddenAny = (name : List ℕ) (a h : Automaton) → IsHidden Any name a h → (u v : List NameSet) → 0 < length v → Accepts h u v ↔ SomeWord (λ x y. Accepts a x y) (AgreeOff name u v)
 
 abbrev pub HiddenAbsent : Type 0
-HiddenAbsent = (name : List ℕ) (a h : Automaton) → IsHidden Absent name a h → (u v : List NameSet) → Accepts h u v ↔ Accepts a (map (without name) u) (map (without name) v)
+HiddenAbsent = (name : List ℕ) (a h : Automaton) → IsHidden Absent name a h → (u v : List NameSet) → Accepts h u v ↔ Accepts a (map (λ x. remove x name) u) (map (λ x. remove x name) v)
 
 abbrev pub HiddenPresent : Type 0
-HiddenPresent = (name : List ℕ) (a h : Automaton) → IsHidden Present name a h → (u v : List NameSet) → Accepts h u v ↔ Accepts a (map (including name) u) (map (including name) v)
+HiddenPresent = (name : List ℕ) (a h : Automaton) → IsHidden Present name a h → (u v : List NameSet) → Accepts h u v ↔ Accepts a (map (λ x. insert x name) u) (map (λ x. insert x name) v)
 
 -- h is a with each label replaced by one that is true exactly where the original with the name hidden is
 pub record IsRelabelled (how : Hide) (name : List ℕ) (a h : Automaton) : Type 0 where

@@ -10,14 +10,13 @@ use Rattle.aut_base.specs.Valuation.{truth_on}
 use Rattle.aut_core.specs.Surveys.{edges_from}
 use Rattle.aut_ops.specs.Labels.{is_never}
 
--- the label that is true where that of none of the state's edges is
-abbrev pub missing_label : Automaton → ℕ → LabelTree
-missing_label a state = label_of_truth (length a.names) (λ v. not (list_any (λ e. truth_on e.label v) (edges_from state a.edges)))
+-- the label over n propositions that is true where that of none of these edges is
+abbrev pub missing_label : ℕ → List LabelledEdge → LabelTree
+missing_label n es = label_of_truth n (λ v. not (list_any (λ e. truth_on e.label v) es))
 
--- an unmarked edge to the sink for the letters that meet none of the state's edges, if there are any
-abbrev pub gap_edges : Automaton → ℕ → List LabelledEdge
-gap_edges a state =
-    if is_never (length a.names) (missing_label a state) then [] else record { from = state; label = missing_label a state; to = a.states; marks = [] } ∷ []
+-- an unmarked edge from the state to the sink for the letters that meet none of the state's edges, if there are any
+abbrev pub gap_edges : ℕ → ℕ → ℕ → List LabelledEdge → List LabelledEdge
+gap_edges n state sink es = if is_never n (missing_label n es) then [] else record { from = state; label = missing_label n es; to = sink; marks = [] } ∷ []
 
 -- a cycle of edges without marks meets the condition
 abbrev pub is_met_unmarked : FormulaTree → Bool
@@ -30,7 +29,7 @@ with_sink a = record {
   names = a.names;
   starts = if length a.starts == 0 then a.states ∷ [] else a.starts;
   states = a.states + 1;
-  edges = flat_map (λ state. edges_from state a.edges ++ gap_edges a state) (range_with_len 0 a.states)
+  edges = flat_map (λ state. edges_from state a.edges ++ gap_edges (length a.names) state a.states (edges_from state a.edges)) (range_with_len 0 a.states)
       ++ record { from = a.states; label = True; to = a.states; marks = if is_met_unmarked a.formula then a.sets ∷ [] else [] } ∷ [];
   sets = if is_met_unmarked a.formula then a.sets + 1 else a.sets;
   formula = if is_met_unmarked a.formula then conj a.formula (Fin a.sets false) else a.formula;
@@ -38,7 +37,8 @@ with_sink a = record {
 
 -- the automaton is complete, as decided: there is a start, and at no state a letter that meets none of its edges
 abbrev pub lacks_nothing : Automaton → Bool
-lacks_nothing a = not (length a.starts == 0) && list_all (λ state. is_never (length a.names) (missing_label a state)) (range_with_len 0 a.states)
+lacks_nothing a = not (length a.starts == 0)
+    && list_all (λ state. is_never (length a.names) (missing_label (length a.names) (edges_from state a.edges))) (range_with_len 0 a.states)
 
 -- the completion; a complete automaton stays as it is
 abbrev pub completed : Automaton → Automaton

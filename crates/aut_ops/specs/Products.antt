@@ -1,7 +1,6 @@
 -- Products of automata, for the intersection and the union of languages.
 use Rattle.std.specs.Prelude.{◌≡◌, ◌≢◌, ℕ, ◌+◌, ◌<◌, ◌==◌, Bool, ◌&&◌, if◌then◌else◌, List, [], ◌∷◌, ◌++◌, All, AllPairs, flat_map, length, map}
 use Rattle.std.specs.List.{position_or_len}
-use Rattle.acc_forms.specs.Joined.{conj, disj}
 use Rattle.acc_forms.specs.Shift.{shift}
 use Rattle.aut_base.specs.Automaton.{Automaton, LabelledEdge}
 use Rattle.aut_base.specs.Formula.{FormulaTree}
@@ -9,7 +8,6 @@ use Rattle.aut_base.specs.Label.{LabelTree}
 use Rattle.aut_core.specs.OtherNames.{joined_names, over_names}
 use Rattle.aut_core.specs.Surveys.{edges_from}
 use Rattle.aut_ops.specs.BreadthFirst.{IsBreadthFirst, IsReachedFrom}
-use Rattle.aut_ops.specs.Completion.{completed}
 use Rattle.aut_ops.specs.Labels.{both_labels, is_never}
 
 -- an edge of the product of two automata, made of an edge of each: it leads from a pair of states to a pair
@@ -60,7 +58,8 @@ product_on join pairs a b = record {
   formula = join a.formula (shift a.sets b.formula);
 }
 
--- the product of two automata over the same names, under this join of their conditions
+-- The product of two automata over the same names, under this join of their conditions: under `conj` both have to be met, for the
+-- intersection, and under `disj` one of the two, for the union, where each automaton is complete.
 pub record IsProduct (join : FormulaTree → FormulaTree → FormulaTree) (a b made : Automaton) : Type 0 where
   pub pairs : List (ℕ × ℕ)
   pub in_order : ArePairs a b pairs
@@ -76,11 +75,3 @@ pub record HasMorePairs (most : ℕ) (a b : Automaton) : Type 0 where
 -- the automaton over the names of both
 abbrev pub over_both : Automaton → Automaton → Automaton → Automaton
 over_both a b x = over_names (joined_names a.names b.names) x
-
--- The product for the intersection: both conditions have to be met.
-abbrev pub IsProductOf : Automaton → Automaton → Automaton → Type 0
-IsProductOf a b = IsProduct conj (over_both a b a) (over_both a b b)
-
--- The product for the union: of the completions, and one of the two conditions has to be met.
-abbrev pub IsUnionProductOf : Automaton → Automaton → Automaton → Type 0
-IsUnionProductOf a b = IsProduct disj (over_both a b (completed a)) (over_both a b (completed b))

@@ -4,7 +4,7 @@ use Rattle.acc_forms.specs.Joined.{conj, disj}
 use Rattle.acc_forms.specs.Shift.{shift}
 use Rattle.aut_base.specs.Automaton.{Automaton, LabelledEdge}
 use Rattle.aut_base.specs.Formula.{Fin, Inf}
-use Rattle.aut_core.specs.OtherNames.{joined_names, over_names}
+use Rattle.aut_ops.specs.Products.{over_both}
 
 -- the edge with the numbers of its states and sets raised, also in the set `fresh`
 abbrev pub moved_edge : ℕ → ℕ → ℕ → LabelledEdge → LabelledEdge
@@ -24,4 +24,4 @@ side_by_side a b = record {
 
 -- the sum of two automata, over their joint names
 abbrev pub summed : Automaton → Automaton → Automaton
-summed a b = side_by_side (over_names (joined_names a.names b.names) a) (over_names (joined_names a.names b.names) b)
+summed a b = side_by_side (over_both a b a) (over_both a b b)

@@ -6,8 +6,8 @@ ghost use Rattle.aut_base.specs.Formula.{formula_tree};
 ghost use Rattle.aut_core.specs.SymbolicAutomata.{automaton_of, edge_of};
 ghost use Rattle.aut_core.specs.Deterministic.{IsComplete, IsDeterministic};
 ghost use Rattle.aut_core.specs.OtherNames.{AcceptTheSame};
-ghost use Rattle.aut_ops.specs.Completion.{completed, with_sink};
-ghost use Rattle.aut_ops.specs.inner.Parts.{filled_edges, no_label, row_gap, sink_marks};
+ghost use Rattle.aut_ops.specs.Completion.{completed, with_sink, missing_label, gap_edges};
+ghost use Rattle.aut_ops.specs.inner.Parts.{filled_edges, sink_marks};
 ghost use Rattle.aut_core.specs.Links.{StandFor};
 ghost use Rattle.label_guards.specs.Store.{Has, Keeps, label_in};
 
@@ -157,7 +157,7 @@ fn fill_state(
     requires row { All (λ l. Has guards.old l.guard) row.now }
     ensures keeps { Keeps guards.old guards.new }
     ensures filled { OnOk result (StandFor guards.new links.new
-        (map (edge_of guards.old) links.old ++ (map (edge_of guards.old) row.now ++ row_gap guards.old.names state sink (map (edge_of guards.old) row.now)))) }
+        (map (edge_of guards.old) links.old ++ (map (edge_of guards.old) row.now ++ gap_edges guards.old.names state sink (map (edge_of guards.old) row.now)))) }
 {
     let gap = gap_of(guards, row)?;
     push_links(links, row)?;
@@ -177,7 +177,7 @@ fn gap_of(guards: &mut Guards, row: &[Link]) -> Result<Guard, Memory>
     requires { All (λ l. Has guards.old l.guard) row.now }
     ensures keeps { Keeps guards.old guards.new }
     ensures has { IfOk result (Has guards.new) }
-    ensures label { IfOk result (λ gap. label_in guards.new gap ≡ no_label guards.old.names (map (edge_of guards.old) row.now)) }
+    ensures label { IfOk result (λ gap. label_in guards.new gap ≡ missing_label guards.old.names (map (edge_of guards.old) row.now)) }
 {
     let mut met = guards.never();
     'row: for link in row {

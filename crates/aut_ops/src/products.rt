@@ -1,12 +1,13 @@
 //! Products of two automata.
 
 ghost use Rattle.std.specs.Prelude.{◌≡◌, ◌+◌, ◌<◌, ◌≤◌, ◌^◌, IfOk, IsErrOf, OnOk, length};
+ghost use Rattle.acc_forms.specs.Joined.{conj, disj};
 ghost use Rattle.aut_base.specs.declared.limit.TheConstants.{MOST_NAMES};
 ghost use Rattle.aut_core.specs.SymbolicAutomata.{AreSymbolicParts, automaton_of};
 ghost use Rattle.aut_core.specs.OtherNames.{joined_names};
 ghost use Rattle.aut_ops.specs.Completion.{completed};
 ghost use Rattle.aut_ops.specs.Languages.{AcceptsBoth, AcceptsEither, ArePairwise};
-ghost use Rattle.aut_ops.specs.Products.{ArePairs, HasMorePairs, IsUnionProductOf, IsProduct, IsProductOf, over_both};
+ghost use Rattle.aut_ops.specs.Products.{ArePairs, HasMorePairs, IsProduct, over_both};
 ghost use Rattle.aut_ops.specs.declared.fault.ExploreFault.{ExploreFault};
 ghost use Rattle.aut_ops.specs.declared.fault.PairFault.{PairFault};
 ghost use Rattle.aut_base.specs.declared.limit.TheConstants.{MOST_PAIRS};
@@ -30,7 +31,9 @@ use std::alloc::Global;
 /// by the same letters from starts of both, in breadth-first order.
 pub fn product(alloc: Global, a: &Automaton, b: &Automaton) -> Result<Automaton, PairFault>
     requires sets { length (joined_names a.now.names b.now.names) ≤ MOST_NAMES → a.now.sets + b.now.sets < 2 ^ 32 }
-    ensures shape { IfOk result (λ made. IsProductOf (automaton_of a.now) (automaton_of b.now) (automaton_of made)) }
+    ensures shape { IfOk result (λ made. IsProduct conj
+        (over_both (automaton_of a.now) (automaton_of b.now) (automaton_of a.now))
+        (over_both (automaton_of a.now) (automaton_of b.now) (automaton_of b.now)) (automaton_of made)) }
     ensures accepts { IfOk result (λ made. AcceptsBoth (automaton_of made) (automaton_of a.now) (automaton_of b.now)) }
     ensures within { OnOk result (length (joined_names a.now.names b.now.names) ≤ MOST_NAMES) }
     ensures few { IfOk result (λ made. made.states ≤ MOST_PAIRS) }
@@ -49,7 +52,9 @@ pub fn product_or(alloc: Global, a: &Automaton, b: &Automaton) -> Result<Automat
     requires states { (completed (automaton_of a.now)).states < 2 ^ 32 }
     requires other_states { (completed (automaton_of b.now)).states < 2 ^ 32 }
     requires sets { (completed (automaton_of a.now)).sets + (completed (automaton_of b.now)).sets < 2 ^ 32 }
-    ensures shape { IfOk result (λ made. IsUnionProductOf (automaton_of a.now) (automaton_of b.now) (automaton_of made)) }
+    ensures shape { IfOk result (λ made. IsProduct disj
+        (over_both (automaton_of a.now) (automaton_of b.now) (completed (automaton_of a.now)))
+        (over_both (automaton_of a.now) (automaton_of b.now) (completed (automaton_of b.now))) (automaton_of made)) }
     ensures accepts { IfOk result (λ made. AcceptsEither (automaton_of made) (automaton_of a.now) (automaton_of b.now)) }
     ensures within { OnOk result (length (joined_names a.now.names b.now.names) ≤ MOST_NAMES) }
     ensures few { IfOk result (λ made. made.states ≤ MOST_PAIRS) }

@@ -3,10 +3,11 @@ use Rattle.std.proofs.Common.{◌↔◌, ℕ, Bool, List, Option, Some, None, in
 use Rattle.std.specs.Prelude.{◌++◌, All, IsTrue, MatchOption}
 use Rattle.aut_base.specs.Acceptance.{Accepts}
 use Rattle.aut_base.specs.Automaton.{Automaton}
+use Rattle.aut_base.specs.Formula.{FormulaTree}
 use Rattle.aut_base.specs.Word.{NameSet}
 use Rattle.aut_base.specs.declared.letter.Lasso.{Lasso}
 use Rattle.aut_ops.specs.Languages.{AcceptsBoth}
-use Rattle.aut_ops.specs.Products.{IsProductOf}
+use Rattle.aut_ops.specs.Products.{IsProduct, over_both}
 use Rattle.inclusion.specs.Common.{AcceptNoneTogether, IsWordOfBoth}
 use Rattle.inclusion.specs.Laws.{IncludedWhereNone, NotIncludedWhereWord, SameWhereNoneTwice}
 use Rattle.lasso_emptiness.specs.Emptiness.{AcceptsNothing, AcceptsSome, IsAcceptedWord}
@@ -15,8 +16,8 @@ use Rattle.word_syntax.specs.Matching.{AcceptTogether}
 use Rattle.word_syntax.specs.Printing.{HoldsOnly}
 
 -- the answer of a search in the product, as an answer on both automata
-pub of_both : (a b made : Automaton) (found : Option Lasso) → IsProductOf a b made → AcceptsBoth made a b → MatchOption found (AcceptsNothing made) (IsAcceptedWord made) →
-    MatchOption found (AcceptNoneTogether a b) (IsWordOfBoth a b)
+pub of_both : {join : FormulaTree → FormulaTree → FormulaTree} (a b made : Automaton) (found : Option Lasso) → IsProduct join (over_both a b a) (over_both a b b) made
+    → AcceptsBoth made a b → MatchOption found (AcceptsNothing made) (IsAcceptedWord made) → MatchOption found (AcceptNoneTogether a b) (IsWordOfBoth a b)
 of_both a b made None is accepts nothing = λ word. nothing word.stem word.cycle ((accepts word.stem word.cycle).1 (word.first, word.second))
 of_both a b made (Some w) is accepts word =
     let both = (accepts w.stem w.cycle).0 word.accepts in

@@ -15,8 +15,12 @@ use Rattle.exploration.specs.Turns.{Transition}
 use Rattle.label_guards.proofs.alike.ClassLeastLaws.{alike_on, alike_turned, least_alike, leasts_apart}
 use Rattle.label_guards.specs.ClassLeasts.{are_alike}
 use Rattle.letter_classes.proofs.ClassTruths.{at_letter, class_truth, valuation_long}
-use Rattle.letter_classes.specs.ClassForms.{class_at, class_edge}
+use Rattle.letter_classes.specs.ClassForms.{class_edge}
 use Rattle.letter_classes.specs.SetClasses.{class_label, set_classes, set_labels}
+
+-- the least valuation of the class of this number
+abbrev pub class_at : Automaton → List ℕ → ℕ → List Bool
+class_at b set k = get_or (set_classes b set) k []
 
 module _ (b : Automaton) (set_of : ℕ → List ℕ) (marks_of : ℕ → List Bool → List ℕ) where
   abbrev edge : Transition → LabelledEdge

@@ -17,7 +17,8 @@ use Rattle.exploration.specs.Turns.{Transition}
 use Rattle.exploration.specs.declared.exploration.Edge.{Edge}
 use Rattle.label_guards.specs.Store.{Keeps, Store}
 use Rattle.label_guards.specs.declared.guard.Guard.{Guard}
-use Rattle.letter_classes.specs.ClassForms.{class_at, class_edge, form_of, link_of}
+use Rattle.letter_classes.proofs.ClassEdges.{class_at}
+use Rattle.letter_classes.specs.ClassForms.{class_edge, form_of, link_of}
 use Rattle.letter_classes.specs.SetClasses.{FitsStore, IsClassGuard, class_label, set_classes, set_labels}
 
 -- States and edges that were explored over an automaton b: `root` has the set of each state, and `told` says which outputs a step has.

@@ -22,7 +22,8 @@ use Rattle.letter_classes.proofs.ClassEdges.{all_apart, class_meets, class_of, e
 use Rattle.letter_classes.specs.SetClasses.{set_classes, set_edges, set_labels}
 use Rattle.monitor_form.specs.Monitors.{HasEdge, IsGoal, TracksSubsets, IsMove, first_places, set_at}
 use Rattle.monitor_form.proofs.Explored.{IsExploredFrom, explored_by, is_goal, monitor_edge}
-use Rattle.monitor_form.specs.Subsets.{successor_set, monitor_on, start_set, subset_step, subset_moves, subset_rules, unless_empty}
+use Rattle.monitor_form.proofs.SubsetMoves.{subset_step, unless_empty}
+use Rattle.monitor_form.specs.Subsets.{successor_set, monitor_on, start_set, subset_moves, subset_rules}
 use Rattle.exploration.proofs.Finished.{explored_ends}
 use Rattle.std.specs.Cmp.Lexicographic.{bytes_decides, pointwise}
 use Rattle.std.specs.Prelude.{nat_eq}

@@ -9,3 +9,4 @@ pub mod Prefixed
 pub mod SetSteps
 pub mod SomeMonitors
 pub mod Stops
+pub mod SubsetMoves

@@ -13,7 +13,8 @@ use Rattle.label_guards.specs.Store.{Store, label_in}
 use Rattle.label_guards.specs.declared.guard.Guard.{Guard}
 use Rattle.letter_classes.proofs.ClassGuards.{number_edges}
 use Rattle.letter_classes.specs.SetClasses.{FitsStore, IsClassGuard, set_classes, set_edges}
-use Rattle.monitor_form.specs.Subsets.{successor_set, subset_step, unless_empty}
+use Rattle.monitor_form.proofs.SubsetMoves.{subset_step, unless_empty}
+use Rattle.monitor_form.specs.Subsets.{successor_set}
 use Rattle.monitor_form.proofs.Explored.{is_goal}
 
 -- a test of the edges that pass another is a test of the filtered list

@@ -16,7 +16,8 @@ use Rattle.exploration.specs.Turns.{Comes, HasOutcome, LimitMet, begin, has_end,
 use Rattle.exploration.specs.declared.fault.Fault.{Fault}
 use Rattle.exploration.specs.declared.fault.Fault.TheVariants as limit
 use Rattle.letter_classes.specs.SetClasses.{set_classes}
-use Rattle.monitor_form.specs.Subsets.{IsMonitorAutomaton, MeetsLimit, MonitorExists, successor_set, monitor_on, start_set, subset_step, subset_rules, unless_empty}
+use Rattle.monitor_form.proofs.SubsetMoves.{subset_step, unless_empty}
+use Rattle.monitor_form.specs.Subsets.{IsMonitorAutomaton, MeetsLimit, MonitorExists, successor_set, monitor_on, start_set, subset_rules}
 
 numbers_same : (xs : List ℕ) → pointwise nat_eq xs xs ≡ true
 numbers_same xs = elim (cases_Bool (pointwise nat_eq xs xs)) [ inl is ↦ is | inr isnt ↦ absurd (other_text xs xs isnt refl) ]

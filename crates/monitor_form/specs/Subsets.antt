@@ -1,6 +1,6 @@
 -- The subset construction, as a transition system that is explored: its states are sets of states, as lists of numbers in
 -- rising order, and its classes are those of the letters that the edges from a set don't tell apart.
-use Rattle.std.specs.Prelude.{◌≡◌, ◌≤◌, ℕ, ◌<◌, ◌==◌, ◌&&◌, Bool, List, [], ◌∷◌, Option, None, Some, filter, length, map, nat_eq, slice_get}
+use Rattle.std.specs.Prelude.{◌≡◌, ◌≤◌, ℕ, ◌<◌, ◌==◌, ◌&&◌, Bool, if◌then◌else◌, List, [], filter, length, map, nat_eq}
 use Rattle.std.specs.Cmp.Lexicographic.{pointwise}
 use Rattle.std.specs.List.{list_any, range_with_len, slice_index_or}
 use Rattle.aut_base.specs.Automaton.{Automaton}
@@ -10,11 +10,11 @@ use Rattle.aut_base.specs.Valuation.{truth_on}
 use Rattle.aut_base.specs.declared.limit.TheConstants.{MOST_BUCHI_STATES, MOST_CLASSES, MOST_SUBSETS}
 use Rattle.aut_ops.specs.Pruning.{IsPruned}
 use Rattle.degeneralise.specs.Buchi.{buchi, buchi_states}
-use Rattle.exploration.specs.TransitionFunctions.{Successor, NoSuccessor, StepOutcome, TransitionFunction}
+use Rattle.exploration.specs.TransitionFunctions.{Successor, NoSuccessor, TransitionFunction}
 use Rattle.exploration.specs.Turns.{Transition, Comes, EndsWith, LimitMet, Rules, begin}
 use Rattle.exploration.specs.declared.fault.Fault.{Fault}
 use Rattle.exploration.specs.declared.fault.Fault.TheVariants as limit
-use Rattle.letter_classes.specs.ClassForms.{class_edge}
+use Rattle.letter_classes.specs.ClassForms.{class_edge, class_steps}
 use Rattle.letter_classes.specs.SetClasses.{set_classes, set_edges}
 use Rattle.monitor_form.specs.Monitors.{first_places}
 
@@ -22,17 +22,9 @@ use Rattle.monitor_form.specs.Monitors.{first_places}
 abbrev pub successor_set : Automaton → List ℕ → List Bool → List ℕ
 successor_set b set v = filter (λ q. list_any (λ e. (e.to == q) && truth_on e.label v) (set_edges b set)) (range_with_len 0 b.states)
 
--- the set, unless it is empty
-abbrev pub unless_empty : List ℕ → StepOutcome (List ℕ)
-unless_empty [] = NoSuccessor
-unless_empty (q ∷ qs) = Successor (q ∷ qs)
-
-abbrev pub subset_step : Automaton → List ℕ → Option (List Bool) → StepOutcome (List ℕ)
-subset_step b set None = NoSuccessor
-subset_step b set (Some v) = unless_empty (successor_set b set v)
-
+-- the steps of the sets: that for a class leads to the successors, unless there are none
 abbrev pub subset_moves : Automaton → TransitionFunction (List ℕ)
-subset_moves b = record { count = λ set. length (set_classes b set); step = λ set k. subset_step b set (slice_get (set_classes b set) k) }
+subset_moves b = class_steps (set_classes b) (λ set v. if length (successor_set b set v) == 0 then NoSuccessor else Successor (successor_set b set v))
 
 -- the starts, in rising order
 abbrev pub start_set : Automaton → List ℕ

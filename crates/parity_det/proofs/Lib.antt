@@ -7,5 +7,6 @@ pub mod Formed
 pub mod ParityLaws
 pub mod Refused
 pub mod SomeForms
+pub mod TreeMoves
 pub mod TreeSteps
 pub mod Widths

@@ -1,10 +1,12 @@
 -- Deterministic parity automata and complements: their languages, that there is at most one, and which limits are met.
-use Rattle.std.proofs.Common.{◌≡◌, ◌∙◌, ◌<◌, ◌≤◌, List, Result, Ok, Err, IfOk, OnOk, ap, arith, false, refl, subst, sym}
+use Rattle.std.proofs.Common.{◌≡◌, ◌⊎◌, ◌∙◌, ◌<◌, ◌≤◌, List, Result, Ok, Err, IfOk, OnOk, ap, arith, false, inl, inr, refl, subst, sym}
 use Rattle.aut_base.specs.Automaton.{Automaton, IsWellFormed}
 use Rattle.aut_base.specs.Formula.{Inf}
 use Rattle.aut_base.specs.declared.limit.TheConstants.{MOST_BUCHI_STATES}
+use Rattle.aut_core.specs.Deterministic.{IsDeterministic}
 use Rattle.aut_core.specs.OtherNames.{AcceptTheSame}
 use Rattle.aut_ops.proofs.flagged.FlagLaws.{pruned_is_determined}
+use Rattle.aut_ops.specs.Completion.{completed}
 use Rattle.aut_ops.specs.Pruning.{IsPruned}
 use Rattle.degeneralise.specs.Buchi.{NeedsTooManyTerms, buchi, buchi_states}
 use Rattle.exploration.proofs.Finished.{ends_or_meets, has_one_ending, has_one_outcome}
@@ -14,8 +16,8 @@ use Rattle.exploration.specs.declared.fault.Fault.TheVariants as limit
 use Rattle.parity_det.proofs.FewNodes.{pruned_widths}
 use Rattle.parity_det.proofs.Formed.{explored_trees, is_determinised, is_parity}
 use Rattle.parity_det.proofs.Widths.{wide}
-use Rattle.parity_det.specs.Complements.{ComplementIsDetermined, IsDeterministicForm, IsWithinParity, ParityExcludesLimits, PassesParity, by_completion, by_determinisation}
-use Rattle.parity_det.specs.Determinisation.{DeterminisationIsDetermined, IsDeterminisation, IsParityAutomatonOf, IsTreeForm, MeetsParityLimit, MeetsTreeLimit, ParityIsDetermined, parity_on}
+use Rattle.parity_det.specs.Complements.{ComplementIsDetermined, IsWithinParity, ParityExcludesLimits, PassesParity}
+use Rattle.parity_det.specs.Determinisation.{DeterminisationIsDetermined, IsDeterminisation, IsTreeForm, MeetsParityLimit, MeetsTreeLimit, ParityIsDetermined, parity_on}
 use Rattle.parity_det.specs.Determinisation.{start_tree, tree_rules, width}
 use Rattle.parity_det.specs.Promises.{HasFewSets, IsParityMinOdd, ParityHasFewSets}
 use Rattle.parity_det.specs.inner.Systems.{MeetsFirst}
@@ -70,11 +72,15 @@ determinisations_same a made other m o =
 pub parity_is_determined : ParityIsDetermined
 parity_is_determined a made other m o = determinisations_same (buchi a) made other m o
 
+-- the completion where a is deterministic, and else the parity automaton
+abbrev pub IsDeterministicForm : Automaton → Automaton → Type 0
+IsDeterministicForm a made = (IsDeterministic a × (made ≡ completed a)) ⊎ ((IsDeterministic a → ⊥) × IsDeterminisation (buchi a) made)
+
 deterministic_forms_same : (a made other : Automaton) → IsDeterministicForm a made → IsDeterministicForm a other → made ≡ other
-deterministic_forms_same a made other (by_completion d e) (by_completion f g) = e ∙ sym g
-deterministic_forms_same a made other (by_completion d e) (by_determinisation f g) = absurd (f d)
-deterministic_forms_same a made other (by_determinisation d e) (by_completion f g) = absurd (d f)
-deterministic_forms_same a made other (by_determinisation d e) (by_determinisation f g) = parity_is_determined a made other e g
+deterministic_forms_same a made other (inl d) (inl e) = d.1 ∙ sym e.1
+deterministic_forms_same a made other (inl d) (inr e) = absurd (e.0 d.0)
+deterministic_forms_same a made other (inr d) (inl e) = absurd (d.0 e.0)
+deterministic_forms_same a made other (inr d) (inr e) = parity_is_determined a made other d.1 e.1
 
 pub complement_is_determined : ComplementIsDetermined
 complement_is_determined a made other m o = m.is ∙ (ap dualised (deterministic_forms_same a m.form o.form m.is_form o.is_form) ∙ sym o.is)
@@ -115,7 +121,7 @@ within_parity a few terms none fault.Nodes p = none limit.StepFailed p
 within_parity a few terms none fault.Classes p = none limit.Classes p
 within_parity a few terms none fault.Memory p = p
 
-pub made_within : (a made : Automaton) → IsParityAutomatonOf a made → buchi_states a ≤ MOST_BUCHI_STATES → (NeedsTooManyTerms a.formula → ⊥) → IsWithinParity a
+pub made_within : (a made : Automaton) → IsDeterminisation (buchi a) made → buchi_states a ≤ MOST_BUCHI_STATES → (NeedsTooManyTerms a.formula → ⊥) → IsWithinParity a
 made_within a made m few terms = within_parity a few terms (λ f meets. determinisation_excludes (buchi a) made f m meets.2)
 
 one_meets : (a : Automaton) (f g : Fault) → MeetsParityLimit a f → MeetsParityLimit a g → f ≡ g

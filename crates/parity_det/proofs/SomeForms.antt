@@ -12,8 +12,8 @@ use Rattle.exploration.proofs.Outcomes.{has_some_outcome}
 use Rattle.exploration.specs.Turns.{HasOutcome, has_end, has_limit}
 use Rattle.exploration.specs.declared.fault.Fault.{Fault}
 use Rattle.exploration.specs.declared.fault.Fault.TheVariants as limit
-use Rattle.parity_det.specs.Complements.{ComplementExists, IsWithinParity, ParityExists, by_completion, by_determinisation}
-use Rattle.parity_det.specs.Determinisation.{IsParityAutomatonOf, MeetsTreeLimit, parity_on, start_tree, tree_rules}
+use Rattle.parity_det.specs.Complements.{ComplementExists, IsWithinParity, ParityExists}
+use Rattle.parity_det.specs.Determinisation.{IsDeterminisation, MeetsTreeLimit, parity_on, start_tree, tree_rules}
 use Rattle.parity_det.specs.declared.fault.CompFault.TheVariants as fault
 use Rattle.parity_laws.specs.Complement.{dualised}
 use Rattle.safra_trees.specs.Trees.{Node}
@@ -31,7 +31,7 @@ module _ (a : Automaton) (within : IsWithinParity a) where
   meets_none limit.States other meets = within fault.Trees (within fault.Terms, few_states, meets)
   meets_none limit.Memory other meets = other refl
 
-  pruned_has_form : ((made : Automaton) → IsParityAutomatonOf a made → ⊥) → (pruned : Automaton) → IsPruned (buchi a) pruned → HasOutcome (tree_rules pruned) (start_tree pruned) → ⊥
+  pruned_has_form : ((made : Automaton) → IsDeterminisation (buchi a) made → ⊥) → (pruned : Automaton) → IsPruned (buchi a) pruned → HasOutcome (tree_rules pruned) (start_tree pruned) → ⊥
   pruned_has_form none pruned is (has_end trees transitions ends) =
       none (parity_on trees transitions pruned) (pruned, is, record { trees = trees; transitions = transitions; explored = ends; is = refl })
   pruned_has_form none pruned is (has_limit f other meets) = meets_none f other (pruned, is, meets)
@@ -41,5 +41,5 @@ parity_exists a within none = pruned_exists (buchi a) (λ pruned is. pruned_has_
 
 pub complement_exists : ComplementExists
 complement_exists a within none =
-    let other : IsDeterministic a → ⊥ = λ is. none (dualised (completed a)) (record { form = completed a; is_form = by_completion is refl; is = refl }) in
-    parity_exists a (within other) (λ made m. none (dualised made) (record { form = made; is_form = by_determinisation other m; is = refl }))
+    let other : IsDeterministic a → ⊥ = λ is. none (dualised (completed a)) (record { form = completed a; is_form = inl (is, refl); is = refl }) in
+    parity_exists a (within other) (λ made m. none (dualised made) (record { form = made; is_form = inr (other, m); is = refl }))

@@ -14,7 +14,8 @@ use Rattle.label_guards.specs.declared.guard.Guard.{Guard}
 use Rattle.letter_classes.proofs.ClassGuards.{number_edges}
 use Rattle.letter_classes.specs.SetClasses.{FitsStore, IsClassGuard, set_edges}
 use Rattle.parity_det.proofs.Explored.{large_fails, small_given}
-use Rattle.parity_det.specs.Determinisation.{class_moves, tree_step_at, tree_classes, unless_large}
+use Rattle.parity_det.proofs.TreeMoves.{tree_classes, tree_step_at}
+use Rattle.parity_det.specs.Determinisation.{class_moves, unless_large}
 use Rattle.parity_det.specs.Faults.{step_fault}
 use Rattle.letter_classes.specs.Taken.{reads_at}
 use Rattle.parity_det.specs.inner.Systems.{IsClassEvent, moves_of}

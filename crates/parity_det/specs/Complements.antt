@@ -1,26 +1,21 @@
 -- The complement of an automaton: a complete deterministic automaton with the same language, under the dual condition.
-use Rattle.std.specs.Prelude.{◌≡◌, ◌<◌, ◌≤◌}
+use Rattle.std.specs.Prelude.{◌≡◌, ◌⊎◌, ◌<◌, ◌≤◌}
 use Rattle.aut_base.specs.Automaton.{Automaton}
 use Rattle.aut_base.specs.declared.limit.TheConstants.{MOST_BUCHI_STATES}
 use Rattle.aut_core.specs.Deterministic.{IsDeterministic}
 use Rattle.aut_ops.specs.Completion.{completed}
-use Rattle.degeneralise.specs.Buchi.{NeedsTooManyTerms, buchi_states}
+use Rattle.degeneralise.specs.Buchi.{NeedsTooManyTerms, buchi, buchi_states}
 use Rattle.exploration.specs.declared.fault.Fault.TheVariants as limit
-use Rattle.parity_det.specs.Determinisation.{IsParityAutomatonOf, MeetsParityLimit}
+use Rattle.parity_det.specs.Determinisation.{IsDeterminisation, MeetsParityLimit}
 use Rattle.parity_det.specs.declared.fault.CompFault.{CompFault}
 use Rattle.parity_det.specs.declared.fault.CompFault.TheVariants as fault
 use Rattle.parity_laws.specs.Complement.{dualised}
 
--- The automaton made is the completion of a where a is deterministic, and else its parity automaton.
-pub data IsDeterministicForm (a made : Automaton) : Type 0 where
-  by_completion : IsDeterministic a → made ≡ completed a → IsDeterministicForm a made
-  by_determinisation : (IsDeterministic a → ⊥) → IsParityAutomatonOf a made → IsDeterministicForm a made
-
--- The automaton made is the complement of a. Laws: there is at most one, and each lasso word is accepted by exactly one of
--- the two.
+-- The automaton made is the complement of a: under the dual condition, the completion of a where a is deterministic, and else its parity
+-- automaton. Laws: there is at most one, and each lasso word is accepted by exactly one of the two.
 pub record IsComplementAutomaton (a made : Automaton) : Type 0 where
   pub form : Automaton
-  pub is_form : IsDeterministicForm a form
+  pub is_form : (IsDeterministic a × (form ≡ completed a)) ⊎ ((IsDeterministic a → ⊥) × IsDeterminisation (buchi a) form)
   pub is : made ≡ dualised form
 
 -- the limit that the construction of the parity automaton of a passes first
@@ -52,7 +47,7 @@ ComplementIsDetermined = (a made other : Automaton) → IsComplementAutomaton a 
 
 -- An automaton passes at most one limit, and none where it has a parity automaton and its Büchi form is within the limits.
 pub record ParityLimitsExclude (a : Automaton) : Type 0 where
-  pub made : (made : Automaton) → IsParityAutomatonOf a made → buchi_states a ≤ MOST_BUCHI_STATES → (NeedsTooManyTerms a.formula → ⊥) → IsWithinParity a
+  pub made : (made : Automaton) → IsDeterminisation (buchi a) made → buchi_states a ≤ MOST_BUCHI_STATES → (NeedsTooManyTerms a.formula → ⊥) → IsWithinParity a
   pub one : (f g : CompFault) → PassesParity f a → PassesParity g a → f ≡ g
 
 abbrev pub ParityExcludesLimits : Type 0
@@ -60,7 +55,7 @@ ParityExcludesLimits = (a : Automaton) → ParityLimitsExclude a
 
 -- An automaton that passes no limit has a parity automaton (said by double negation),
 abbrev pub ParityExists : Type 0
-ParityExists = (a : Automaton) → IsWithinParity a → ((made : Automaton) → IsParityAutomatonOf a made → ⊥) → ⊥
+ParityExists = (a : Automaton) → IsWithinParity a → ((made : Automaton) → IsDeterminisation (buchi a) made → ⊥) → ⊥
 
 -- and one that is deterministic or passes no limit has a complement.
 abbrev pub ComplementExists : Type 0

@@ -1,16 +1,16 @@
 -- Determinisation, as a system that is explored (Safra 1988, Piterman 2007): its states are trees, as lists of nodes, and classes
 -- are those of the letters that the edges from the root's states tell apart.
-use Rattle.std.specs.Prelude.{◌≡◌, ◌+◌, ◌≤◌, ℕ, Bool, if◌then◌else◌, List, [], ◌∷◌, Option, None, Some, filter, leb, length, map, max, slice_get}
+use Rattle.std.specs.Prelude.{◌≡◌, ◌+◌, ◌≤◌, ℕ, Bool, if◌then◌else◌, List, [], ◌∷◌, filter, leb, length, map, max}
 use Rattle.acc_forms.specs.Parity.{parity_min_odd}
 use Rattle.aut_base.specs.Automaton.{Automaton, LabelledEdge}
 use Rattle.aut_base.specs.Valuation.{truth_on}
 use Rattle.aut_base.specs.declared.limit.TheConstants.{MOST_BUCHI_STATES, MOST_CLASSES, MOST_NODES, MOST_TREES}
 use Rattle.aut_ops.specs.Pruning.{IsPruned}
 use Rattle.degeneralise.specs.Buchi.{NeedsTooManyTerms, buchi, buchi_states}
-use Rattle.exploration.specs.TransitionFunctions.{StepFailed, Successor, NoSuccessor, StepOutcome, TransitionFunction}
+use Rattle.exploration.specs.TransitionFunctions.{StepFailed, Successor, StepOutcome, TransitionFunction}
 use Rattle.exploration.specs.Turns.{Transition, Comes, EndsWith, LimitMet, Rules, begin}
 use Rattle.exploration.specs.declared.fault.Fault.{Fault}
-use Rattle.letter_classes.specs.ClassForms.{class_edge}
+use Rattle.letter_classes.specs.ClassForms.{class_edge, class_steps}
 use Rattle.letter_classes.specs.SetClasses.{set_classes, set_edges}
 use Rattle.parity_laws.specs.Buchi.{move_of}
 use Rattle.parity_laws.specs.Determinised.{tree_at}
@@ -20,10 +20,6 @@ use Rattle.safra_trees.specs.Same.{same_nodes}
 use Rattle.safra_trees.specs.Trees.{Node, first_tree, root_states}
 use Rattle.safra_trees.specs.declared.moves.Move as moves
 
--- the least valuations of the classes of a tree, in order
-abbrev pub tree_classes : Automaton → List Node → List (List Bool)
-tree_classes b t = set_classes b (root_states t)
-
 -- the moves that the letters of a class allow from the root's states
 abbrev pub class_moves : Automaton → List Node → List Bool → List moves.Move
 class_moves b t v = map move_of (filter (λ e. truth_on e.label v) (set_edges b (root_states t)))
@@ -32,12 +28,9 @@ class_moves b t v = map move_of (filter (λ e. truth_on e.label v) (set_edges b 
 abbrev pub unless_large : List Node → StepOutcome (List Node)
 unless_large t = if leb (length t) MOST_NODES then Successor t else StepFailed
 
-abbrev pub tree_step_at : Automaton → List Node → Option (List Bool) → StepOutcome (List Node)
-tree_step_at b t None = NoSuccessor
-tree_step_at b t (Some v) = unless_large (next_tree b.states (class_moves b t v) t)
-
+-- the steps of the trees, for the classes of the root's states
 abbrev pub tree_moves : Automaton → TransitionFunction (List Node)
-tree_moves b = record { count = λ t. length (tree_classes b t); step = λ t k. tree_step_at b t (slice_get (tree_classes b t) k) }
+tree_moves b = class_steps (λ t. set_classes b (root_states t)) (λ t v. unless_large (next_tree b.states (class_moves b t v) t))
 
 -- the tree of the starts
 abbrev pub start_tree : Automaton → List Node
@@ -74,13 +67,10 @@ pub record IsTreeForm (b made : Automaton) : Type 0 where
   pub explored : EndsWith (tree_rules b) (start_tree b) trees transitions
   pub is : made ≡ parity_on trees transitions b
 
--- The automaton made is b determinised: that of the trees of b, pruned.
+-- The automaton made is b determinised: that of the trees of b, pruned. The parity automaton of an automaton is its Büchi form determinised.
+-- Law: there is at most one.
 abbrev pub IsDeterminisation : Automaton → Automaton → Type 0
 IsDeterminisation b made = (pruned : Automaton) × IsPruned b pruned × IsTreeForm pruned made
-
--- The automaton made is the parity automaton of a: its Büchi form determinised. Law: there is at most one.
-abbrev pub IsParityAutomatonOf : Automaton → Automaton → Type 0
-IsParityAutomatonOf a made = IsDeterminisation (buchi a) made
 
 -- determinisation of b meets this limit first
 abbrev pub MeetsTreeLimit : Automaton → Fault → Type 0
@@ -92,7 +82,7 @@ MeetsParityLimit a f = (NeedsTooManyTerms a.formula → ⊥) × (buchi_states a 
 
 -- An automaton has one parity automaton.
 abbrev pub ParityIsDetermined : Type 0
-ParityIsDetermined = (a made other : Automaton) → IsParityAutomatonOf a made → IsParityAutomatonOf a other → made ≡ other
+ParityIsDetermined = (a made other : Automaton) → IsDeterminisation (buchi a) made → IsDeterminisation (buchi a) other → made ≡ other
 
 -- Of each Büchi automaton there is at most one determinised automaton, or at most one limit is met first, and never both.
 pub record DeterminisationLaw (b : Automaton) : Type 0 where

@@ -8,7 +8,7 @@ use Rattle.aut_core.specs.Deterministic.{IsComplete, IsDeterministic}
 use Rattle.aut_ops.specs.Satisfiable.{is_flagged}
 use Rattle.aut_ops.specs.Pruning.{AreUseful}
 use Rattle.degeneralise.specs.Buchi.{buchi}
-use Rattle.parity_det.specs.Determinisation.{IsParityAutomatonOf}
+use Rattle.parity_det.specs.Determinisation.{IsDeterminisation}
 
 -- deterministic and complete, with one mark on each edge and 2N + 1 sets for some N above 0, and the condition parity min
 -- odd: the least set that a run is in again and again has to be odd
@@ -34,4 +34,4 @@ pub record HasFewSets (b made : Automaton) : Type 0 where
 -- The parity automaton of an automaton has all this, where N is at most the greater of 1 and the number of useful states of
 -- its Büchi form.
 abbrev pub ParityHasFewSets : Type 0
-ParityHasFewSets = (a made : Automaton) → IsParityAutomatonOf a made → IsParityMinOdd made × HasFewSets (buchi a) made
+ParityHasFewSets = (a made : Automaton) → IsDeterminisation (buchi a) made → IsParityMinOdd made × HasFewSets (buchi a) made

@@ -1,13 +1,14 @@
 //! Complements.
 
-ghost use Rattle.std.specs.Prelude.{◌≡◌, ◌+◌, ◌*◌, ◌<◌, ◌≤◌, ◌^◌, Err, IfErr, IfOk, OnOk};
+ghost use Rattle.std.specs.Prelude.{◌≡◌, ◌⊎◌, ◌+◌, ◌*◌, ◌<◌, ◌≤◌, ◌^◌, Err, IfErr, IfOk, OnOk};
 ghost use Rattle.aut_base.specs.declared.limit.TheConstants.{MOST_NODES, MOST_TREES};
 ghost use Rattle.aut_core.specs.SymbolicAutomata.{automaton_of};
 ghost use Rattle.aut_core.specs.Deterministic.{IsComplete, IsDeterministic};
 ghost use Rattle.aut_core.specs.OtherNames.{AcceptTheSame};
 ghost use Rattle.aut_ops.specs.Completion.{completed};
-ghost use Rattle.parity_det.specs.Complements.{IsComplementAutomaton, IsDeterministicForm, IsRefusal, IsWithinParity};
-ghost use Rattle.degeneralise.specs.Buchi.{NeedsTooManyTerms};
+ghost use Rattle.parity_det.specs.Complements.{IsComplementAutomaton, IsRefusal, IsWithinParity};
+ghost use Rattle.parity_det.specs.Determinisation.{IsDeterminisation};
+ghost use Rattle.degeneralise.specs.Buchi.{NeedsTooManyTerms, buchi};
 ghost use Rattle.parity_det.specs.declared.fault.CompFault.{CompFault};
 ghost use Rattle.parity_laws.specs.Complement.{AreComplementLanguages};
 
@@ -47,7 +48,8 @@ fn deterministic_form(alloc: Global, a: &Automaton) -> Result<Automaton, CompFau
     ensures accepts { IfOk result (λ made. AcceptTheSame (automaton_of made) (automaton_of a.now)) }
     ensures deterministic { IfOk result (λ made. IsDeterministic (automaton_of made)) }
     ensures complete { IfOk result (λ made. IsComplete (automaton_of made)) }
-    ensures shape { IfOk result (λ made. IsDeterministicForm (automaton_of a.now) (automaton_of made)) }
+    ensures shape { IfOk result (λ made. (IsDeterministic (automaton_of a.now) × (automaton_of made ≡ completed (automaton_of a.now)))
+        ⊎ ((IsDeterministic (automaton_of a.now) → ⊥) × IsDeterminisation (buchi (automaton_of a.now)) (automaton_of made))) }
     ensures names { IfOk result (λ made. made.names ≡ a.now.names) }
     ensures size { IfOk result (λ made. (made.states ≤ a.now.states + MOST_TREES) × (made.sets ≤ a.now.sets + (2 * MOST_NODES + 1))) }
     ensures refused { IfErr result (IsRefusal (automaton_of a.now)) }

@@ -12,7 +12,7 @@ ghost use Rattle.exploration.specs.declared.fault.Fault.{Fault};
 ghost use Rattle.label_guards.specs.Store.{Keeps};
 ghost use Rattle.letter_classes.specs.SetClasses.{FitsStore, IsClassGuard};
 ghost use Rattle.parity_det.specs.Complements.{IsParityRefusal, IsWithinParity};
-ghost use Rattle.parity_det.specs.Determinisation.{IsDeterminisation, IsParityAutomatonOf, IsTreeForm, MeetsTreeLimit, parity_on, start_tree, tree_moves};
+ghost use Rattle.parity_det.specs.Determinisation.{IsDeterminisation, IsTreeForm, MeetsTreeLimit, parity_on, start_tree, tree_moves};
 ghost use Rattle.safra_trees.specs.Same.{same_nodes};
 ghost use Rattle.parity_det.specs.Promises.{HasFewSets, IsParityMinOdd};
 ghost use Rattle.parity_det.specs.inner.Systems.{IsClassEvent, MeetsFirst};
@@ -70,7 +70,7 @@ pub fn determinise(alloc: Global, b: &Automaton) -> Result<Automaton, DetFault>
 /// where `degeneralise::to_buchi` refuses, and then as `determinise`.
 pub fn parity(alloc: Global, a: &Automaton) -> Result<Automaton, CompFault>
     ensures accepts { IfOk result (λ made. AcceptTheSame (automaton_of made) (automaton_of a.now)) }
-    ensures shape { IfOk result (λ made. IsParityAutomatonOf (automaton_of a.now) (automaton_of made)) }
+    ensures shape { IfOk result (λ made. IsDeterminisation (buchi (automaton_of a.now)) (automaton_of made)) }
     ensures parity { IfOk result (λ made. IsParityMinOdd (automaton_of made)) }
     ensures few { IfOk result (λ made. HasFewSets (buchi (automaton_of a.now)) (automaton_of made)) }
     ensures names { IfOk result (λ made. made.names ≡ a.now.names) }

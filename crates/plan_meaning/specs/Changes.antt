@@ -1,11 +1,12 @@
 -- What a plan makes of an automaton: operations, at most one form, and completion, one after the other.
-use Rattle.std.specs.Prelude.{◌≡◌, ◌⊎◌, ◌<◌, ℕ, true, List, [], ◌∷◌, ◌++◌, length, Option, Result, Ok, Err}
+use Rattle.std.specs.Prelude.{◌≡◌, ◌⊎◌, ◌<◌, ℕ, true, List, [], ◌∷◌, ◌++◌, Option, Result, Ok, Err}
 use Rattle.std.specs.Bool.{then_some}
 use Rattle.std.specs.Option.{option_map}
 use Rattle.std.specs.Result.{result_map_both}
 use Rattle.acc_forms.specs.Atoms.{has_fin}
+use Rattle.acc_forms.specs.Joined.{conj, disj}
 use Rattle.acc_forms.specs.Terms.{of_terms, terms}
-use Rattle.ap_project.specs.Hiding.{HiddenSays, hidden}
+use Rattle.ap_project.specs.Hiding.{HiddenSays, SomeWord, hidden}
 use Rattle.aut_base.specs.Acceptance.{Accepts}
 use Rattle.aut_base.specs.Automaton.{Automaton}
 use Rattle.aut_base.specs.Word.{NameSet, letter_at}
@@ -14,7 +15,7 @@ use Rattle.aut_base.specs.declared.limit.Limit.TheVariants as limit
 use Rattle.aut_core.specs.SymbolicAutomata.{SymbolicAutomaton, automaton_of}
 use Rattle.aut_core.specs.Deterministic as core
 use Rattle.aut_ops.specs.Completion.{completed}
-use Rattle.aut_ops.specs.Products.{IsUnionProductOf, IsProductOf}
+use Rattle.aut_ops.specs.Products.{IsProduct, over_both}
 use Rattle.aut_ops.specs.Sums.{summed}
 use Rattle.aut_ops.specs.Trimming.{IsTrimmed}
 use Rattle.degeneralise.specs.Buchi.{NeedsTooManyTerms, buchi}
@@ -27,7 +28,7 @@ use Rattle.filter_plan.specs.declared.plan.Plan.{Plan}
 use Rattle.fin_removal.specs.Copies.{HasTooManyTerms, without_fin}
 use Rattle.monitor_form.specs.Subsets.{IsMonitorAutomaton, MeetsLimit}
 use Rattle.parity_det.specs.Complements.{IsComplementAutomaton}
-use Rattle.parity_det.specs.Determinisation.{IsParityAutomatonOf}
+use Rattle.parity_det.specs.Determinisation.{IsDeterminisation}
 use Rattle.plan_meaning.specs.Limits.{HaveManyNames, PassesBuchi, PassesOfBoth, PassesOfEither, PassesParityLimit, PassesUnlessDeterministic, limits_of_parity, limits_of_product}
 use Rattle.plan_meaning.specs.Operands.{operand_at, place_of_product, place_of_product_or, place_of_sum}
 use Rattle.plan_meaning.specs.Standing.{those_standing}
@@ -49,8 +50,8 @@ pub data Change : Type 0 where
 
 abbrev pub IsMadeInForm : Form → Automaton → Automaton → Type 0
 IsMadeInForm form.AsIs a made = ⊥
-IsMadeInForm form.Deterministic a made = (core.IsDeterministic a × (made ≡ a)) ⊎ ((core.IsDeterministic a → ⊥) × IsParityAutomatonOf a made)
-IsMadeInForm form.Parity a made = IsParityAutomatonOf a made
+IsMadeInForm form.Deterministic a made = (core.IsDeterministic a × (made ≡ a)) ⊎ ((core.IsDeterministic a → ⊥) × IsDeterminisation (buchi a) made)
+IsMadeInForm form.Parity a made = IsDeterminisation (buchi a) made
 IsMadeInForm form.Buchi a made = made ≡ buchi a
 IsMadeInForm form.RemoveFin a made = made ≡ without_fin a
 IsMadeInForm form.Dnf a made = made ≡ record a { formula = of_terms (terms a.formula) }
@@ -58,8 +59,8 @@ IsMadeInForm form.Monitor a made = IsMonitorAutomaton a made
 
 -- what the change makes of an automaton, exactly
 abbrev pub Makes : Change → Automaton → Automaton → Type 0
-Makes (Product b) a made = IsProductOf a b made
-Makes (ProductOr b) a made = IsUnionProductOf a b made
+Makes (Product b) a made = IsProduct conj (over_both a b a) (over_both a b b) made
+Makes (ProductOr b) a made = IsProduct disj (over_both a b (completed a)) (over_both a b (completed b)) made
 Makes (Sum b) a made = made ≡ summed a b
 Makes (RemoveAp h) a made = made ≡ hidden h.how h.name a
 Makes Trim a made = IsTrimmed a made
@@ -161,14 +162,6 @@ ChangedTo result cs a = Changed (result_map_both automaton_of (λ fault. fault) 
 abbrev pub Language : Type 1
 Language = List NameSet → List NameSet → Type 0
 
--- some lasso word of the language has the same first n letters
-pub record SomePrefix (says : List NameSet → List NameSet → Type 0) (u v : List NameSet) (n : ℕ) : Type 0 where
-  pub stem : List NameSet
-  pub cycle : List NameSet
-  pub some : 0 < length cycle
-  pub said : says stem cycle
-  pub same : (k : ℕ) → k < n → letter_at stem cycle k ≡ letter_at u v k
-
 -- what a form makes of a language: a monitor its safety closure, the words each of whose prefixes is a prefix of some word
 -- of it, and any other form the language itself
 abbrev pub said_in_form : Form → Language → Language
@@ -178,7 +171,7 @@ said_in_form form.Parity says u v = says u v
 said_in_form form.Buchi says u v = says u v
 said_in_form form.RemoveFin says u v = says u v
 said_in_form form.Dnf says u v = says u v
-said_in_form form.Monitor says u v = (n : ℕ) → SomePrefix says u v n
+said_in_form form.Monitor says u v = (n : ℕ) → SomeWord says (λ x y. (k : ℕ) → k < n → letter_at x y k ≡ letter_at u v k)
 
 -- what a change makes of a language: the intersection with that of the operand, the union with it, the language with a name
 -- hidden, its complement, what the form makes of it, or the language itself

@@ -1,20 +1,16 @@
 -- Accepting runs over lasso words, with the indices of their edges, and unambiguous automata.
 use Rattle.std.specs.Prelude.{◌≡◌, ℕ, List, map, Some, slice_get}
 use Rattle.aut_base.specs.Acceptance.{Accepts}
-use Rattle.aut_base.specs.Automaton.{LabelledEdge, Automaton}
+use Rattle.aut_base.specs.Automaton.{Automaton}
 use Rattle.aut_base.specs.Word.{NameSet, nth}
-
--- the edges at these indices of the automaton's list are these
-abbrev pub StandAt : Automaton → List ℕ → List LabelledEdge → Type 0
-StandAt a indices edges = map (slice_get a.edges) indices ≡ map Some edges
 
 -- a way in which the automaton accepts the word, with the indices of its edges in the automaton's list
 pub record AcceptingRun (a : Automaton) (u v : List NameSet) : Type 0 where
   pub accepted : Accepts a u v
   pub path_edges : List ℕ
   pub cycle : List ℕ
-  pub path_at : StandAt a path_edges accepted.path_edges
-  pub cycle_at : StandAt a cycle accepted.cycle
+  pub path_at : map (slice_get a.edges) path_edges ≡ map Some accepted.path_edges
+  pub cycle_at : map (slice_get a.edges) cycle ≡ map Some accepted.cycle
 
 -- Two accepting runs over one lasso word take the same edges. Edges are told apart by their index: an edge that is listed
 -- twice counts as two.

@@ -16,7 +16,7 @@ use Rattle.label_guards.specs.Guards.{IsGuardOf, IsNeverMet, truth_in}
 use Rattle.label_guards.specs.Store.{Store, label_in}
 use Rattle.label_guards.specs.declared.guard.Guard.{Guard}
 use Rattle.aut_ops.specs.Labels.{both_labels, is_never}
-use Rattle.aut_ops.specs.inner.Parts.{no_label}
+use Rattle.aut_ops.specs.Completion.{missing_label}
 
 -- the truth of labels
 
@@ -35,7 +35,7 @@ any_on n holds (e ∷ es) below =
     ap (λ b. b || list_any (λ (d : LabelledEdge). truth_on d.label (valuation_of n holds)) es) (on_valuation n holds e.label (below 0 e (omega arith)))
     ∙ ap (λ b. truth holds e.label || b) (any_on n holds es (λ k d within. below (suc k) d (omega (arith, within))))
 
-pub truth_none : (n : ℕ) (holds : ℕ → Bool) (es : List LabelledEdge) → All (λ e. AllBelow n e.label) es → truth holds (no_label n es) ≡ not (list_any (λ e. truth holds e.label) es)
+pub truth_none : (n : ℕ) (holds : ℕ → Bool) (es : List LabelledEdge) → All (λ e. AllBelow n e.label) es → truth holds (missing_label n es) ≡ not (list_any (λ e. truth holds e.label) es)
 truth_none n holds es below = truth-label_of holds n (λ v. not (list_any (λ (e : LabelledEdge). truth_on e.label v) es)) ∙ ap not (any_on n holds es below)
 
 -- unsatisfiable labels

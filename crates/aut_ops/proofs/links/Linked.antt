@@ -18,7 +18,7 @@ use Rattle.label_guards.specs.Guards.{IsGuardOf, truth_in}
 use Rattle.label_guards.specs.Store.{Has, Keeps, Store, label_in}
 use Rattle.label_guards.specs.declared.guard.Guard.{Guard}
 use Rattle.aut_ops.proofs.links.Labels.{label_from}
-use Rattle.aut_ops.specs.inner.Parts.{no_label}
+use Rattle.aut_ops.specs.Completion.{missing_label}
 
 -- whether the label of one of the edges is true
 abbrev pub some_met : List LabelledEdge → (ℕ → Bool) → Bool
@@ -41,11 +41,11 @@ met_more old s t row i x met next within at has keeps so_far is =
 
 -- the guard that is true where none of them is
 pub none_met : (old s t : Store) (row : List Link) (i : ℕ) (met none : Guard) → length row ≤ i → s.names ≡ old.names → t.names ≡ s.names
-    → IsGuardOf s (some_met (map (edge_of old) (take i row))) met → IsGuardOf t (λ on. not (truth_in s met on)) none → label_in t none ≡ no_label old.names (map (edge_of old) row)
+    → IsGuardOf s (some_met (map (edge_of old) (take i row))) met → IsGuardOf t (λ on. not (truth_in s met on)) none → label_in t none ≡ missing_label old.names (map (edge_of old) row)
 none_met old s t row i met none end names more so_far is =
     label_from t none (λ on. not (truth_in s met on)) (λ v. not (list_any (λ (e : LabelledEdge). truth_on e.label v) (map (edge_of old) row))) is
     (λ v long. ap not (so_far.truth (holds_in v) ∙ ap (λ ls. some_met (map (edge_of old) ls) (holds_in v)) (take_all i row end)))
-    ∙ ap (λ n. no_label n (map (edge_of old) row)) (more ∙ names)
+    ∙ ap (λ n. missing_label n (map (edge_of old) row)) (more ∙ names)
 
 -- the parts of a well-formed automaton fit together
 pub parts_for : (c : SymbolicAutomaton) (x : Automaton) → automaton_of c ≡ x → IsWellFormed x → length x.names ≤ MOST_NAMES → c.store.names ≡ length x.names

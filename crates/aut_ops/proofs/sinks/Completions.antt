@@ -16,8 +16,8 @@ use Rattle.aut_base.specs.Valuation.{truth_on}
 use Rattle.aut_core.specs.Surveys.{edges_from}
 use Rattle.acc_forms.proofs.FormulaSets.{sets_conj, sets_weaker}
 use Rattle.aut_ops.proofs.sinks.Rows.{other_row, own_row, row_of, rows_before}
-use Rattle.aut_ops.specs.Completion.{is_met_unmarked, with_sink}
-use Rattle.aut_ops.specs.inner.Parts.{filled_edges, row_gap, sink_marks, no_label}
+use Rattle.aut_ops.specs.Completion.{is_met_unmarked, with_sink, gap_edges, missing_label}
+use Rattle.aut_ops.specs.inner.Parts.{filled_edges, sink_marks}
 use Rattle.aut_ops.specs.Labels.{is_never}
 
 -- the sink's loop, and the edge to the sink
@@ -25,20 +25,20 @@ abbrev pub loop : Automaton → LabelledEdge
 loop a = record { from = a.states; label = True; to = a.states; marks = sink_marks a }
 
 abbrev pub gap : Automaton → ℕ → LabelledEdge
-gap a q = record { from = q; label = no_label (length a.names) (edges_from q a.edges); to = a.states; marks = [] }
+gap a q = record { from = q; label = missing_label (length a.names) (edges_from q a.edges); to = a.states; marks = [] }
 
 -- the edges of each state
 
 pub edges_own : (q : ℕ) (es : List LabelledEdge) → AllFrom q (edges_from q es)
 edges_own q es = each_there (λ (e : LabelledEdge). e.from ≡ q) (edges_from q es) (λ e there. eqb-true e.from q (from_filter (λ (d : LabelledEdge). d.from == q) es e there).1)
 
-gaps_own : (n q sink : ℕ) (es : List LabelledEdge) (b : Bool) → AllFrom q (cond b [] (record { from = q; label = no_label n es; to = sink; marks = [] } ∷ []))
+gaps_own : (n q sink : ℕ) (es : List LabelledEdge) (b : Bool) → AllFrom q (cond b [] (record { from = q; label = missing_label n es; to = sink; marks = [] } ∷ []))
 gaps_own n q sink es true = λ k d within. absurd (omega (arith, within))
-gaps_own n q sink es false = All-from_recursion (λ (e : LabelledEdge). e.from ≡ q) (record { from = q; label = no_label n es; to = sink; marks = [] } ∷ []) (refl, tt)
+gaps_own n q sink es false = All-from_recursion (λ (e : LabelledEdge). e.from ≡ q) (record { from = q; label = missing_label n es; to = sink; marks = [] } ∷ []) (refl, tt)
 
 pub filled_own : (a : Automaton) (q : ℕ) → AllFrom q (filled_edges a q)
-filled_own a q = All-append (λ (e : LabelledEdge). e.from ≡ q) (edges_from q a.edges) (row_gap (length a.names) q a.states (edges_from q a.edges)) (edges_own q a.edges)
-    (gaps_own (length a.names) q a.states (edges_from q a.edges) (is_never (length a.names) (no_label (length a.names) (edges_from q a.edges))))
+filled_own a q = All-append (λ (e : LabelledEdge). e.from ≡ q) (edges_from q a.edges) (gap_edges (length a.names) q a.states (edges_from q a.edges)) (edges_own q a.edges)
+    (gaps_own (length a.names) q a.states (edges_from q a.edges) (is_never (length a.names) (missing_label (length a.names) (edges_from q a.edges))))
 
 loop_own : (a : Automaton) → AllFrom a.states (loop a ∷ [])
 loop_own a = All-from_recursion (λ (e : LabelledEdge). e.from ≡ a.states) (loop a ∷ []) (refl, tt)
@@ -61,17 +61,17 @@ old_there a formed e there =
     let edge = All-contains (IsEdgeOf a) a.edges e formed.edges there in
     Contains-append_left (flat_map (filled_edges a) (range_with_len 0 a.states)) (loop a ∷ []) e
     (there_flat_map (filled_edges a) (range_with_len 0 a.states) e.from e (there_range_zero a.states e.from edge.from)
-    (Contains-append_left (edges_from e.from a.edges) (row_gap (length a.names) e.from a.states (edges_from e.from a.edges)) e
+    (Contains-append_left (edges_from e.from a.edges) (gap_edges (length a.names) e.from a.states (edges_from e.from a.edges)) e
     (there_filter (λ (d : LabelledEdge). d.from == e.from) a.edges e there (eq-eqb e.from e.from refl))))
 
 pub loop_there : (a : Automaton) → Contains (with_sink a).edges (loop a)
 loop_there a = Contains-append_right (flat_map (filled_edges a) (range_with_len 0 a.states)) (loop a ∷ []) (loop a) (first_there (loop a) [])
 
-pub gap_there : (a : Automaton) (q : ℕ) → q < a.states → is_never (length a.names) (no_label (length a.names) (edges_from q a.edges)) ≡ false → Contains (with_sink a).edges (gap a q)
+pub gap_there : (a : Automaton) (q : ℕ) → q < a.states → is_never (length a.names) (missing_label (length a.names) (edges_from q a.edges)) ≡ false → Contains (with_sink a).edges (gap a q)
 gap_there a q less some =
     Contains-append_left (flat_map (filled_edges a) (range_with_len 0 a.states)) (loop a ∷ []) (gap a q)
     (there_flat_map (filled_edges a) (range_with_len 0 a.states) q (gap a q) (there_range_zero a.states q less)
-    (Contains-append_right (edges_from q a.edges) (row_gap (length a.names) q a.states (edges_from q a.edges)) (gap a q)
+    (Contains-append_right (edges_from q a.edges) (gap_edges (length a.names) q a.states (edges_from q a.edges)) (gap a q)
     (subst (λ b. Contains (cond b [] (gap a q ∷ [])) (gap a q)) (sym some) (first_there (gap a q) []))))
 
 -- an edge of the automaton, one to the sink, or the sink's loop
@@ -85,9 +85,9 @@ gap_is a q e false there = elim (there_cases (gap a q) [] e there) [ inl is ↦ 
 pub kind : (a : Automaton) (e : LabelledEdge) → Contains (with_sink a).edges e → Kind a e
 kind a e there = elim (Contains-append_cases (flat_map (filled_edges a) (range_with_len 0 a.states)) (loop a ∷ []) e there) [
   | inl outside ↦ (let row = from_flat_map (filled_edges a) (range_with_len 0 a.states) e outside in
-      elim (Contains-append_cases (edges_from row.0 a.edges) (row_gap (length a.names) row.0 a.states (edges_from row.0 a.edges)) e row.2) [
+      elim (Contains-append_cases (edges_from row.0 a.edges) (gap_edges (length a.names) row.0 a.states (edges_from row.0 a.edges)) e row.2) [
         | inl old ↦ inl (from_filter (λ (d : LabelledEdge). d.from == row.0) a.edges e old).0
-        | inr new ↦ inr (inl (row.0, omega (arith, from_range 0 a.states row.0 row.1), gap_is a row.0 e (is_never (length a.names) (no_label (length a.names) (edges_from row.0 a.edges))) new))
+        | inr new ↦ inr (inl (row.0, omega (arith, from_range 0 a.states row.0 row.1), gap_is a row.0 e (is_never (length a.names) (missing_label (length a.names) (edges_from row.0 a.edges))) new))
       ])
   | inr last ↦ inr (inr (elim (there_cases (loop a) [] e last) [ inl is ↦ is | inr later ↦ absurd (none_there e later) ]))
 ]

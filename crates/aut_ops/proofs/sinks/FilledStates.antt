@@ -18,12 +18,13 @@ use Rattle.label_guards.specs.Store.{Has, Keeps, Store, label_in}
 use Rattle.label_guards.specs.declared.guard.Guard.{Guard}
 use Rattle.aut_ops.proofs.links.Labels.{label_always, never_is}
 use Rattle.aut_base.proofs.order.Ordered.{filter_map_of}
-use Rattle.aut_ops.specs.Completion.{with_sink}
-use Rattle.aut_ops.specs.inner.Parts.{filled_edges, row_gap, sink_marks, no_label}
+use Rattle.aut_ops.specs.Completion.{with_sink, gap_edges, missing_label}
+use Rattle.aut_ops.specs.inner.Parts.{filled_edges, sink_marks}
 use Rattle.aut_ops.specs.Labels.{is_never}
 
 -- whether there are letters that meet no edge, by the guard of these letters
-pub gap_is : (t : Store) (gap : Guard) (n : ℕ) (es : List LabelledEdge) (b : Bool) → (IsTrue b ↔ IsNeverMet t gap) → t.names ≡ n → label_in t gap ≡ no_label n es → is_never n (no_label n es) ≡ b
+pub gap_is : (t : Store) (gap : Guard) (n : ℕ) (es : List LabelledEdge) (b : Bool) → (IsTrue b ↔ IsNeverMet t gap) → t.names ≡ n → label_in t gap ≡ missing_label n es
+    → is_never n (missing_label n es) ≡ b
 gap_is t gap n es b is names label = sym (never_is t gap b is ∙ (ap (λ m. is_never m (label_in t gap)) names ∙ ap (is_never n) label))
 
 pub both_rows : (s t : Store) (links row new : List Link) → Keeps s t → All (λ l. Has s l.guard) links → All (λ l. Has s l.guard) row → new ≡ links ++ row
@@ -32,18 +33,18 @@ both_rows s t links row new keeps first second is =
     stand_append t links row new (map (edge_of s) links) (map (edge_of s) row) (stand_kept s t links (map (edge_of s) links) keeps (stand_itself s links first))
     (stand_kept s t row (map (edge_of s) row) keeps (stand_itself s row second)) is
 
-pub without_gap : (t : Store) (new : List Link) (n state sink : ℕ) (before es : List LabelledEdge) → is_never n (no_label n es) ≡ true → StandFor t new (before ++ es)
-    → StandFor t new (before ++ (es ++ row_gap n state sink es))
+pub without_gap : (t : Store) (new : List Link) (n state sink : ℕ) (before es : List LabelledEdge) → is_never n (missing_label n es) ≡ true → StandFor t new (before ++ es)
+    → StandFor t new (before ++ (es ++ gap_edges n state sink es))
 without_gap t new n state sink before es never so_far =
-    let none : row_gap n state sink es ≡ [] = ap (λ (b : Bool). cond b [] (record { from = state; label = no_label n es; to = sink; marks = [] } ∷ [])) never in
+    let none : gap_edges n state sink es ≡ [] = ap (λ (b : Bool). cond b [] (record { from = state; label = missing_label n es; to = sink; marks = [] } ∷ [])) never in
     subst (StandFor t new) (ap (λ fs. before ++ fs) (sym (append-nil es) ∙ ap (λ fs. es ++ fs) (sym none))) so_far
 
-pub with_gap : (t : Store) (links new : List Link) (gap : Guard) (n state sink : ℕ) (marks : List ℕ) (before es : List LabelledEdge) → is_never n (no_label n es) ≡ false
-    → StandFor t links (before ++ es) → Has t gap → label_in t gap ≡ no_label n es → marks ≡ [] → new ≡ links ++ record { from = state; guard = gap; to = sink; marks = marks } ∷ []
-    → StandFor t new (before ++ (es ++ row_gap n state sink es))
+pub with_gap : (t : Store) (links new : List Link) (gap : Guard) (n state sink : ℕ) (marks : List ℕ) (before es : List LabelledEdge) → is_never n (missing_label n es) ≡ false
+    → StandFor t links (before ++ es) → Has t gap → label_in t gap ≡ missing_label n es → marks ≡ [] → new ≡ links ++ record { from = state; guard = gap; to = sink; marks = marks } ∷ []
+    → StandFor t new (before ++ (es ++ gap_edges n state sink es))
 with_gap t links new gap n state sink marks before es some so_far has label unmarked pushed =
-    let edge : LabelledEdge = record { from = state; label = no_label n es; to = sink; marks = [] } in
-    let one : row_gap n state sink es ≡ edge ∷ [] = ap (λ (b : Bool). cond b [] (edge ∷ [])) some in
+    let edge : LabelledEdge = record { from = state; label = missing_label n es; to = sink; marks = [] } in
+    let one : gap_edges n state sink es ≡ edge ∷ [] = ap (λ (b : Bool). cond b [] (edge ∷ [])) some in
     let e : edge_of t (record { from = state; guard = gap; to = sink; marks = marks }) ≡ edge = λ i. record { from = state; label = label i; to = sink; marks = unmarked i } in
     subst (StandFor t new) (append_assoc before es (edge ∷ []) ∙ ap (λ fs. before ++ (es ++ fs)) (sym one))
     (stand_push t links new (record { from = state; guard = gap; to = sink; marks = marks }) (before ++ es) edge so_far has e pushed)
@@ -66,13 +67,13 @@ row_edges a s q row core keeps is =
 -- another state
 pub state_more : (a : SymbolicAutomaton) (s t : Store) (links new row : List Link) (q sink : ℕ) → sink ≡ a.states → IsWellFormedSymbolic a → Keeps a.store s → row ≡ filter (λ l. l.from == q) a.links
     → StandFor s links (flat_map (filled_edges (automaton_of a)) (range_with_len 0 q))
-    → StandFor t new (map (edge_of s) links ++ (map (edge_of s) row ++ row_gap s.names q sink (map (edge_of s) row)))
+    → StandFor t new (map (edge_of s) links ++ (map (edge_of s) row ++ gap_edges s.names q sink (map (edge_of s) row)))
     → StandFor t new (flat_map (filled_edges (automaton_of a)) (range_with_len 0 (q + 1)))
 state_more a s t links new row q sink at core keeps is so_far filled =
     let names : s.names ≡ length a.names = keeps.names ∙ core.parts.store_names in
     let es : map (edge_of s) row ≡ edges_from q (automaton_of a).edges = row_edges a s q row core keeps is in
-    let whole : map (edge_of s) row ++ row_gap s.names q sink (map (edge_of s) row) ≡ filled_edges (automaton_of a) q = λ i. es i ++ row_gap (names i) q (at i) (es i) in
-    subst (StandFor t new) (ap (λ fs. fs ++ (map (edge_of s) row ++ row_gap s.names q sink (map (edge_of s) row))) so_far.edges
+    let whole : map (edge_of s) row ++ gap_edges s.names q sink (map (edge_of s) row) ≡ filled_edges (automaton_of a) q = λ i. es i ++ gap_edges (names i) q (at i) (es i) in
+    subst (StandFor t new) (ap (λ fs. fs ++ (map (edge_of s) row ++ gap_edges s.names q sink (map (edge_of s) row))) so_far.edges
     ∙ (ap (λ fs. flat_map (filled_edges (automaton_of a)) (range_with_len 0 q) ++ fs) whole ∙ sym (flat_map-range_more (filled_edges (automaton_of a)) q))) filled
 
 -- the parts of an automaton with a sink

@@ -22,9 +22,8 @@ use Rattle.aut_core.specs.Surveys.{AreAllApart, edges_from}
 use Rattle.aut_ops.proofs.sinks.Completions.{edges_own, gap, gap_there, loop, loop_there, old_there, sink_row, state_row, with_sink_formed}
 use Rattle.aut_ops.proofs.links.Labels.{at_letter, never_each, never_false, not_never, truth_none}
 use Rattle.aut_ops.proofs.sinks.SinkRuns.{sink_keeps_language}
-use Rattle.aut_ops.specs.Completion.{completed, lacks_nothing, with_sink}
+use Rattle.aut_ops.specs.Completion.{completed, lacks_nothing, with_sink, missing_label}
 use Rattle.aut_ops.specs.Labels.{is_never}
-use Rattle.aut_ops.specs.inner.Parts.{no_label}
 
 module _ (a : Automaton) (formed : IsWellFormed a) where
   abbrev n : ℕ
@@ -36,7 +35,7 @@ module _ (a : Automaton) (formed : IsWellFormed a) where
   row_below : (q : ℕ) → All (λ e. AllBelow n e.label) (row q)
   row_below q = All-filter (λ (e : LabelledEdge). e.from == q) (λ e. AllBelow n e.label) a.edges (labels_below a formed)
 
-  gap_below : (q : ℕ) → AllBelow n (no_label n (row q))
+  gap_below : (q : ℕ) → AllBelow n (missing_label n (row q))
   gap_below q = label_of_below n (λ v. not (list_any (λ (e : LabelledEdge). truth_on e.label v) (row q)))
 
   gap_truth : (q : ℕ) (letter : NameSet) → is_met a.names letter (gap a q) ≡ not (list_any (is_met a.names letter) (row q))
@@ -65,7 +64,7 @@ module _ (a : Automaton) (formed : IsWellFormed a) where
           record { edge = on.edge; is_edge = old_there a formed on.edge on.is_edge; from = on.from; meets = on.meets }
       by_cases (inr none) =
           let holds : is_met a.names letter (gap a q) ≡ true = gap_truth q letter ∙ ap not none in
-          record { edge = gap a q; is_edge = gap_there a q less (not_never n (holds_at a.names letter) (no_label n (row q)) (gap_below q) holds); from = refl; meets = holds }
+          record { edge = gap a q; is_edge = gap_there a q less (not_never n (holds_at a.names letter) (missing_label n (row q)) (gap_below q) holds); from = refl; meets = holds }
 
   some_start : (b : Bool) → (length a.starts == 0) ≡ b → 0 < length (cond b (a.states ∷ []) a.starts)
   some_start true e = omega arith
@@ -84,22 +83,22 @@ module _ (a : Automaton) (formed : IsWellFormed a) where
 
   complete_lacks_nothing : IsComplete a → lacks_nothing a ≡ true
   complete_lacks_nothing is = and_from (not (length a.starts == 0)) _ (ap not (ne_eqb (length a.starts) 0 (λ e. absurd (omega (arith, is.start, e)))))
-      (each_from (λ q. is_never n (no_label n (row q))) (range_with_len 0 a.states) (λ q there.
-      never_each n (no_label n (row q)) (λ v long.
-      sym (at_letter a.names (no_label n (row q)) v formed.names_differ (gap_below q) long)
+      (each_from (λ q. is_never n (missing_label n (row q))) (range_with_len 0 a.states) (λ q there.
+      never_each n (missing_label n (row q)) (λ v long.
+      sym (at_letter a.names (missing_label n (row q)) v formed.names_differ (gap_below q) long)
       ∙ (gap_truth q (letter_of a.names v) ∙ ap not (row_met q (letter_of a.names v) (is.edges q (omega (arith, from_range 0 a.states q there)) (letter_of a.names v)))))))
 
   lacking_nothing_complete : lacks_nothing a ≡ true → IsComplete a
   lacking_nothing_complete all =
-      let parts = and_parts (not (length a.starts == 0)) (list_all (λ q. is_never n (no_label n (row q))) (range_with_len 0 a.states)) all in
+      let parts = and_parts (not (length a.starts == 0)) (list_all (λ q. is_never n (missing_label n (row q))) (range_with_len 0 a.states)) all in
       record {
         start = elim (cases_Bool (length a.starts == 0)) [
           | inl none ↦ absurd (false≢true (sym (ap not none) ∙ parts.0))
           | inr some ↦ omega (arith, eqb-false (length a.starts) 0 some)
         ];
         edges = λ q less letter.
-            let never = each_is (λ p. is_never n (no_label n (row p))) (range_with_len 0 a.states) q parts.1 (there_range_zero a.states q less) in
-            let fails = never_false n (holds_at a.names letter) (no_label n (row q)) (gap_below q) never in
+            let never = each_is (λ p. is_never n (missing_label n (row p))) (range_with_len 0 a.states) q parts.1 (there_range_zero a.states q less) in
+            let fails = never_false n (holds_at a.names letter) (missing_label n (row q)) (gap_below q) never in
             met_by_row q letter (true_from_not (list_any (is_met a.names letter) (row q)) (sym fails ∙ gap_truth q letter));
       }
 
@@ -115,7 +114,7 @@ module _ (a : Automaton) (formed : IsWellFormed a) where
 
   state_apart : IsDeterministic a → (q : ℕ) → q < (with_sink a).states → AreAllApart a.names (edges_from q (with_sink a).edges)
   state_apart is q less = elim (cases_lt q a.states) [
-    | inl inside ↦ subst (AllPairs (AreApart a.names)) (sym (state_row a q inside)) (filled_apart q (row_apart is q) (is_never n (no_label n (row q))))
+    | inl inside ↦ subst (AllPairs (AreApart a.names)) (sym (state_row a q inside)) (filled_apart q (row_apart is q) (is_never n (missing_label n (row q))))
     | inr past ↦ (let same : a.states ≡ q = omega (arith, less, past) in
         subst (λ p. AllPairs (AreApart a.names) (edges_from p (with_sink a).edges)) same (subst (AllPairs (AreApart a.names)) (sym (sink_row a)) (apart_alone a.names (loop a))))
   ]

@@ -1,13 +1,8 @@
 -- Parts of the public definitions, under names that contracts of inner functions and proofs use.
-use Rattle.std.specs.Prelude.{ℕ, ◌&&◌, Bool, not, if◌then◌else◌, List, [], ◌∷◌, ◌++◌, flat_map, fold, map}
-use Rattle.std.specs.List.{list_any}
+use Rattle.std.specs.Prelude.{ℕ, ◌&&◌, Bool, if◌then◌else◌, List, [], ◌∷◌, ◌++◌, flat_map, fold, length, map}
 use Rattle.aut_base.specs.Automaton.{Automaton, LabelledEdge}
-use Rattle.aut_base.specs.CanonicalLabel.{label_of_truth}
-use Rattle.aut_base.specs.Label.{LabelTree}
-use Rattle.aut_base.specs.Valuation.{truth_on}
 use Rattle.aut_core.specs.Surveys.{edges_from}
 use Rattle.aut_ops.specs.Completion.{gap_edges, is_met_unmarked}
-use Rattle.aut_ops.specs.Labels.{is_never}
 use Rattle.aut_ops.specs.Satisfiable.{is_flagged, is_satisfiable}
 use Rattle.aut_ops.specs.Trimming.{flagged_before}
 use Rattle.exploration.specs.Turns.{with_new}
@@ -16,18 +11,9 @@ use Rattle.exploration.specs.Turns.{with_new}
 abbrev pub once : {X : Type 0} → (X → X → Bool) → List X → List X
 once same xs = fold (with_new same) [] xs
 
--- the label that is true where that of no edge is
-abbrev pub no_label : ℕ → List LabelledEdge → LabelTree
-no_label n es = label_of_truth n (λ v. not (list_any (λ e. truth_on e.label v) es))
-
--- an unmarked edge from the state to the sink for the letters that meet none of these edges, if there are any
-abbrev pub row_gap : ℕ → ℕ → ℕ → List LabelledEdge → List LabelledEdge
-row_gap names state sink es =
-    if is_never names (no_label names es) then [] else record { from = state; label = no_label names es; to = sink; marks = [] } ∷ []
-
 -- the edges of a state, and after them the one to the sink
 abbrev pub filled_edges : Automaton → ℕ → List LabelledEdge
-filled_edges a state = edges_from state a.edges ++ gap_edges a state
+filled_edges a state = edges_from state a.edges ++ gap_edges (length a.names) state a.states (edges_from state a.edges)
 
 -- the marks of the sink's loop: the fresh set, which no other edge is in, where there is one
 abbrev pub sink_marks : Automaton → List ℕ

@@ -23,10 +23,9 @@ use Rattle.monitor_form.specs.Subsets.{IsSubsetForm, start_set, subset_rules}
 use Rattle.monitor_form.proofs.Explored.{IsExploredFrom, explored_by}
 use Rattle.parity_det.proofs.DualSets.{dual_below}
 use Rattle.parity_det.proofs.Formed.{explored_trees}
-use Rattle.parity_det.proofs.ParityLaws.{form_accepts, form_parity, pruned_formula, same_through}
+use Rattle.parity_det.proofs.ParityLaws.{IsDeterministicForm, form_accepts, form_parity, pruned_formula, same_through}
 use Rattle.parity_det.proofs.Widths.{few_nodes}
-use Rattle.parity_det.specs.Complements.{IsDeterministicForm, by_completion, by_determinisation}
-use Rattle.parity_det.specs.Determinisation.{IsParityAutomatonOf, start_tree, tree_rules}
+use Rattle.parity_det.specs.Determinisation.{IsDeterminisation, start_tree, tree_rules}
 use Rattle.parity_det.specs.Promises.{IsParityMinOdd}
 use Rattle.parity_laws.proofs.complements.Dual.{complements_of_the_same, dual_is_complement}
 use Rattle.parity_laws.specs.Complement.{AreComplementLanguages, dualised}
@@ -78,7 +77,7 @@ record IsParityForm (a made : Automaton) : Type 0 where
   states : made.states ≤ MOST_TREES
   sets : made.sets ≤ 2 * MOST_NODES + 1
 
-parity_form : (a made : Automaton) → IsWellFormed a → IsParityAutomatonOf a made → IsParityForm a made
+parity_form : (a made : Automaton) → IsWellFormed a → IsDeterminisation (buchi a) made → IsParityForm a made
 parity_form a made formed m =
     let l = left_of a m.0 formed m.1 in
     let form = m.2 in
@@ -122,13 +121,13 @@ record IsSized (a made : Automaton) : Type 0 where
   sets : made.sets ≤ a.sets + (2 * MOST_NODES + 1)
 
 sized_form : (a made : Automaton) → IsWellFormed a → IsDeterministicForm a made → IsSized a made
-sized_form a made formed (by_completion is e) = subst (IsSized a) (sym e) (record {
-  form = completed_form a formed is;
+sized_form a made formed (inl is) = subst (IsSized a) (sym is.1) (record {
+  form = completed_form a formed is.0;
   states = omega (arith, completed_states a);
   sets = omega (arith, completed_sets a);
 })
-sized_form a made formed (by_determinisation other m) =
-    let p = parity_form a made formed m in
+sized_form a made formed (inr is) =
+    let p = parity_form a made formed is.1 in
     record { form = p.form; states = omega (arith, p.states); sets = omega (arith, p.sets) }
 
 dual_formed : (a : Automaton) → IsWellFormed a → IsWellFormed (dualised a)

@@ -5,12 +5,13 @@ use Rattle.aut_base.specs.Automaton.{Automaton, LabelledEdge}
 use Rattle.aut_core.specs.SymbolicAutomata.{SymbolicAutomaton, automaton_of}
 use Rattle.exploration.specs.Turns.{Comes, LimitMet, begin}
 use Rattle.exploration.specs.declared.fault.Fault.{Fault}
+use Rattle.letter_classes.specs.SetClasses.{set_classes}
 use Rattle.letter_classes.specs.Taken.{taken_of}
-use Rattle.parity_det.specs.Determinisation.{class_moves, start_tree, tree_classes, tree_rules}
+use Rattle.parity_det.specs.Determinisation.{class_moves, start_tree, tree_rules}
 use Rattle.parity_laws.specs.Buchi.{move_of}
 use Rattle.safra_laws.specs.Priorities.{priority_by}
 use Rattle.safra_trees.specs.Events.{event_of}
-use Rattle.safra_trees.specs.Trees.{Node}
+use Rattle.safra_trees.specs.Trees.{Node, root_states}
 use Rattle.safra_trees.specs.declared.event.Event.{Event}
 use Rattle.safra_trees.specs.declared.moves.Move.{Move}
 
@@ -20,7 +21,7 @@ moves_of = taken_of move_of
 
 -- the event is that of the step for the class of this number
 abbrev pub IsClassEvent : SymbolicAutomaton → List Node → ℕ → Event → Type 0
-IsClassEvent c t k event = (v : List Bool) → slice_get (tree_classes (automaton_of c) t) k ≡ Some v → event ≡ event_of c.states (class_moves (automaton_of c) t v) t
+IsClassEvent c t k event = (v : List Bool) → slice_get (set_classes (automaton_of c) (root_states t)) k ≡ Some v → event ≡ event_of c.states (class_moves (automaton_of c) t v) t
 
 -- the mark of a step with this event, where trees have at most `most` nodes
 abbrev pub mark_of : ℕ → Event → ℕ

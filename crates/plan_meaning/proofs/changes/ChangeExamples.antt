@@ -5,8 +5,8 @@ use Rattle.std.specs.FinSet as set
 use Rattle.std.proofs.lemmas.Bool.{false≢true}
 use Rattle.std.proofs.lemmas.Cmp.{nat_list_cmp_total}
 use Rattle.std.proofs.lemmas.Option.{none-some, same_Some}
-use Rattle.ap_project.proofs.Letters.{but_including}
-use Rattle.ap_project.specs.Hiding.{AgreeOff, SameBut}
+use Rattle.ap_project.proofs.Letters.{SameBut, but_including}
+use Rattle.ap_project.specs.Hiding.{AgreeOff, SomeWord}
 use Rattle.aut_base.proofs.runs.Examples.{on_a, worked_examples}
 use Rattle.aut_base.proofs.runs.OneState.{marks_if, one_state_accepts}
 use Rattle.aut_base.proofs.words.Turns.{covers, letter_in}
@@ -15,7 +15,6 @@ use Rattle.aut_base.specs.Examples.{again, name_a, off, on}
 use Rattle.aut_base.specs.Formula.{FormulaTree, met}
 use Rattle.aut_base.specs.Word.{NameSet, copies, letter_at}
 use Rattle.plan_meaning.specs.ChangeExamples.{ChangeExamples}
-use Rattle.plan_meaning.specs.Changes.{SomePrefix}
 
 neither : {A B : Type 0} → (A → ⊥) → (B → ⊥) → A ⊎ B → ⊥
 neither a b (inl h) = a h
@@ -49,7 +48,7 @@ ends_on : (u : List NameSet) → Accepts again u (on ∷ [])
 ends_on u = (one_state_accepts (0 ∷ []) [] 1 (FormulaTree.Inf 0 false) u (on ∷ []) (lit< tt)).1 (ap (λ b. met (marks_if (0 ∷ []) [] b ∷ []) (FormulaTree.Inf 0 false)) on_a)
 
 -- so often `off`, and then `on` for ever
-begins_off : (n : ℕ) → SomePrefix (λ u v. Accepts again u v) [] (off ∷ []) n
+begins_off : (n : ℕ) → SomeWord (λ u v. Accepts again u v) (λ x y. (k : ℕ) → k < n → letter_at x y k ≡ letter_at [] (off ∷ []) k)
 begins_off n = record { stem = copies n (off ∷ []); cycle = on ∷ []; some = lit< tt; said = ends_on (copies n (off ∷ [])); same = same }
   where
     same : (k : ℕ) → k < n → letter_at (copies n (off ∷ [])) (on ∷ []) k ≡ letter_at [] (off ∷ []) k
@@ -84,7 +83,7 @@ change_examples = record {
   sum_on_off = neither worked_examples.ever_after_on_off worked_examples.so_often_on_off;
   present_off = worked_examples.again_on;
   absent_on = absent_on;
-  any_off = record { stem = []; cycle = on ∷ []; some = lit< tt; same = agree; said = worked_examples.again_on };
+  any_off = record { stem = []; cycle = on ∷ []; some = lit< tt; said = worked_examples.again_on; same = agree };
   monitor_off = begins_off;
   monitor_never = λ u v h. let begun = h 0 in worked_examples.never_any begun.stem begun.cycle begun.said;
   not_both_on_off = λ h. h (worked_examples.again_on_off, worked_examples.off_again_on_off);

@@ -9,7 +9,7 @@ use Rattle.aut_ops.proofs.pairs.Laws.{few_pairs_exclude_more}
 use Rattle.aut_ops.specs.Completion.{completed}
 use Rattle.aut_ops.specs.Languages.{AcceptsBoth, AcceptsEither}
 use Rattle.aut_ops.specs.Sums.{summed}
-use Rattle.aut_ops.specs.Products.{IsUnionProductOf, IsProductOf, over_both}
+use Rattle.aut_ops.specs.Products.{IsProduct, over_both}
 use Rattle.aut_base.specs.declared.limit.TheConstants.{MOST_PAIRS}
 use Rattle.plan_meaning.proofs.changes.Stepping.{changed_once}
 use Rattle.plan_meaning.specs.Changes.{Product, ProductOr, Sum}
@@ -17,23 +17,27 @@ use Rattle.plan_meaning.specs.Limits.{HaveFewNames, PassesOfBoth, PassesOfEither
 use Rattle.plan_meaning.specs.Operands.{IsOfReadSize}
 use Rattle.plan_meaning.specs.inner.Stepping.{IsMadeAsPromised, IsOfProductOrSize, IsOfProductSize}
 
-both_within : (a b made : Automaton) → IsProductOf a b made → HaveFewNames a b → made.states ≤ MOST_PAIRS → (which : Limit) → PassesOfBoth which a b → ⊥
+both_within : (a b made : Automaton) → IsProduct conj (over_both a b a) (over_both a b b) made → HaveFewNames a b → made.states ≤ MOST_PAIRS → (which : Limit) → PassesOfBoth which a b → ⊥
 both_within a b made is names few limit.Names h = absurd (omega (arith, names, h))
 both_within a b made is names few limit.Pairs h = few_pairs_exclude_more conj (over_both a b a) (over_both a b b) made MOST_PAIRS is few h.1
 both_within a b made is names few _ h = h
 
-pub product_made : (a b made : Automaton) → IsProductOf a b made → AcceptsBoth made a b → HaveFewNames a b → made.states ≤ MOST_PAIRS → IsMadeAsPromised (Product b ∷ []) a made
+pub product_made : (a b made : Automaton) → IsProduct conj (over_both a b a) (over_both a b b) made → AcceptsBoth made a b → HaveFewNames a b → made.states ≤ MOST_PAIRS
+    → IsMadeAsPromised (Product b ∷ []) a made
 product_made a b made is accepts names few = changed_once (Product b) a made (both_within a b made is names few) is tt accepts
 
-either_within : (a b made : Automaton) → IsUnionProductOf a b made → HaveFewNames a b → made.states ≤ MOST_PAIRS → (which : Limit) → PassesOfEither which a b → ⊥
+either_within : (a b made : Automaton) → IsProduct disj (over_both a b (completed a)) (over_both a b (completed b)) made → HaveFewNames a b → made.states ≤ MOST_PAIRS
+    → (which : Limit) → PassesOfEither which a b → ⊥
 either_within a b made is names few limit.Names h = absurd (omega (arith, names, h))
 either_within a b made is names few limit.Pairs h = few_pairs_exclude_more disj (over_both a b (completed a)) (over_both a b (completed b)) made MOST_PAIRS is few h.1
 either_within a b made is names few _ h = h
 
-pub product_or_made : (a b made : Automaton) → IsUnionProductOf a b made → AcceptsEither made a b → HaveFewNames a b → made.states ≤ MOST_PAIRS → IsMadeAsPromised (ProductOr b ∷ []) a made
+pub product_or_made : (a b made : Automaton) → IsProduct disj (over_both a b (completed a)) (over_both a b (completed b)) made → AcceptsEither made a b → HaveFewNames a b
+    → made.states ≤ MOST_PAIRS → IsMadeAsPromised (ProductOr b ∷ []) a made
 product_or_made a b made is accepts names few = changed_once (ProductOr b) a made (either_within a b made is names few) is tt accepts
 
-pub product_or_size : (a b made : Automaton) → IsUnionProductOf a b made → made.states ≤ MOST_PAIRS → IsOfProductSize a → IsOfReadSize b → IsOfProductOrSize made
+pub product_or_size : (a b made : Automaton) → IsProduct disj (over_both a b (completed a)) (over_both a b (completed b)) made → made.states ≤ MOST_PAIRS
+    → IsOfProductSize a → IsOfReadSize b → IsOfProductOrSize made
 product_or_size a b made is few one two =
     let sets : made.sets ≡ (completed a).sets + (completed b).sets = ap (λ (x : Automaton). x.sets) is.is in
     record { states = few; sets = omega (arith, sets, completed_sets a, completed_sets b, one.sets, two.sets) }

@@ -5,9 +5,10 @@ use Rattle.aut_base.specs.declared.limit.Limit.{Limit}
 use Rattle.aut_base.specs.declared.limit.Limit.TheVariants as limit
 use Rattle.aut_core.specs.Deterministic.{IsDeterministic}
 use Rattle.aut_core.specs.OtherNames.{AcceptTheSame}
+use Rattle.degeneralise.specs.Buchi.{buchi}
 use Rattle.filter_plan.specs.declared.plan.Form.TheVariants as form
 use Rattle.parity_det.specs.Complements.{IsComplementAutomaton, IsWithinParity}
-use Rattle.parity_det.specs.Determinisation.{IsParityAutomatonOf}
+use Rattle.parity_det.specs.Determinisation.{IsDeterminisation}
 use Rattle.parity_det.specs.Promises.{IsParityMinOdd}
 use Rattle.parity_det.specs.declared.fault.CompFault.TheVariants as comp
 use Rattle.parity_laws.specs.Complement.{AreComplementLanguages}
@@ -25,10 +26,10 @@ module _ (a : Automaton) where
   within none limit.Classes h = none comp.Classes h
   within none _ h = h
 
-  pub parity_made : (made : Automaton) → IsWithinParity a → IsParityAutomatonOf a made → IsParityMinOdd made → AcceptTheSame made a → IsMadeAsPromised (Bring form.Parity ∷ []) a made
+  pub parity_made : (made : Automaton) → IsWithinParity a → IsDeterminisation (buchi a) made → IsParityMinOdd made → AcceptTheSame made a → IsMadeAsPromised (Bring form.Parity ∷ []) a made
   parity_made made none is parity accepts = changed_once (Bring form.Parity) a made (within none) is parity accepts
 
-  pub deterministic_made : (made : Automaton) → (IsDeterministic a → ⊥) → IsWithinParity a → IsParityAutomatonOf a made → IsParityMinOdd made → AcceptTheSame made a
+  pub deterministic_made : (made : Automaton) → (IsDeterministic a → ⊥) → IsWithinParity a → IsDeterminisation (buchi a) made → IsParityMinOdd made → AcceptTheSame made a
       → IsMadeAsPromised (Bring form.Deterministic ∷ []) a made
   deterministic_made made other none is parity accepts =
       changed_once (Bring form.Deterministic) a made (λ which h. within none which h.1) (inr (other, is)) parity.deterministic accepts

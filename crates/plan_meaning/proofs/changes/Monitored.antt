@@ -1,8 +1,9 @@
 -- What is made of an automaton in the form of a monitor.
-use Rattle.std.proofs.Common.{◌≤◌, ℕ, List, [], ◌∷◌, arith, refl}
+use Rattle.std.proofs.Common.{◌≡◌, ◌<◌, ◌≤◌, ℕ, List, [], ◌∷◌, arith, refl}
+use Rattle.ap_project.specs.Hiding.{SomeWord}
 use Rattle.aut_base.specs.Acceptance.{Accepts}
 use Rattle.aut_base.specs.Automaton.{Automaton}
-use Rattle.aut_base.specs.Word.{NameSet}
+use Rattle.aut_base.specs.Word.{NameSet, letter_at}
 use Rattle.aut_base.specs.declared.limit.Limit.{Limit}
 use Rattle.aut_base.specs.declared.limit.Limit.TheVariants as limit
 use Rattle.aut_base.specs.declared.limit.TheConstants.{MOST_BUCHI_STATES}
@@ -13,7 +14,7 @@ use Rattle.exploration.specs.declared.fault.Fault.TheVariants as explored
 use Rattle.filter_plan.specs.declared.plan.Form.TheVariants as form
 use Rattle.monitor_form.specs.Prefixes.{AcceptsPrefixes, HasPrefix}
 use Rattle.monitor_form.specs.Subsets.{IsMonitorAutomaton, MeetsLimit}
-use Rattle.plan_meaning.specs.Changes.{Bring, PassesMonitor, SomePrefix}
+use Rattle.plan_meaning.specs.Changes.{Bring, PassesMonitor}
 use Rattle.plan_meaning.specs.inner.Stepping.{IsMadeAsPromised}
 
 module _ (a : Automaton) where
@@ -24,10 +25,10 @@ module _ (a : Automaton) where
   within terms few none limit.Subsets h = none explored.States h.1
   within terms few none _ h = h
 
-  some_prefix : (u v : List NameSet) (n : ℕ) → HasPrefix a u v n → SomePrefix (λ x y. Accepts a x y) u v n
+  some_prefix : (u v : List NameSet) (n : ℕ) → HasPrefix a u v n → SomeWord (λ x y. Accepts a x y) (λ x y. (k : ℕ) → k < n → letter_at x y k ≡ letter_at u v k)
   some_prefix u v n p = record { stem = p.stem; cycle = p.cycle; some = p.accepted.endless; said = p.accepted; same = p.same }
 
-  has_prefix : (u v : List NameSet) (n : ℕ) → SomePrefix (λ x y. Accepts a x y) u v n → HasPrefix a u v n
+  has_prefix : (u v : List NameSet) (n : ℕ) → SomeWord (λ x y. Accepts a x y) (λ x y. (k : ℕ) → k < n → letter_at x y k ≡ letter_at u v k) → HasPrefix a u v n
   has_prefix u v n p = record { stem = p.stem; cycle = p.cycle; accepted = p.said; same = p.same }
 
   pub monitor_made : (made : Automaton) → (NeedsTooManyTerms a.formula → ⊥) → buchi_states a ≤ MOST_BUCHI_STATES → ((f : Fault) → MeetsLimit a f → ⊥) → IsMonitorAutomaton a made

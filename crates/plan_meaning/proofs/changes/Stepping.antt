@@ -1,7 +1,7 @@
 -- Steps one after the other make their changes one after the other.
-use Rattle.std.proofs.Common.{◌≡◌, ◌↔◌, ◌⊎◌, ℕ, List, [], ◌∷◌, ◌++◌, Result, Ok, Err, inl, inr, refl, subst}
+use Rattle.std.proofs.Common.{◌≡◌, ◌↔◌, ◌⊎◌, List, [], ◌∷◌, ◌++◌, Result, Ok, Err, inl, inr, refl, subst}
 use Rattle.std.specs.Result.{IsErrAnd}
-use Rattle.ap_project.proofs.Languages.{same_hidden}
+use Rattle.ap_project.proofs.Languages.{said_too, same_hidden}
 use Rattle.ap_project.specs.Hiding.{AcceptsHidden, hidden}
 use Rattle.ap_project.specs.Laws.{SayTheSame}
 use Rattle.aut_base.proofs.Outcomes.{hands_on}
@@ -14,7 +14,7 @@ use Rattle.filter_plan.specs.declared.plan.Form.{Form}
 use Rattle.filter_plan.specs.declared.plan.Form.TheVariants as form
 use Rattle.filter_plan.specs.declared.plan.Hidden.{Hidden}
 use Rattle.plan_meaning.specs.Changes.{Bring, Change, Complement, Complete, Language, Makes, MakesAll, PassesIn, Product, ProductOr}
-use Rattle.plan_meaning.specs.Changes.{RemoveAp, StopsIn, Sum, Trim, SomePrefix, said_by, said_by_all, said_in_form}
+use Rattle.plan_meaning.specs.Changes.{RemoveAp, StopsIn, Sum, Trim, said_by, said_by_all, said_in_form}
 use Rattle.plan_meaning.specs.declared.fault.PlanFault.{PlanFault}
 use Rattle.plan_meaning.specs.declared.fault.PlanFault.TheVariants as fault
 use Rattle.plan_meaning.specs.inner.Stepping.{IsMadeAsPromised, MakesAsPromised, Promises, StepsChanges}
@@ -37,9 +37,6 @@ either_alike {P = P} {Q = Q} R h = (
   (λ x. elim x as (λ _. P ⊎ R) [ inl q ↦ inl (h.1 q) | inr r ↦ inr r ]),
 )
 
-prefix_alike : (L M : Language) → SayTheSame L M → (u v : List NameSet) (n : ℕ) → SomePrefix L u v n → SomePrefix M u v n
-prefix_alike L M h u v n p = record { stem = p.stem; cycle = p.cycle; some = p.some; said = (h p.stem p.cycle p.some).0 p.said; same = p.same }
-
 form_alike : (f : Form) (L M : Language) → SayTheSame L M → SayTheSame (said_in_form f L) (said_in_form f M)
 form_alike form.AsIs L M h u v some = h u v some
 form_alike form.Deterministic L M h u v some = h u v some
@@ -48,8 +45,8 @@ form_alike form.Buchi L M h u v some = h u v some
 form_alike form.RemoveFin L M h u v some = h u v some
 form_alike form.Dnf L M h u v some = h u v some
 form_alike form.Monitor L M h u v some = (
-  (λ x n. prefix_alike L M h u v n (x n)),
-  (λ x n. prefix_alike M L (λ y z more. ((h y z more).1, (h y z more).0)) u v n (x n)),
+  (λ x n. said_too L M _ h (x n)),
+  (λ x n. said_too M L _ (λ y z more. ((h y z more).1, (h y z more).0)) (x n)),
 )
 
 one_alike : (c : Change) (L M : Language) → SayTheSame L M → SayTheSame (said_by c L) (said_by c M)

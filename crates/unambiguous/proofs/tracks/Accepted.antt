@@ -9,10 +9,10 @@ use Rattle.aut_base.specs.Formula.{met}
 use Rattle.aut_base.specs.Word.{NameSet, copies}
 use Rattle.unambiguous.proofs.tracks.Tracks.{IsEdgePath, Run, edge_marks}
 use Rattle.unambiguous.specs.Laws.{RunsAreAcceptance}
-use Rattle.unambiguous.specs.Runs.{AcceptingRun, StandAt}
+use Rattle.unambiguous.specs.Runs.{AcceptingRun}
 
 module _ (a : Automaton) where
-  pub same_marks : (ms : List ℕ) (es : List LabelledEdge) → StandAt a ms es → map (edge_marks a) ms ≡ map (λ (e : LabelledEdge). e.marks) es
+  pub same_marks : (ms : List ℕ) (es : List LabelledEdge) → map (slice_get a.edges) ms ≡ map Some es → map (edge_marks a) ms ≡ map (λ (e : LabelledEdge). e.marks) es
   same_marks ms es at =
       let marks : Option LabelledEdge → List ℕ = λ o. option_map_or (λ (e : LabelledEdge). e.marks) o [] in
       sym (map-map marks (slice_get a.edges) ms) ∙ (ap (map marks) at ∙ map-map marks Some es)
@@ -20,7 +20,7 @@ module _ (a : Automaton) where
   pub record Placed (p q : ℕ) (xs : List NameSet) (es : List LabelledEdge) : Type 0 where
     pub places : List ℕ
     pub track : IsEdgePath a p xs places q
-    pub at : StandAt a places es
+    pub at : map (slice_get a.edges) places ≡ map Some es
 
   pub placed : (p q : ℕ) (xs : List NameSet) (es : List LabelledEdge) → IsPath a p xs es q → Placed p q xs es
   placed p q [] [] path = record { places = []; track = path; at = refl }
@@ -32,7 +32,7 @@ module _ (a : Automaton) where
       record { places = here.0 ∷ rest.places; track = (e, here.1, path.0, path.2, rest.track); at = λ i. here.1 i ∷ rest.at i }
 
   -- a path is a track along the indices of its edges
-  pub track_of : (p q : ℕ) (xs : List NameSet) (ms : List ℕ) (es : List LabelledEdge) → IsPath a p xs es q → StandAt a ms es → IsEdgePath a p xs ms q
+  pub track_of : (p q : ℕ) (xs : List NameSet) (ms : List ℕ) (es : List LabelledEdge) → IsPath a p xs es q → map (slice_get a.edges) ms ≡ map Some es → IsEdgePath a p xs ms q
   track_of p q [] [] [] path at = path
   track_of p q [] (m ∷ ms) [] path at = absurd cc
   track_of p q [] ms (e ∷ es) path at = absurd path
@@ -43,7 +43,7 @@ module _ (a : Automaton) where
   pub record Gone (p q : ℕ) (xs : List NameSet) (ms : List ℕ) : Type 0 where
     pub edges : List LabelledEdge
     pub path : IsPath a p xs edges q
-    pub at : StandAt a ms edges
+    pub at : map (slice_get a.edges) ms ≡ map Some edges
 
   pub gone : (p q : ℕ) (xs : List NameSet) (ms : List ℕ) → IsEdgePath a p xs ms q → Gone p q xs ms
   gone p q [] [] track = record { edges = []; path = track; at = refl }
