@@ -100,7 +100,7 @@ module _ (q : Plan) (first second : Option Pattern) (same_first : option_map wor
 
   printed : (o : Output) (ops : List Automaton) (w : Written) (text : List ℕ) → IsPrinted o r ops w text → IsPrinted o q ops w text
   printed Hoa ops w text h = record { made = h.made; is_made = made ops w h.made h.is_made; same = h.same; reads_as = h.reads_as }
-  printed (Stats pieces) ops w text h = (h.0, (made ops w h.0 h.1.0, h.1.1))
+  printed (Stats pieces) ops w text h = (h.0, made ops w h.0 h.1, h.2)
   printed (Refute file) ops w text h = h
 
   due_where : (b : Bool) (ops : List Automaton) (w : Written) (text : List ℕ) → MatchBool b (IsPrinted r.output r ops w text) (text ≡ []) → MatchBool b (IsPrinted q.output q ops w text) (text ≡ [])

@@ -95,8 +95,8 @@ one_printed one Hoa p ops w t u decides x y =
     let same = one_made one p ops w x.made y.made x.is_made y.is_made in
     x.same ∙ ap (λ (m : Automaton). canonical_text m (name_due p w)) same ∙ sym y.same
 one_printed one (Stats pieces) p ops w t u decides x y =
-    let same = one_made one p ops w x.0 y.0 x.1.0 y.1.0 in
-    one_line one pieces y.0 t u decides (subst (λ (m : Automaton). IsLine pieces m t) same x.1.1) y.1.1
+    let same = one_made one p ops w x.0 y.0 x.1 y.1 in
+    one_line one pieces y.0 t u decides (subst (λ (m : Automaton). IsLine pieces m t) same x.2) y.2
 one_printed one (Refute file) p ops w t u decides x y = absurd decides
 
 due_where : AreOne → (b : Bool) (p : Plan) (ops : List Automaton) (w : Written) (t u : List ℕ) → DecidesPrinted p.output ⊎ (b ≡ false)

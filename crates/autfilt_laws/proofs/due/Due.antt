@@ -96,7 +96,7 @@ module _ (p : Plan) (ops : List Automaton) (operands : (b : Automaton) → Conta
       record { made = made; is_made = is_made made m; same = refl; reads_as = reads_as (canonical_text made (name_due p w)) made (name_due p w) (set_operation p ops (described w)) back (says made m) }
 
   line_due : (pieces : List Piece) (made : Automaton) → IsMadeOf made → ((text : List ℕ) → IsPrinted (Stats pieces) p ops w text → ⊥) → ⊥
-  line_due pieces made m none = some_line pieces made (λ text line. none text (made, (is_made made m, line)))
+  line_due pieces made m none = some_line pieces made (λ text line. none text (made, is_made made m, line))
 
   -- a limit is passed, or something is printed
   module _ (kept : IsKept p ops (described w)) (on : prints_each p ≡ true) (none : ((text : List ℕ) × IsDue p ops w text) ⊎ ((which : Limit) × IsOverLimit which p ops w) → ⊥) where

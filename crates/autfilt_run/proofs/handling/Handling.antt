@@ -109,7 +109,7 @@ printed_as Hoa p ops w core name text r named h =
       same = same;
       reads_as = reads_as text h.made (name_due p w) (set_operation p ops (reader.described w)) (subst (λ (x : List ℕ). ReadsBack x h.made (name_due p w)) (sym same) back) is_made.accepts;
     }
-printed_as (Stats pieces) p ops w core name text r named h = (h.made, (made_of p ops w core r h, h.shown))
+printed_as (Stats pieces) p ops w core name text r named h = (h.made, made_of p ops w core r h, h.shown)
 printed_as (Refute file) p ops w core name text r named h = refuted_as (refuted_operand p ops) w core text r h
 
 due_text : (p : Plan) (ops : List Automaton) (w : Written) (b : Bool) (text : List ℕ) → b ≡ prints_each p → b ≡ true → IsPrinted p.output p ops w text → IsDue p ops w text

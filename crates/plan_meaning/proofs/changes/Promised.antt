@@ -66,7 +66,7 @@ completed_safety : (a : Automaton) → IsOfForm form.Monitor a → OrHasSinkSet 
 completed_safety a is = by_cases (lacks_nothing a)
   where
     met_so : is_met_unmarked a.formula ≡ true
-    met_so = ap is_met_unmarked is.1.1
+    met_so = ap is_met_unmarked is.2
 
     by_cases : (b : Bool) → OrHasSinkSet form.Monitor true (cond b a (with_sink a))
     by_cases true = inl is
@@ -87,7 +87,7 @@ no_fin a = by_cases (has_fin a.formula) refl
     by_cases false is = is
 
 of_monitor : (a made : Automaton) → IsMonitorAutomaton a made → IsDeterministic made → IsOfForm form.Monitor made
-of_monitor a made is deterministic = (deterministic, (ap (λ (x : Automaton). x.sets) is.is.is, ap (λ (x : Automaton). x.formula) is.is.is))
+of_monitor a made is deterministic = (deterministic, ap (λ (x : Automaton). x.sets) is.is.is, ap (λ (x : Automaton). x.formula) is.is.is)
 
 -- what a change into a form makes is of that form
 of_form : (f : Form) (a made : Automaton) → IsMadeInForm f a made → PromisesForm f made → IsOfForm f made

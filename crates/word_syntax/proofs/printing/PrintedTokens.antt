@@ -90,7 +90,7 @@ lex_name n rest ts end stop lexes = elim (cases_Bool (is_plain n)) [
       (lex_cons (token.Name n) n rest ts end (inl (bare, refl)) (bare_stops n rest bare.bare stop) lexes))
   | inr e ↦ (let word : List ℕ = 34 ∷ (flat_map escaped_byte n ++ 34 ∷ []) in
       subst (λ (x : List ℕ). LexesWord (x ++ rest) (token.Name n ∷ ts) end) (sym (cond-false _ _ _ e))
-      (lex_cons (token.Name n) (34 ∷ (flat_map escaped_byte n ++ 34 ∷ [])) rest ts end (inr (flat_map escaped_byte n, (escaped_quotes n, refl)))
+      (lex_cons (token.Name n) (34 ∷ (flat_map escaped_byte n ++ 34 ∷ [])) rest ts end (inr (flat_map escaped_byte n, escaped_quotes n, refl))
       (ends_anyhow (34 ∷ (flat_map escaped_byte n ++ 34 ∷ [])) rest (quoted_alone (flat_map escaped_byte n))) lexes))
 ]
 

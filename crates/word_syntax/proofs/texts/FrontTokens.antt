@@ -211,7 +211,7 @@ string_holds bs (Some s) u =
       front = record {
         word = 34 ∷ (u.inner ++ 34 ∷ []);
         split = ap (λ (x : List ℕ). 34 ∷ x) (u.split ∙ sym (append_assoc u.inner (34 ∷ []) (drop s.1 bs))) ∙ ap (λ (n : ℕ). (34 ∷ (u.inner ++ 34 ∷ [])) ++ drop n (34 ∷ bs)) (sym next);
-        spells = inr (u.inner, (u.quotes, refl));
+        spells = inr (u.inner, u.quotes, refl);
         ends = ends_anyhow (34 ∷ (u.inner ++ 34 ∷ [])) (drop (1 + s.1) (34 ∷ bs)) (string_alone u.inner);
       };
     }
@@ -277,9 +277,9 @@ string_found name word rest q =
     let split : (34 ∷ (q.0 ++ 34 ∷ [])) ++ rest ≡ 34 ∷ (q.0 ++ (34 ∷ rest)) = ap (λ (x : List ℕ). 34 ∷ x) (append_assoc q.0 (34 ∷ []) rest) in
     let size : 1 + (1 + length q.0) ≡ suc (suc (length q.0)) = omega arith in
     let long : length (q.0 ++ 34 ∷ []) ≡ suc (length q.0) = omega (arith, length-append q.0 (34 ∷ [])) in
-    subst (λ (x : List ℕ). Finds (x ++ rest) (token.Name name) rest) (sym q.1.1) (record {
+    subst (λ (x : List ℕ). Finds (x ++ rest) (token.Name name) rest) (sym q.2) (record {
       size = 1 + (1 + length q.0);
-      found = ap front_token split ∙ (front_cons 34 (q.0 ++ (34 ∷ rest)) ∙ ap (option_map (λ (s : List ℕ × ℕ). (token.Name s.0, 1 + s.1))) (quoted_found q.0 name rest q.1.0));
+      found = ap front_token split ∙ (front_cons 34 (q.0 ++ (34 ∷ rest)) ∙ ap (option_map (λ (s : List ℕ × ℕ). (token.Name s.0, 1 + s.1))) (quoted_found q.0 name rest q.1));
       behind = sym (ap (λ (n : ℕ). drop n ((34 ∷ (q.0 ++ 34 ∷ [])) ++ rest)) (size ∙ ap suc (sym long)) ∙ dropped (34 ∷ (q.0 ++ 34 ∷ [])) rest);
     })
 
