@@ -8,7 +8,6 @@ use Rattle.autfilt_run.specs.Figures.{IsLine}
 use Rattle.autfilt_run.specs.Plans.{prints_each}
 use Rattle.autfilt_run.specs.RefutationLine.{SaysOfInclusion}
 use Rattle.filter_plan.specs.Words.{changes}
-use Rattle.filter_plan.specs.declared.format.Piece.{Piece}
 use Rattle.filter_plan.specs.declared.plan.Form.TheVariants as form
 use Rattle.filter_plan.specs.declared.plan.Output.{Output}
 use Rattle.filter_plan.specs.declared.plan.Output.TheVariants.{Hoa, Stats, Refute}

@@ -5,7 +5,7 @@ use Rattle.clap.specs.Words.{App, Row, Rule, fault_of, matches_of, new_rule}
 use Rattle.clap.specs.Simple.{new_shape}
 use Rattle.clap.specs.declared.builder.action.ArgAction.{ArgAction}
 use Rattle.clap.specs.declared.builder.action.ArgAction.TheVariants.{Set, Append, SetTrue}
-use Rattle.filter_plan.specs.Table.{OptionRow, Place, Flag, FormFlag, EachGives, refuted, table, values_of}
+use Rattle.filter_plan.specs.Table.{Place, Flag, FormFlag, EachGives, refuted, table, values_of}
 use Rattle.filter_plan.specs.declared.plan.Form.{Form}
 use Rattle.filter_plan.specs.declared.plan.Form.TheVariants.{AsIs}
 use Rattle.filter_plan.specs.declared.plan.Plan.{Plan}
