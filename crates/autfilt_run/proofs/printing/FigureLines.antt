@@ -1,5 +1,5 @@
 -- A line of figures, piece by piece, and the word of an automaton.
-use Rattle.std.proofs.Common.{◌≡◌, ℕ, ◌+◌, ◌<◌, List, [], ◌∷◌, ◌++◌, codes, length, get_or, drop, Result, Ok, Err, IfOk, inl, refl, sym, ap, ◌∙◌, subst, append_assoc}
+use Rattle.std.proofs.Common.{◌≡◌, ℕ, ◌+◌, ◌<◌, List, ◌∷◌, ◌++◌, codes, length, get_or, drop, Result, Ok, Err, IfOk, inl, refl, sym, ap, ◌∙◌, subst, append_assoc}
 use Rattle.std.specs.List.{concat}
 use Rattle.std.specs.Fmt.{decimal}
 use Rattle.std.proofs.lemmas.List.{drop_more}
@@ -35,10 +35,6 @@ piece_more pieces i d piece a begun shown new within is extended shows so_far =
           (subst (IsLine pieces a) (sym (append_assoc begun shown text))
           (so_far.whole (shown ++ text) (subst (λ rest. IsLine rest a (shown ++ text)) (sym next) line)));
     }
-
--- no piece is left: with a line feed it is the line
-pub line_ended : (pieces : List Piece) (a : Automaton) (begun : List ℕ) → IsBegun pieces [] a begun → IsLine pieces a (begun ++ codes "\n")
-line_ended pieces a begun so_far = so_far.whole (codes "\n") (record { shown = []; each = tt; all = refl })
 
 -- the digits of a figure of the trimmed automaton
 pub shows_reached :
