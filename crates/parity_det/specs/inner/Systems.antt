@@ -21,7 +21,8 @@ moves_of = taken_of move_of
 
 -- the event is that of the step for the class of this number
 abbrev pub IsClassEvent : SymbolicAutomaton → List Node → ℕ → Event → Type 0
-IsClassEvent c t k event = (v : List Bool) → slice_get (set_classes (automaton_of c) (root_states t)) k ≡ Some v → event ≡ event_of c.states (class_moves (automaton_of c) t v) t
+IsClassEvent c t k event = (v : List Bool) → slice_get (set_classes (automaton_of c) (root_states t)) k ≡ Some v
+    → event ≡ event_of c.states (class_moves (automaton_of c) t v) t
 
 -- the mark of a step with this event, where trees have at most `most` nodes
 abbrev pub mark_of : ℕ → Event → ℕ
