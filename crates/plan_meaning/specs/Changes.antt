@@ -84,15 +84,14 @@ PassesForm which form.RemoveFin a = (which ≡ limit.Terms) × (has_fin a.formul
 PassesForm which form.Dnf a = (which ≡ limit.Terms) × HasTooManyTerms a
 PassesForm which form.Monitor a = PassesMonitor which a
 
+-- what counts may pass their limits in a change: none where a name is hidden, in trimming and in completion
 abbrev pub PassesIn : Limit → Change → Automaton → Type 0
 PassesIn which (Product b) a = PassesOfBoth which a b
 PassesIn which (ProductOr b) a = PassesOfEither which a b
 PassesIn which (Sum b) a = PassesOfSum which a b
-PassesIn which (RemoveAp h) a = ⊥
-PassesIn which Trim a = ⊥
 PassesIn which Complement a = PassesUnlessDeterministic which a
 PassesIn which (Bring f) a = PassesForm which f a
-PassesIn which Complete a = ⊥
+PassesIn which c a = ⊥
 
 -- the limits that a change may pass: it passes none of the others
 abbrev pub limits_of_form : Form → List Limit
@@ -165,13 +164,8 @@ Language = List NameSet → List NameSet → Type 0
 -- what a form makes of a language: a monitor its safety closure, the words each of whose prefixes is a prefix of some word
 -- of it, and any other form the language itself
 abbrev pub said_in_form : Form → Language → Language
-said_in_form form.AsIs says u v = says u v
-said_in_form form.Deterministic says u v = says u v
-said_in_form form.Parity says u v = says u v
-said_in_form form.Buchi says u v = says u v
-said_in_form form.RemoveFin says u v = says u v
-said_in_form form.Dnf says u v = says u v
 said_in_form form.Monitor says u v = (n : ℕ) → SomeWord says (λ x y. (k : ℕ) → k < n → letter_at x y k ≡ letter_at u v k)
+said_in_form f says u v = says u v
 
 -- what a change makes of a language: the intersection with that of the operand, the union with it, the language with a name
 -- hidden, its complement, what the form makes of it, or the language itself
