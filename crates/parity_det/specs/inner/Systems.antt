@@ -7,11 +7,11 @@ use Rattle.exploration.specs.Turns.{Comes, LimitMet, begin}
 use Rattle.exploration.specs.declared.fault.Fault.{Fault}
 use Rattle.letter_classes.specs.SetClasses.{set_classes}
 use Rattle.letter_classes.specs.Taken.{taken_of}
-use Rattle.parity_det.specs.Determinisation.{class_moves, start_tree, tree_rules}
+use Rattle.parity_det.specs.Determinisation.{class_moves, tree_rules}
 use Rattle.parity_laws.specs.Buchi.{move_of}
 use Rattle.safra_laws.specs.Priorities.{priority_by}
 use Rattle.safra_trees.specs.Events.{event_of}
-use Rattle.safra_trees.specs.Trees.{Node, root_states}
+use Rattle.safra_trees.specs.Trees.{Node, first_tree, root_states}
 use Rattle.safra_trees.specs.declared.event.Event.{Event}
 use Rattle.safra_trees.specs.declared.moves.Move.{Move}
 
@@ -30,4 +30,4 @@ mark_of most event = priority_by most event.red event.green
 
 -- the exploration of the trees of b meets this limit first
 abbrev pub MeetsFirst : Automaton → Fault → Type 0
-MeetsFirst b f = Comes (tree_rules b) (begin (start_tree b)) (LimitMet f)
+MeetsFirst b f = Comes (tree_rules b) (begin (first_tree b.states b.starts)) (LimitMet f)
