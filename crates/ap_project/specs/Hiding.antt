@@ -45,8 +45,8 @@ abbrev pub AgreeOff : List ℕ → List NameSet → List NameSet → List NameSe
 AgreeOff name u v x y = (n : ℕ) (a b : NameSet) → letter_at u v n ≡ Some a → letter_at x y n ≡ Some b
     → (other : List ℕ) → other ≢ name → contains a other ≡ contains b other
 
--- some lasso word of the language that is also in the other one, a language being the statement, of each stem and cycle, that
--- the lasso word is in it
+-- Some lasso word that is in the language, and that `Like` says to be like a given one. A language is given by the statement, of
+-- each stem and cycle, that the lasso word is in it.
 pub record SomeWord (says Like : List NameSet → List NameSet → Type 0) : Type 0 where
   pub stem : List NameSet
   pub cycle : List NameSet

@@ -40,13 +40,16 @@ pub record IsHidden (how : Hide) (name : List ℕ) (a h : Automaton) : Type 0 wh
 -- The language of h: under `Any` for words with a non-empty cycle, and below under `Absent` and `Present` for all stems and
 -- cycles.
 abbrev pub HiddenAny : Type 0
-HiddenAny = (name : List ℕ) (a h : Automaton) → IsHidden Any name a h → (u v : List NameSet) → 0 < length v → Accepts h u v ↔ SomeWord (λ x y. Accepts a x y) (AgreeOff name u v)
+HiddenAny = (name : List ℕ) (a h : Automaton) → IsHidden Any name a h → (u v : List NameSet) → 0 < length v
+    → Accepts h u v ↔ SomeWord (λ x y. Accepts a x y) (AgreeOff name u v)
 
 abbrev pub HiddenAbsent : Type 0
-HiddenAbsent = (name : List ℕ) (a h : Automaton) → IsHidden Absent name a h → (u v : List NameSet) → Accepts h u v ↔ Accepts a (map (λ x. remove x name) u) (map (λ x. remove x name) v)
+HiddenAbsent = (name : List ℕ) (a h : Automaton) → IsHidden Absent name a h → (u v : List NameSet)
+    → Accepts h u v ↔ Accepts a (map (λ x. remove x name) u) (map (λ x. remove x name) v)
 
 abbrev pub HiddenPresent : Type 0
-HiddenPresent = (name : List ℕ) (a h : Automaton) → IsHidden Present name a h → (u v : List NameSet) → Accepts h u v ↔ Accepts a (map (λ x. insert x name) u) (map (λ x. insert x name) v)
+HiddenPresent = (name : List ℕ) (a h : Automaton) → IsHidden Present name a h → (u v : List NameSet)
+    → Accepts h u v ↔ Accepts a (map (λ x. insert x name) u) (map (λ x. insert x name) v)
 
 -- h is a with each label replaced by one that is true exactly where the original with the name hidden is
 pub record IsRelabelled (how : Hide) (name : List ℕ) (a h : Automaton) : Type 0 where

@@ -4,13 +4,12 @@ use Rattle.acc_forms.specs.Joined.{conj, disj}
 use Rattle.acc_forms.specs.Shift.{shift}
 use Rattle.aut_base.specs.Automaton.{Automaton, LabelledEdge}
 use Rattle.aut_base.specs.Formula.{Fin, Inf}
-use Rattle.aut_ops.specs.Products.{over_both}
 
 -- the edge with the numbers of its states and sets raised, also in the set `fresh`
 abbrev pub moved_edge : ℕ → ℕ → ℕ → LabelledEdge → LabelledEdge
 moved_edge states sets fresh e = record e { from = e.from + states; to = e.to + states; marks = map (λ mark. mark + sets) e.marks ++ fresh ∷ [] }
 
--- The first automaton followed by the second, both over the same names. Each edge of the second is in a fresh set, so that the
+-- The sum: the first automaton followed by the second, both over the same names. Each edge of the second is in a fresh set, so that the
 -- condition can tell the runs apart: `Fin` of that set and the first's condition, or `Inf` of it and the second's.
 abbrev pub side_by_side : Automaton → Automaton → Automaton
 side_by_side a b = record {
@@ -21,7 +20,3 @@ side_by_side a b = record {
   sets = a.sets + b.sets + 1;
   formula = disj (conj a.formula (Fin (a.sets + b.sets) false)) (conj (shift a.sets b.formula) (Inf (a.sets + b.sets) false));
 }
-
--- the sum of two automata, over their joint names
-abbrev pub summed : Automaton → Automaton → Automaton
-summed a b = side_by_side (over_both a b a) (over_both a b b)

@@ -6,7 +6,7 @@ ghost use Rattle.aut_base.specs.Formula.{formula_tree};
 ghost use Rattle.aut_core.specs.SymbolicAutomata.{automaton_of, edge_of};
 ghost use Rattle.aut_core.specs.Deterministic.{IsComplete, IsDeterministic};
 ghost use Rattle.aut_core.specs.OtherNames.{AcceptTheSame};
-ghost use Rattle.aut_ops.specs.Completion.{completed, with_sink, missing_label, gap_edges};
+ghost use Rattle.aut_ops.specs.Completion.{completed, gap_edges, missing_label, with_sink};
 ghost use Rattle.aut_ops.specs.inner.Parts.{filled_edges, sink_marks};
 ghost use Rattle.aut_core.specs.Links.{StandFor};
 ghost use Rattle.label_guards.specs.Store.{Has, Keeps, label_in};

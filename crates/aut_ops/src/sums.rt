@@ -9,7 +9,8 @@ ghost use Rattle.aut_core.specs.SymbolicAutomata.{automaton_of};
 ghost use Rattle.aut_core.specs.OtherNames.{HaveBoth, joined_names, over_names};
 ghost use Rattle.aut_core.specs.declared.join.NameFault.{NameFault};
 ghost use Rattle.aut_ops.specs.Languages.{AcceptsEither};
-ghost use Rattle.aut_ops.specs.Sums.{side_by_side, summed};
+ghost use Rattle.aut_ops.specs.Products.{over_both};
+ghost use Rattle.aut_ops.specs.Sums.{side_by_side};
 ghost use Rattle.aut_ops.specs.inner.Linked.{moved_link};
 ghost use Rattle.label_guards.specs.Store.{Keeps};
 
@@ -25,7 +26,9 @@ use std::alloc::Global;
 pub fn sum(alloc: Global, a: &Automaton, b: &Automaton) -> Result<Automaton, NameFault>
     requires states { a.now.states + b.now.states < 2 ^ 32 }
     requires sets { a.now.sets + b.now.sets + 1 < 2 ^ 32 }
-    ensures shape { IfOk result (λ made. automaton_of made ≡ summed (automaton_of a.now) (automaton_of b.now)) }
+    ensures shape { IfOk result (λ made. automaton_of made ≡ side_by_side
+        (over_both (automaton_of a.now) (automaton_of b.now) (automaton_of a.now))
+        (over_both (automaton_of a.now) (automaton_of b.now) (automaton_of b.now))) }
     ensures accepts { IfOk result (λ made. AcceptsEither (automaton_of made) (automaton_of a.now) (automaton_of b.now)) }
     ensures within { OnOk result (length (joined_names a.now.names b.now.names) ≤ MOST_NAMES) }
     ensures names { IsErrOf result NameFault.Names → MOST_NAMES < length (joined_names a.now.names b.now.names) }

@@ -22,7 +22,7 @@ use Rattle.letter_classes.proofs.ClassEdges.{all_apart, class_meets, class_of, e
 use Rattle.letter_classes.specs.SetClasses.{set_classes, set_edges, set_labels}
 use Rattle.monitor_form.specs.Monitors.{HasEdge, IsGoal, TracksSubsets, IsMove, first_places, set_at}
 use Rattle.monitor_form.proofs.Explored.{IsExploredFrom, explored_by, is_goal, monitor_edge}
-use Rattle.monitor_form.proofs.SubsetMoves.{subset_step, unless_empty}
+use Rattle.monitor_form.proofs.SubsetMoves.{some_set, subset_step, unless_empty}
 use Rattle.monitor_form.specs.Subsets.{successor_set, monitor_on, start_set, subset_moves, subset_rules}
 use Rattle.exploration.proofs.Finished.{explored_ends}
 use Rattle.std.specs.Cmp.Lexicographic.{bytes_decides, pointwise}
@@ -44,12 +44,12 @@ is_gift StepFailed = false
 given_goals : (qs y : List ℕ) → unless_empty qs ≡ Successor y → (qs ≡ y) × ((q : ℕ) × Contains y q)
 given_goals [] y e = absurd (true≢false (sym (ap is_gift e)))
 given_goals (q ∷ qs) y e =
-    let same : q ∷ qs ≡ y = ap (given []) e in
+    let same : q ∷ qs ≡ y = ap (given []) (sym (some_set q qs) ∙ e) in
     (same, (q, subst (λ (zs : List ℕ). Contains zs q) same (first_there q qs)))
 
 some_given : (qs : List ℕ) (q : ℕ) → Contains qs q → unless_empty qs ≡ Successor qs
 some_given [] q there = absurd (none_there q there)
-some_given (p ∷ qs) q there = refl
+some_given (p ∷ qs) q there = some_set p qs
 
 module _ (b : Automaton) (formed : IsWellFormed b) where
   -- the successors for a class are those at each letter in it

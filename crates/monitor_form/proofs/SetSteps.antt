@@ -1,6 +1,5 @@
 -- The step of a set under the guard of a class, and stores that have grown.
-use Rattle.std.proofs.Common.{◌≡◌, ◌∙◌, ◌<◌, ◌==◌, ◌&&◌, ◌||◌, ℕ, suc, All, Bool, true, false, cond, List, [], ◌∷◌, ap, arith, filter, length, refl, slice_get, subst, sym}
-use Rattle.std.proofs.lemmas.Bool.{eqb-true, true≢false}
+use Rattle.std.proofs.Common.{◌≡◌, ◌∙◌, ◌<◌, ◌==◌, ◌&&◌, ◌||◌, ℕ, All, Bool, true, false, cond, List, [], ◌∷◌, ap, arith, filter, length, refl, slice_get, subst, sym}
 use Rattle.std.specs.List.{list_any, range_with_len}
 use Rattle.aut_base.proofs.lists.Members.{each_there, from_filter, from_range}
 use Rattle.aut_base.specs.Automaton.{Automaton, LabelledEdge}
@@ -55,12 +54,10 @@ module _ (c : SymbolicAutomaton) (core : IsWellFormedSymbolic c) (s : Store) (se
   lacks = NoSuccessor
 
   empty_lacks : (qs : List ℕ) → (length qs == 0) ≡ true → unless_empty qs ≡ lacks
-  empty_lacks [] e = refl
-  empty_lacks (q ∷ qs) e = let n : suc (length qs) ≡ 0 = eqb-true (suc (length qs)) 0 e in absurd (omega (arith, n))
+  empty_lacks qs e = ap (λ b. cond b lacks (Successor qs)) e
 
   some_gives : (qs : List ℕ) → (length qs == 0) ≡ false → unless_empty qs ≡ Successor qs
-  some_gives [] e = absurd (true≢false e)
-  some_gives (q ∷ qs) e = refl
+  some_gives qs e = ap (λ b. cond b lacks (Successor qs)) e
 
   pub step_lacks : (length found == 0) ≡ true → subset_step (automaton_of c) set (slice_get (set_classes (automaton_of c) set) k) ≡ lacks
   step_lacks none = step_is ∙ (ap unless_empty (sym step_goals) ∙ empty_lacks found none)

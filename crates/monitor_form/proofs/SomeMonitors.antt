@@ -16,7 +16,7 @@ use Rattle.exploration.specs.Turns.{Comes, HasOutcome, LimitMet, begin, has_end,
 use Rattle.exploration.specs.declared.fault.Fault.{Fault}
 use Rattle.exploration.specs.declared.fault.Fault.TheVariants as limit
 use Rattle.letter_classes.specs.SetClasses.{set_classes}
-use Rattle.monitor_form.proofs.SubsetMoves.{subset_step, unless_empty}
+use Rattle.monitor_form.proofs.SubsetMoves.{some_set, subset_step, unless_empty}
 use Rattle.monitor_form.specs.Subsets.{IsMonitorAutomaton, MeetsLimit, MonitorExists, successor_set, monitor_on, start_set, subset_rules}
 
 numbers_same : (xs : List ℕ) → pointwise nat_eq xs xs ≡ true
@@ -25,7 +25,7 @@ numbers_same xs = elim (cases_Bool (pointwise nat_eq xs xs)) [ inl is ↦ is | i
 -- no step fails
 goals_go : (set : List ℕ) → unless_empty set ≡ StepFailed → ⊥
 goals_go [] is = absurd cc
-goals_go (q ∷ qs) is = absurd cc
+goals_go (q ∷ qs) is = (let e = sym (some_set q qs) ∙ is in absurd cc)
 
 step_goes : (b : Automaton) (set : List ℕ) (o : Option (List Bool)) → subset_step b set o ≡ StepFailed → ⊥
 step_goes b set None is = absurd cc

@@ -15,7 +15,8 @@ use Rattle.letter_classes.specs.ClassForms.{form_of, link_of}
 use Rattle.letter_classes.specs.SetClasses.{FitsStore, IsClassGuard}
 use Rattle.parity_det.proofs.Explored.{is_tree, within_width}
 use Rattle.parity_det.proofs.Widths.{few_nodes, parity_below}
-use Rattle.parity_det.specs.Determinisation.{class_moves, parity_on, start_tree, tree_moves, width}
+use Rattle.parity_det.proofs.TreeMoves.{start_tree}
+use Rattle.parity_det.specs.Determinisation.{class_moves, parity_on, tree_moves, width}
 use Rattle.safra_trees.specs.Same.{same_nodes}
 use Rattle.parity_det.specs.inner.Systems.{IsClassEvent, mark_of}
 use Rattle.parity_laws.specs.Determinised.{tree_at}

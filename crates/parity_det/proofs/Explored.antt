@@ -17,8 +17,8 @@ use Rattle.exploration.specs.Turns.{Transition}
 use Rattle.label_guards.proofs.alike.ClassLeastLaws.{alike_each}
 use Rattle.label_guards.specs.ClassLeasts.{are_alike}
 use Rattle.letter_classes.specs.SetClasses.{set_edges, set_labels}
-use Rattle.parity_det.proofs.TreeMoves.{tree_classes, tree_step_at}
-use Rattle.parity_det.specs.Determinisation.{class_moves, start_tree, tree_moves, unless_large, width}
+use Rattle.parity_det.proofs.TreeMoves.{start_tree, tree_classes, tree_step_at}
+use Rattle.parity_det.specs.Determinisation.{class_moves, tree_moves, unless_large, width}
 use Rattle.safra_trees.specs.Same.{same_nodes}
 use Rattle.parity_laws.proofs.letters.Moves.{edge_of, move_there}
 use Rattle.parity_laws.specs.Buchi.{move_of, moves_at}

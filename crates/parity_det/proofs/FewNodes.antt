@@ -13,8 +13,8 @@ use Rattle.exploration.specs.Reached.{IsExplored, LeadsTo}
 use Rattle.exploration.specs.Turns.{Transition}
 use Rattle.letter_classes.specs.SetClasses.{set_edges}
 use Rattle.parity_det.proofs.Explored.{reached_tree, step_given}
-use Rattle.parity_det.proofs.TreeMoves.{tree_classes}
-use Rattle.parity_det.specs.Determinisation.{class_moves, start_tree, tree_moves, width}
+use Rattle.parity_det.proofs.TreeMoves.{start_tree, tree_classes}
+use Rattle.parity_det.specs.Determinisation.{class_moves, tree_moves, width}
 use Rattle.safra_trees.specs.Same.{same_nodes}
 use Rattle.parity_laws.specs.Buchi.{move_of}
 use Rattle.safra_laws.proofs.TreesAfter.{held_below, holds_within}

@@ -15,8 +15,8 @@ use Rattle.exploration.specs.Turns.{Transition, EndsWith}
 use Rattle.letter_classes.proofs.ClassEdges.{all_apart, class_meets, class_of, edge_alike}
 use Rattle.parity_det.proofs.Widths.{wide}
 use Rattle.parity_det.proofs.Explored.{class_at, is_tree, large_fails, same_root_moves, small_given, step_of, within_width}
-use Rattle.parity_det.proofs.TreeMoves.{tree_classes, tree_step_at}
-use Rattle.parity_det.specs.Determinisation.{class_moves, parity_edge, parity_on, start_tree, tree_moves, tree_rules, unless_large, width}
+use Rattle.parity_det.proofs.TreeMoves.{start_tree, tree_classes, tree_step_at}
+use Rattle.parity_det.specs.Determinisation.{class_moves, parity_edge, parity_on, tree_moves, tree_rules, unless_large, width}
 use Rattle.safra_trees.specs.Same.{same_nodes, same_tells}
 use Rattle.parity_det.specs.Promises.{IsParityMinOdd}
 use Rattle.parity_laws.specs.Buchi.{moves_at}

@@ -18,7 +18,8 @@ use Rattle.parity_det.proofs.Formed.{explored_trees, is_determinised, is_parity}
 use Rattle.parity_det.proofs.Widths.{wide}
 use Rattle.parity_det.specs.Complements.{ComplementIsDetermined, IsWithinParity, ParityExcludesLimits, PassesParity}
 use Rattle.parity_det.specs.Determinisation.{DeterminisationIsDetermined, IsDeterminisation, IsTreeForm, MeetsParityLimit, MeetsTreeLimit, ParityIsDetermined, parity_on}
-use Rattle.parity_det.specs.Determinisation.{start_tree, tree_rules, width}
+use Rattle.parity_det.proofs.TreeMoves.{start_tree}
+use Rattle.parity_det.specs.Determinisation.{tree_rules, width}
 use Rattle.parity_det.specs.Promises.{HasFewSets, IsParityMinOdd, ParityHasFewSets}
 use Rattle.parity_det.specs.inner.Systems.{MeetsFirst}
 use Rattle.parity_det.specs.declared.fault.CompFault.{CompFault}

@@ -5,7 +5,8 @@ use Rattle.exploration.specs.Explorations.{IsFaultMet}
 use Rattle.exploration.specs.Turns.{Comes, LimitMet, begin}
 use Rattle.exploration.specs.declared.fault.Fault.{Fault}
 use Rattle.exploration.specs.declared.fault.Fault.TheVariants as limit
-use Rattle.parity_det.specs.Determinisation.{start_tree, tree_rules}
+use Rattle.parity_det.proofs.TreeMoves.{start_tree}
+use Rattle.parity_det.specs.Determinisation.{tree_rules}
 use Rattle.parity_det.specs.Faults.{fault_of_exploration}
 use Rattle.parity_det.specs.inner.Systems.{MeetsFirst}
 use Rattle.parity_det.specs.declared.fault.DetFault.TheVariants as det

@@ -13,7 +13,8 @@ use Rattle.exploration.specs.Turns.{HasOutcome, has_end, has_limit}
 use Rattle.exploration.specs.declared.fault.Fault.{Fault}
 use Rattle.exploration.specs.declared.fault.Fault.TheVariants as limit
 use Rattle.parity_det.specs.Complements.{ComplementExists, IsWithinParity, ParityExists}
-use Rattle.parity_det.specs.Determinisation.{IsDeterminisation, MeetsTreeLimit, parity_on, start_tree, tree_rules}
+use Rattle.parity_det.proofs.TreeMoves.{start_tree}
+use Rattle.parity_det.specs.Determinisation.{IsDeterminisation, MeetsTreeLimit, parity_on, tree_rules}
 use Rattle.parity_det.specs.declared.fault.CompFault.TheVariants as fault
 use Rattle.parity_laws.specs.Complement.{dualised}
 use Rattle.safra_trees.specs.Trees.{Node}

@@ -6,7 +6,11 @@ use Rattle.exploration.specs.TransitionFunctions.{NoSuccessor, StepOutcome}
 use Rattle.letter_classes.specs.SetClasses.{set_classes}
 use Rattle.parity_det.specs.Determinisation.{class_moves, unless_large}
 use Rattle.safra_laws.specs.Rounds.{next_tree}
-use Rattle.safra_trees.specs.Trees.{Node, root_states}
+use Rattle.safra_trees.specs.Trees.{Node, first_tree, root_states}
+
+-- the tree of the starts
+abbrev pub start_tree : Automaton → List Node
+start_tree b = first_tree b.states b.starts
 
 -- the least valuations of the classes of a tree, in order
 abbrev pub tree_classes : Automaton → List Node → List (List Bool)

@@ -5,7 +5,6 @@ use Rattle.aut_base.specs.Automaton.{Automaton}
 use Rattle.aut_base.specs.Valuation.{truth_on}
 use Rattle.aut_base.specs.declared.limit.TheConstants.{MOST_NODES}
 use Rattle.aut_core.specs.SymbolicAutomata.{SymbolicAutomaton, IsWellFormedSymbolic, automaton_of}
-use Rattle.exploration.specs.TransitionFunctions as same
 use Rattle.exploration.specs.TransitionFunctions.{StepFailed, Successor, IsStepAnswer, StepOutcome}
 use Rattle.exploration.specs.declared.fault.StepFault.{StepFault}
 use Rattle.label_guards.specs.Leasts.{bits_of}

@@ -9,8 +9,8 @@ use Rattle.aut_base.specs.declared.limit.TheConstants.{MOST_NODES}
 use Rattle.exploration.specs.Reached.{IsExplored, LeadsTo}
 use Rattle.exploration.specs.Turns.{Transition}
 use Rattle.parity_det.proofs.Explored.{step_given}
-use Rattle.parity_det.proofs.TreeMoves.{tree_classes}
-use Rattle.parity_det.specs.Determinisation.{start_tree, tree_moves, width}
+use Rattle.parity_det.proofs.TreeMoves.{start_tree, tree_classes}
+use Rattle.parity_det.specs.Determinisation.{tree_moves, width}
 use Rattle.safra_trees.specs.Same.{same_nodes}
 use Rattle.safra_laws.proofs.invariant.FirstTree.{tree_if}
 use Rattle.safra_trees.specs.Trees.{Node}

@@ -32,11 +32,7 @@ unless_large t = if leb (length t) MOST_NODES then Successor t else StepFailed
 abbrev pub tree_moves : Automaton → TransitionFunction (List Node)
 tree_moves b = class_steps (λ t. set_classes b (root_states t)) (λ t v. unless_large (next_tree b.states (class_moves b t v) t))
 
--- the tree of the starts
-abbrev pub start_tree : Automaton → List Node
-start_tree b = first_tree b.states b.starts
-
--- the exploration of what that tree leads to
+-- the exploration of trees
 abbrev pub tree_rules : Automaton → Rules (List Node)
 tree_rules b = record { same = same_nodes; moves = tree_moves b; max_states = MOST_TREES; max_classes = MOST_CLASSES }
 
@@ -60,11 +56,11 @@ parity_on trees transitions b = record {
   formula = parity_min_odd (width trees + width trees + 1);
 }
 
--- the automaton made is that of the trees that b leads to
+-- the automaton made is that of the trees to which the tree of the starts of b leads
 pub record IsTreeForm (b made : Automaton) : Type 0 where
   pub trees : List (List Node)
   pub transitions : List Transition
-  pub explored : EndsWith (tree_rules b) (start_tree b) trees transitions
+  pub explored : EndsWith (tree_rules b) (first_tree b.states b.starts) trees transitions
   pub is : made ≡ parity_on trees transitions b
 
 -- The automaton made is b determinised: that of the trees of b, pruned. The parity automaton of an automaton is its Büchi form determinised.
@@ -74,7 +70,7 @@ IsDeterminisation b made = (pruned : Automaton) × IsPruned b pruned × IsTreeFo
 
 -- determinisation of b meets this limit first
 abbrev pub MeetsTreeLimit : Automaton → Fault → Type 0
-MeetsTreeLimit b f = (pruned : Automaton) × IsPruned b pruned × Comes (tree_rules pruned) (begin (start_tree pruned)) (LimitMet f)
+MeetsTreeLimit b f = (pruned : Automaton) × IsPruned b pruned × Comes (tree_rules pruned) (begin (first_tree pruned.states pruned.starts)) (LimitMet f)
 
 -- the Büchi form is within its limits, and its determinisation meets this limit first
 abbrev pub MeetsParityLimit : Automaton → Fault → Type 0

@@ -12,13 +12,13 @@ ghost use Rattle.exploration.specs.declared.fault.Fault.{Fault};
 ghost use Rattle.label_guards.specs.Store.{Keeps};
 ghost use Rattle.letter_classes.specs.SetClasses.{FitsStore, IsClassGuard};
 ghost use Rattle.parity_det.specs.Complements.{IsParityRefusal, IsWithinParity};
-ghost use Rattle.parity_det.specs.Determinisation.{IsDeterminisation, IsTreeForm, MeetsTreeLimit, parity_on, start_tree, tree_moves};
+ghost use Rattle.parity_det.specs.Determinisation.{IsDeterminisation, IsTreeForm, MeetsTreeLimit, parity_on, tree_moves};
 ghost use Rattle.safra_trees.specs.Same.{same_nodes};
 ghost use Rattle.parity_det.specs.Promises.{HasFewSets, IsParityMinOdd};
 ghost use Rattle.parity_det.specs.inner.Systems.{IsClassEvent, MeetsFirst};
 ghost use Rattle.parity_det.specs.declared.fault.CompFault.{CompFault};
 ghost use Rattle.parity_det.specs.declared.fault.DetFault.{DetFault};
-ghost use Rattle.safra_trees.specs.Trees.{root_states};
+ghost use Rattle.safra_trees.specs.Trees.{first_tree, root_states};
 ghost use Rattle.safra_trees.specs.View.{packed_tree};
 
 use crate::fault::{CompFault, DetFault};
@@ -122,7 +122,7 @@ fn built(
     found: &Explored<PackedTree, Guard, Event>,
 ) -> Result<Automaton, Memory>
     requires keeps { Keeps b.now.store guards }
-    requires explored { IsExplored same_nodes (tree_moves (automaton_of b.now)) (start_tree (automaton_of b.now)) (map packed_tree found.now.states.keys) (map transition_of found.now.edges.items) }
+    requires explored { IsExplored same_nodes (tree_moves (automaton_of b.now)) (first_tree b.now.states b.now.starts) (map packed_tree found.now.states.keys) (map transition_of found.now.edges.items) }
     requires sound { IsSound (λ t. FitsStore b.now guards (root_states t)) (λ t k g. IsClassGuard b.now guards (root_states t) k g)
         (λ t k event. IsClassEvent b.now t k event) MOST_TREES (map packed_tree found.now.states.keys) found.now.edges.items }
     ensures few { IfOk result (λ made. made.sets ≤ 2 * MOST_NODES + 1) }

@@ -16,7 +16,7 @@ use Rattle.aut_core.specs.SymbolicAutomata.{SymbolicAutomaton, automaton_of}
 use Rattle.aut_core.specs.Deterministic as core
 use Rattle.aut_ops.specs.Completion.{completed}
 use Rattle.aut_ops.specs.Products.{IsProduct, over_both}
-use Rattle.aut_ops.specs.Sums.{summed}
+use Rattle.aut_ops.specs.Sums.{side_by_side}
 use Rattle.aut_ops.specs.Trimming.{IsTrimmed}
 use Rattle.degeneralise.specs.Buchi.{NeedsTooManyTerms, buchi}
 use Rattle.exploration.specs.declared.fault.Fault.TheVariants as explored
@@ -61,7 +61,7 @@ IsMadeInForm form.Monitor a made = IsMonitorAutomaton a made
 abbrev pub Makes : Change → Automaton → Automaton → Type 0
 Makes (Product b) a made = IsProduct conj (over_both a b a) (over_both a b b) made
 Makes (ProductOr b) a made = IsProduct disj (over_both a b (completed a)) (over_both a b (completed b)) made
-Makes (Sum b) a made = made ≡ summed a b
+Makes (Sum b) a made = made ≡ side_by_side (over_both a b a) (over_both a b b)
 Makes (RemoveAp h) a made = made ≡ hidden h.how h.name a
 Makes Trim a made = IsTrimmed a made
 Makes Complement a made = IsComplementAutomaton a made

@@ -16,7 +16,7 @@ use Rattle.aut_base.specs.Valuation.{truth_on}
 use Rattle.aut_core.specs.Surveys.{edges_from}
 use Rattle.acc_forms.proofs.FormulaSets.{sets_conj, sets_weaker}
 use Rattle.aut_ops.proofs.sinks.Rows.{other_row, own_row, row_of, rows_before}
-use Rattle.aut_ops.specs.Completion.{is_met_unmarked, with_sink, gap_edges, missing_label}
+use Rattle.aut_ops.specs.Completion.{gap_edges, is_met_unmarked, missing_label, with_sink}
 use Rattle.aut_ops.specs.inner.Parts.{filled_edges, sink_marks}
 use Rattle.aut_ops.specs.Labels.{is_never}
 

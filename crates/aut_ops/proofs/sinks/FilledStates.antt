@@ -18,7 +18,7 @@ use Rattle.label_guards.specs.Store.{Has, Keeps, Store, label_in}
 use Rattle.label_guards.specs.declared.guard.Guard.{Guard}
 use Rattle.aut_ops.proofs.links.Labels.{label_always, never_is}
 use Rattle.aut_base.proofs.order.Ordered.{filter_map_of}
-use Rattle.aut_ops.specs.Completion.{with_sink, gap_edges, missing_label}
+use Rattle.aut_ops.specs.Completion.{gap_edges, missing_label, with_sink}
 use Rattle.aut_ops.specs.inner.Parts.{filled_edges, sink_marks}
 use Rattle.aut_ops.specs.Labels.{is_never}
 

@@ -22,7 +22,7 @@ use Rattle.aut_core.specs.Surveys.{AreAllApart, edges_from}
 use Rattle.aut_ops.proofs.sinks.Completions.{edges_own, gap, gap_there, loop, loop_there, old_there, sink_row, state_row, with_sink_formed}
 use Rattle.aut_ops.proofs.links.Labels.{at_letter, never_each, never_false, not_never, truth_none}
 use Rattle.aut_ops.proofs.sinks.SinkRuns.{sink_keeps_language}
-use Rattle.aut_ops.specs.Completion.{completed, lacks_nothing, with_sink, missing_label}
+use Rattle.aut_ops.specs.Completion.{completed, lacks_nothing, missing_label, with_sink}
 use Rattle.aut_ops.specs.Labels.{is_never}
 
 module _ (a : Automaton) (formed : IsWellFormed a) where

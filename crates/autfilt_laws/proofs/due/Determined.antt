@@ -25,7 +25,8 @@ use Rattle.parity_det.proofs.DualSets.{dual_below}
 use Rattle.parity_det.proofs.Formed.{explored_trees}
 use Rattle.parity_det.proofs.ParityLaws.{IsDeterministicForm, form_accepts, form_parity, pruned_formula, same_through}
 use Rattle.parity_det.proofs.Widths.{few_nodes}
-use Rattle.parity_det.specs.Determinisation.{IsDeterminisation, start_tree, tree_rules}
+use Rattle.parity_det.proofs.TreeMoves.{start_tree}
+use Rattle.parity_det.specs.Determinisation.{IsDeterminisation, tree_rules}
 use Rattle.parity_det.specs.Promises.{IsParityMinOdd}
 use Rattle.parity_laws.proofs.complements.Dual.{complements_of_the_same, dual_is_complement}
 use Rattle.parity_laws.specs.Complement.{AreComplementLanguages, dualised}

@@ -41,8 +41,8 @@ use Rattle.monitor_form.specs.Subsets.{IsSubsetForm, monitor_on, start_set, subs
 use Rattle.parity_det.proofs.Explored.{step_of}
 use Rattle.parity_det.proofs.Formed.{explored_trees}
 use Rattle.parity_det.proofs.Widths.{parity_below}
-use Rattle.parity_det.proofs.TreeMoves.{tree_classes}
-use Rattle.parity_det.specs.Determinisation.{IsTreeForm, class_moves, parity_edge, parity_on, start_tree, tree_moves, width}
+use Rattle.parity_det.proofs.TreeMoves.{start_tree, tree_classes}
+use Rattle.parity_det.specs.Determinisation.{IsTreeForm, class_moves, parity_edge, parity_on, tree_moves, width}
 use Rattle.parity_laws.specs.Determinised.{tree_at}
 use Rattle.plan_meaning.proofs.changes.DisjunctiveForm.{terms_below}
 use Rattle.safra_laws.proofs.parity.Least.{priorities_are_below}

@@ -8,7 +8,7 @@ use Rattle.aut_ops.proofs.sinks.CompletedSizes.{completed_sets}
 use Rattle.aut_ops.proofs.pairs.Laws.{few_pairs_exclude_more}
 use Rattle.aut_ops.specs.Completion.{completed}
 use Rattle.aut_ops.specs.Languages.{AcceptsBoth, AcceptsEither}
-use Rattle.aut_ops.specs.Sums.{summed}
+use Rattle.aut_ops.specs.Sums.{side_by_side}
 use Rattle.aut_ops.specs.Products.{IsProduct, over_both}
 use Rattle.aut_base.specs.declared.limit.TheConstants.{MOST_PAIRS}
 use Rattle.plan_meaning.proofs.changes.Stepping.{changed_once}
@@ -45,5 +45,5 @@ product_or_size a b made is few one two =
 pub product_or_sets : (a b : Automaton) → IsOfProductSize a → IsOfReadSize b → (completed a).sets + (completed b).sets < 4294967296
 product_or_sets a b one two = omega (arith, completed_sets a, completed_sets b, one.sets, two.sets)
 
-pub sum_made : (a b made : Automaton) → made ≡ summed a b → AcceptsEither made a b → HaveFewNames a b → IsMadeAsPromised (Sum b ∷ []) a made
+pub sum_made : (a b made : Automaton) → made ≡ side_by_side (over_both a b a) (over_both a b b) → AcceptsEither made a b → HaveFewNames a b → IsMadeAsPromised (Sum b ∷ []) a made
 sum_made a b made is accepts names = changed_once (Sum b) a made (λ which h. omega (arith, names, h.1)) is tt accepts

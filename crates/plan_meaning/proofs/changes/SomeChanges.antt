@@ -13,7 +13,7 @@ use Rattle.aut_core.specs.Deterministic as core
 use Rattle.aut_core.specs.OtherNames.{joined_names}
 use Rattle.aut_ops.specs.Completion.{completed}
 use Rattle.aut_ops.specs.Products.{over_both}
-use Rattle.aut_ops.specs.Sums.{summed}
+use Rattle.aut_ops.specs.Sums.{side_by_side}
 use Rattle.degeneralise.specs.Buchi.{buchi, buchi_states}
 use Rattle.aut_ops.proofs.pairs.Existence.{products_exist}
 use Rattle.aut_ops.proofs.flagged.SomeFlags.{trimmed_exists}
@@ -77,7 +77,7 @@ some_made ops (ProductOr b) a asked within none =
       | inl made ↦ none made.0 made.1
       | inr more ↦ within limit.Pairs (few_names a b (within limit.Names), more)
     ]
-some_made ops (Sum b) a asked within none = none (summed a b) refl
+some_made ops (Sum b) a asked within none = none (side_by_side (over_both a b a) (over_both a b b)) refl
 some_made ops (RemoveAp h) a asked within none = none (hidden h.how h.name a) refl
 some_made ops Trim a asked within none = trimmed_exists a none
 some_made ops Complement a asked within none = complement_exists a (λ other. within_parity a (λ which passes. within which (other, passes))) none

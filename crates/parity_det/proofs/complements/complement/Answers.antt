@@ -12,6 +12,14 @@ with_formula-requires c =
     subst (SetsBelow c.in_ok-own.own.sets) (sym (c.in_ok-formula.ensures.tree ∙ ap dual c.formula.ensures))
     (dual_below c.in_ok-own.own.sets c.in_ok-own.own.formula c.well_formedness-2.ensures.well_formed.formula)
 
+pub returns-clause-shape : goal.returns-clause-shape
+returns-clause-shape c = record {
+  form = automaton_of c.in_ok-own.own;
+  is_form = c.in_ok-own.ensures.shape;
+  is = ap (λ (k : SymbolicAutomaton). automaton_of k) c.with_formula.ensures
+      ∙ ap (λ (f : FormulaTree). automaton_of (record c.in_ok-own.own { formula = f })) (c.in_ok-formula.ensures.tree ∙ ap dual c.formula.ensures);
+}
+
 pub returns-clause-complements : goal.returns-clause-complements
 returns-clause-complements c =
     let a = automaton_of c.args.a.now in

@@ -10,7 +10,8 @@ use Rattle.exploration.specs.declared.fault.Fault.{Fault}
 use Rattle.exploration.specs.declared.fault.Fault.TheVariants as limit
 use Rattle.label_guards.specs.Store.{Keeps, Store}
 use Rattle.letter_classes.specs.SetClasses.{FitsStore, IsClassGuard}
-use Rattle.parity_det.specs.Determinisation.{start_tree, tree_moves, tree_rules}
+use Rattle.parity_det.proofs.TreeMoves.{start_tree}
+use Rattle.parity_det.specs.Determinisation.{tree_moves, tree_rules}
 use Rattle.parity_det.specs.inner.Systems.{IsClassEvent, MeetsFirst}
 use Rattle.parity_det.proofs.Refused.{classes_fault, met_first, nodes_fault, trees_fault}
 use Rattle.safra_trees.specs.Same.{same_nodes}
