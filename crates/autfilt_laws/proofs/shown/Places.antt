@@ -66,9 +66,9 @@ deep_is_shown start text h =
       asked_for_token start text h.tokens h.used h.rest h.next_token h.offset h.after h.begun h.next c,
     )
 
-ends_so : (some blank open : Type 0) → some × blank ⊎ open → blank ⊎ open
-ends_so some blank open (inl h) = inl h.1
-ends_so some blank open (inr h) = inr h
+ends_so : (some blank other : Type 0) → some × blank ⊎ other → blank ⊎ other
+ends_so some blank other (inl h) = inl h.1
+ends_so some blank other (inr h) = inr h
 
 pub cut_is_shown : CutIsShown
 cut_is_shown start text h = record {
