@@ -47,17 +47,14 @@ pub record Counted : Type 0 where
   pub count : ℕ
   pub most : ℕ
 
-abbrev pub counted : Limit → ℕ → ℕ → Counted
-counted which count most = record { which = which; count = count; most = most }
-
 -- all of them, in the order in which they are examined
 abbrev pub limit_counts : Written → List Counted
 limit_counts w =
-    counted limit.Names (length (written_names w)) MOST_NAMES
-    ∷ counted limit.Sets (acceptance_of w).sets MOST_SETS
-    ∷ counted limit.States (state_count w) MOST_STATES
-    ∷ counted limit.Edges (length (edges_of w)) MOST_EDGES
-    ∷ counted limit.Aliases (growth w) MOST_ALIASES
+    record { which = limit.Names; count = length (written_names w); most = MOST_NAMES }
+    ∷ record { which = limit.Sets; count = (acceptance_of w).sets; most = MOST_SETS }
+    ∷ record { which = limit.States; count = state_count w; most = MOST_STATES }
+    ∷ record { which = limit.Edges; count = length (edges_of w); most = MOST_EDGES }
+    ∷ record { which = limit.Aliases; count = growth w; most = MOST_ALIASES }
     ∷ []
 
 abbrev pub IsCountWithin : Counted → Type 0
