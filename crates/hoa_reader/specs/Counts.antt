@@ -7,7 +7,7 @@ use Rattle.aut_base.specs.Label.{LabelTree, LabelTrees, label_size}
 use Rattle.aut_base.specs.declared.limit.Limit.{Limit}
 use Rattle.aut_base.specs.declared.limit.Limit.TheVariants as limit
 use Rattle.aut_base.specs.declared.limit.TheConstants.{MOST_NAMES, MOST_SETS, MOST_STATES, MOST_EDGES, MOST_ALIASES}
-use Rattle.hoa_reader.specs.Described.{edges_of, expanded, greatest, meanings_of, state_count}
+use Rattle.hoa_reader.specs.Described.{described, expanded, greatest, meanings_of, state_count}
 use Rattle.hoa_parser.specs.Raw.{RawTree, Written}
 use Rattle.hoa_reader.specs.Validity.{acceptance_of, aliases_among, body_labels, written_names}
 
@@ -47,17 +47,14 @@ pub record Counted : Type 0 where
   pub count : ℕ
   pub most : ℕ
 
-abbrev pub counted : Limit → ℕ → ℕ → Counted
-counted which count most = record { which = which; count = count; most = most }
-
 -- all of them, in the order in which they are examined
 abbrev pub limit_counts : Written → List Counted
 limit_counts w =
-    counted limit.Names (length (written_names w)) MOST_NAMES
-    ∷ counted limit.Sets (acceptance_of w).sets MOST_SETS
-    ∷ counted limit.States (state_count w) MOST_STATES
-    ∷ counted limit.Edges (length (edges_of w)) MOST_EDGES
-    ∷ counted limit.Aliases (growth w) MOST_ALIASES
+    record { which = limit.Names; count = length (written_names w); most = MOST_NAMES }
+    ∷ record { which = limit.Sets; count = (acceptance_of w).sets; most = MOST_SETS }
+    ∷ record { which = limit.States; count = state_count w; most = MOST_STATES }
+    ∷ record { which = limit.Edges; count = length (described w).edges; most = MOST_EDGES }
+    ∷ record { which = limit.Aliases; count = growth w; most = MOST_ALIASES }
     ∷ []
 
 abbrev pub IsCountWithin : Counted → Type 0

@@ -32,16 +32,13 @@ pub record Meaning : Type 0 where
   pub name : List ℕ
   pub label : LabelTree
 
-abbrev pub meaning_of : List Meaning → List ℕ → LabelTree
-meaning_of meanings name = option_map_or (λ m. m.label) (find (λ m. same_text m.name name) meanings) LabelTree.False
-
 -- the label with each alias replaced by what it stands for
 abbrev mutual
   pub expanded : List Meaning → RawTree → LabelTree
   expanded meanings raw.True = LabelTree.True
   expanded meanings raw.False = LabelTree.False
   expanded meanings (raw.Prop i) = LabelTree.Prop i
-  expanded meanings (raw.Alias name) = meaning_of meanings name
+  expanded meanings (raw.Alias name) = option_map_or (λ m. m.label) (find (λ m. same_text m.name name) meanings) LabelTree.False
   expanded meanings (raw.Not t) = LabelTree.Not (expanded meanings t)
   expanded meanings (raw.And a b cs) = LabelTree.And (expanded meanings a) (expanded meanings b) (each_expanded meanings cs)
   expanded meanings (raw.Or a b cs) = LabelTree.Or (expanded meanings a) (expanded meanings b) (each_expanded meanings cs)
@@ -66,12 +63,8 @@ literal i k = if (i / (2 ^ k)) % 2 == 1 then LabelTree.Prop k else LabelTree.Not
 abbrev pub letter_label : ℕ → ℕ → LabelTree
 letter_label n i = all_of (map (literal i) (below n))
 
--- the sets that are among these marks, in order
-abbrev pub marks_in_order : ℕ → List ℕ → List ℕ
-marks_in_order sets marks = filter (λ set. is_in set marks) (below sets)
-
--- The i-th edge of a state. Its label is the state's if it has one, else the edge's own, else the letter's. It is in the state's sets and in
--- its own.
+-- The i-th edge of a state. Its label is the state's if it has one, else the edge's own, else the letter's. Its marks are the state's and its
+-- own, in order.
 abbrev pub tree_edge_of : Written → WrittenState → ℕ → WrittenEdge → LabelledEdge
 tree_edge_of w s i e = record {
   from = s.number;
@@ -79,22 +72,19 @@ tree_edge_of w s i e = record {
       option_map_or (expanded (meanings_of w)) s.label
       (option_map_or (expanded (meanings_of w)) e.label (letter_label (length (written_names w)) i));
   to = get_or e.to 0 0;
-  marks = marks_in_order (acceptance_of w).sets (s.marks ++ e.marks);
+  marks = filter (λ set. is_in set (s.marks ++ e.marks)) (below (acceptance_of w).sets);
 }
 
 abbrev pub tree_edges_of : Written → WrittenState → List LabelledEdge
 tree_edges_of w s = map (λ p. tree_edge_of w s p.0 p.1) (enumerate_from 0 s.edges)
 
--- those of each state, in order; a state has none where the body doesn't define it
-abbrev pub edges_of : Written → List LabelledEdge
-edges_of w = flat_map (λ q. flat_map (tree_edges_of w) (filter (λ s. s.number == q) w.states)) (below (state_count w))
-
+-- Its edges are those of each state, in order. A state has none where the body doesn't define it.
 abbrev pub described : Written → Automaton
 described w = record {
   names = written_names w;
   starts = distinct ◌==◌ (map (λ states. get_or states 0 0) (starts_written w));
   states = state_count w;
-  edges = edges_of w;
+  edges = flat_map (λ q. flat_map (tree_edges_of w) (filter (λ s. s.number == q) w.states)) (below (state_count w));
   sets = (acceptance_of w).sets;
   formula = (acceptance_of w).formula;
 }

@@ -166,7 +166,7 @@ marks_below n s = numbers_below n s.marks && list_all (λ e. numbers_below n e.m
 abbrev pub no_edge_labelled : WrittenState → Bool
 no_edge_labelled s = list_all (λ e. is_none e.label) s.edges
 
--- The state has a label, or no edges, or one for each letter over n names.
+-- It has no edges, or one for each letter over n names, or a label on it or on an edge.
 abbrev pub has_edge_per_letter : ℕ → WrittenState → Bool
 has_edge_per_letter n s = (length s.edges == 0) || ((length s.edges == 2 ^ n) || not (is_none s.label && no_edge_labelled s))
 

@@ -1,7 +1,8 @@
 -- The canonical text of an automaton, line by line (HOA v1, with explicit labels and marks on edges).
-use Rattle.std.specs.Prelude.{ℕ, Bool, true, false, ◌==◌, if◌then◌else◌, List, [], ◌∷◌, ◌++◌, length, map, filter, flat_map, codes, Option, Some, None}
+use Rattle.std.specs.Prelude.{ℕ, Bool, true, false, ◌==◌, if◌then◌else◌, List, [], ◌∷◌, ◌++◌, length, map, filter, flat_map, codes, Option}
 use Rattle.std.specs.Fmt.{decimal}
 use Rattle.std.specs.List.{range_with_len}
+use Rattle.std.specs.Option.{option_map_or}
 use Rattle.aut_base.specs.Automaton.{LabelledEdge, Automaton}
 use Rattle.aut_base.specs.Formula.{FormulaTree, FormulaTrees, True, False, Inf, Fin, And, Or, none, more}
 use Rattle.aut_base.specs.LabelText.{joined, label_text}
@@ -48,14 +49,10 @@ abbrev pub state_lines : Automaton → ℕ → List ℕ
 state_lines a q =
     line (codes "State: " ++ decimal q) ++ flat_map (edge_line (length a.names)) (filter (λ e. e.from == q) a.edges)
 
-abbrev pub name_line : Option (List ℕ) → List ℕ
-name_line None = []
-name_line (Some name) = line (codes "name: " ++ quoted name)
-
 abbrev pub header_lines : Automaton → Option (List ℕ) → List ℕ
 header_lines a name =
-    line (codes "HOA: v1") ++ (name_line name ++ (line (codes "States: " ++ decimal a.states)
-    ++ (flat_map (λ s. line (codes "Start: " ++ decimal s)) a.starts
+    line (codes "HOA: v1") ++ (option_map_or (λ text. line (codes "name: " ++ quoted text)) name []
+    ++ (line (codes "States: " ++ decimal a.states) ++ (flat_map (λ s. line (codes "Start: " ++ decimal s)) a.starts
     ++ (line (codes "AP: " ++ (decimal (length a.names) ++ flat_map (λ name. codes " " ++ quoted name) a.names))
     ++ (line (codes "Acceptance: " ++ (decimal a.sets ++ (codes " " ++ formula_text a.formula)))
     ++ line (codes "properties: trans-labels explicit-labels trans-acc"))))))

@@ -7,9 +7,9 @@ ghost use Rattle.std.specs.Fmt.{decimal};
 ghost use Rattle.aut_base.specs.declared.limit.TheConstants.{MOST_NAMES};
 ghost use Rattle.aut_base.specs.Formula.{formula_tree};
 ghost use Rattle.aut_base.specs.Text.{line};
-ghost use Rattle.hoa_writer.specs.CanonicalText.{formula_text, edge_line, state_lines, name_line, header_lines, canonical_text};
+ghost use Rattle.hoa_writer.specs.CanonicalText.{formula_text, edge_line, state_lines, header_lines, canonical_text};
 ghost use Rattle.hoa_writer.specs.CanonicalWritten.{ReadsBack};
-ghost use Rattle.hoa_writer.specs.inner.Lines.{start_lines, names_line, link_line};
+ghost use Rattle.hoa_writer.specs.inner.Lines.{name_line, start_lines, names_line, link_line};
 ghost use Rattle.aut_core.specs.SymbolicAutomata.{automaton_of};
 ghost use Rattle.label_guards.specs.Store.{Has};
 

@@ -14,13 +14,13 @@ within_or_over c passes within = false≢true (sym within ∙ passes)
 
 pub no_count : (which : Limit) (w : Written) → PassesLimit which w → PassesNone w → ⊥
 no_count which w a h =
-    let (c, first, passes, shown) = a.1 in
+    let (valid, c, first, passes, shown) = a in
     let all = subst (AllByRecursion IsCountWithin) first.all h in
     within_or_over c passes (AllByRecursion-right IsCountWithin first.before (c ∷ first.after) all).0
 
 pub one_limit : (x y : Limit) (w : Written) → PassesLimit x w → PassesLimit y w → x ≡ y
 one_limit x y w p q =
-    let (c, a, over, shown) = p.1 in
-    let (d, b, over', shown') = q.1 in
+    let (valid, c, a, over, shown) = p in
+    let (valid', d, b, over', shown') = q in
     let same = one_first_in IsCountWithin a.before a.after b.before b.after c d (sym a.all ∙ b.all) a.earlier b.earlier (within_or_over c over) (within_or_over d over') in
     shown ∙ ap (λ (one : Counted). one.which) same ∙ sym shown'

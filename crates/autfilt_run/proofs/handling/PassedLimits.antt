@@ -51,7 +51,7 @@ pub counts_pass : (which : Limit) (w : Written) → PassesLimit which w → IsOf
 counts_pass which w h =
     let P : Counted → Type 0 = λ c. IsOfWhole c.which in
     let each : AllByRecursion P (limit_counts w) = (refl, (refl, (refl, (refl, (refl, tt))))) in
-    let (c, first, over, shown) = h.1 in
+    let (valid, c, first, over, shown) = h in
     let parts = subst (AllByRecursion P) first.all each in
     ap is_of_whole shown ∙ (AllByRecursion-right P first.before (c ∷ first.after) parts).0
 

@@ -7,9 +7,9 @@ use Rattle.std.proofs.lemmas.List.FromFn.{length-enumerate_from}
 use Rattle.std.specs.Prelude.{filter_map, flat_map}
 use Rattle.std.specs.List.{AllByRecursion, enumerate_from}
 use Rattle.aut_base.specs.Automaton.{LabelledEdge}
-use Rattle.hoa_reader.proofs.description.StatesInRange.{tree_edges_from}
+use Rattle.hoa_reader.proofs.description.StatesInRange.{edges_of, tree_edges_from}
 use Rattle.hoa_reader.proofs.description.WellFormed.{AreBelow, used_are_below}
-use Rattle.hoa_reader.specs.Described.{tree_edge_of, tree_edges_of, below, edges_of, state_count}
+use Rattle.hoa_reader.specs.Described.{tree_edge_of, tree_edges_of, below, state_count}
 use Rattle.hoa_parser.specs.Raw.{Written, WrittenEdge, WrittenState}
 use Rattle.hoa_reader.specs.Validity.{edges_written, keeps_rule, starts_written, states_item, used_states}
 use Rattle.hoa_reader.specs.inner.Weighing.{all_edges}

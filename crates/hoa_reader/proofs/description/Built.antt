@@ -15,7 +15,8 @@ use Rattle.hoa_reader.proofs.description.Framed.{framed_edges}
 use Rattle.hoa_reader.proofs.description.OneWay.{one_way}
 use Rattle.hoa_reader.proofs.description.WellFormed.{valid_is_well_formed}
 use Rattle.hoa_reader.specs.Counts.{PassesNone}
-use Rattle.hoa_reader.specs.Described.{described, edges_of}
+use Rattle.hoa_reader.specs.Described.{described}
+use Rattle.hoa_reader.proofs.description.StatesInRange.{edges_of}
 use Rattle.hoa_reader.specs.Validity.{written_names}
 use Rattle.hoa_reader.specs.declared.elaborate.body.Body.{Body}
 use Rattle.hoa_reader.specs.declared.elaborate.edges.Shared.{Shared}

@@ -8,8 +8,9 @@ use Rattle.aut_base.specs.Automaton.{LabelledEdge}
 use Rattle.aut_base.specs.Label.{AllBelow}
 use Rattle.hoa_parser.specs.Raw.{Written, WrittenEdge, WrittenState}
 use Rattle.hoa_reader.proofs.description.WellFormed.{valid_labels}
-use Rattle.hoa_reader.specs.Described.{Meaning, below, edges_of, expanded, letter_label, marks_in_order, meanings_of}
-use Rattle.hoa_reader.specs.inner.Numbers.{only_state}
+use Rattle.hoa_reader.specs.Described.{Meaning, below, expanded, letter_label, meanings_of}
+use Rattle.hoa_reader.proofs.description.StatesInRange.{edges_of}
+use Rattle.hoa_reader.specs.inner.Numbers.{marks_in_order, only_state}
 use Rattle.hoa_reader.specs.Validity.{marks_below, written_names}
 use Rattle.hoa_reader.specs.declared.elaborate.edges.Shared.{Shared}
 use Rattle.hoa_reader.specs.declared.elaborate.frame.Frame.{Frame}

@@ -8,7 +8,8 @@ use Rattle.aut_base.specs.Formula as formula
 use Rattle.aut_base.specs.Formula.{EachSetsBelow, FormulaTree, FormulaTrees, SetsBelow}
 use Rattle.aut_base.specs.Label as label
 use Rattle.aut_base.specs.Label.{AllBelow, EachBelow, LabelTree}
-use Rattle.hoa_reader.specs.Described.{Meaning, below, each_expanded, expanded, letter_label, literal, meaning_of, meanings_after}
+use Rattle.hoa_reader.specs.Described.{Meaning, below, each_expanded, expanded, letter_label, literal, meanings_after}
+use Rattle.hoa_reader.proofs.labels.Meanings.{meaning_of}
 use Rattle.hoa_parser.specs.Raw as raw
 use Rattle.hoa_parser.specs.Raw.{RawTree, RawTrees}
 use Rattle.aut_base.specs.Text.{same_text}

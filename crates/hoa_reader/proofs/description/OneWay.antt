@@ -17,9 +17,9 @@ use Rattle.aut_base.specs.Label.{LabelTree, holds_at, truth}
 use Rattle.aut_base.specs.Word.{NameSet}
 use Rattle.aut_core.specs.Deterministic.{AreApart, GoesOneWay, is_met}
 use Rattle.hoa_parser.specs.Raw.{RawTree, Written, WrittenEdge, WrittenState}
-use Rattle.hoa_reader.proofs.description.StatesInRange.{tree_edges_from}
+use Rattle.hoa_reader.proofs.description.StatesInRange.{edges_of, tree_edges_from}
 use Rattle.hoa_reader.proofs.labels.LettersApart.{letter_of_all, number_small, number_there, one_number, settled_letter}
-use Rattle.hoa_reader.specs.Described.{below, described, edges_of, expanded, letter_label, meanings_of, state_count, tree_edge_of, tree_edges_of}
+use Rattle.hoa_reader.specs.Described.{below, described, expanded, letter_label, meanings_of, state_count, tree_edge_of, tree_edges_of}
 use Rattle.hoa_reader.specs.Validity.{no_edge_labelled, written_names}
 use Rattle.hoa_reader.specs.declared.elaborate.frame.Frame.{Frame}
 use Rattle.hoa_reader.specs.inner.Frames.{IsFrameOf}

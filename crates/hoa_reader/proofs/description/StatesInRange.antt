@@ -8,13 +8,16 @@ use Rattle.std.specs.List.{AllByRecursion, enumerate_from}
 use Rattle.std.specs.List.Sorted.{IsNonDecreasing}
 use Rattle.aut_base.specs.Automaton.{LabelledEdge}
 use Rattle.hoa_reader.proofs.description.LabelsInRange.{numbers_are_below}
-use Rattle.hoa_reader.specs.Described.{tree_edge_of, tree_edges_of, below, edges_of, state_count}
+use Rattle.hoa_reader.specs.Described.{tree_edge_of, tree_edges_of, below, described, state_count}
 use Rattle.hoa_reader.specs.inner.Numbers.{after_all, without_repeats}
 use Rattle.hoa_parser.specs.Raw.{Written, WrittenEdge, WrittenState}
 use Rattle.aut_base.proofs.lists.AllByRecursion.{AllByRecursion-of_each, AllByRecursion-append, AllByRecursion-filter, AllByRecursion-filter_passes}
 use Rattle.aut_base.proofs.lists.AllByRecursion.{AllByRecursion-flat_map, AllByRecursion-map, AllByRecursion-weaker}
 use Rattle.aut_base.proofs.numbers.Numbers.{other_number}
 use Rattle.std.proofs.lemmas.List.Elements.{All-from_recursion}
+
+abbrev pub edges_of : Written → List LabelledEdge
+edges_of w = (described w).edges
 
 -- the edges of the states of this number
 abbrev pub tree_edges_from : Written → ℕ → List LabelledEdge

@@ -13,8 +13,8 @@ use Rattle.aut_base.specs.Automaton.{LabelledEdge, IsEdgeOf, IsWellFormed}
 use Rattle.aut_base.specs.Label.{AllBelow, LabelTree}
 use Rattle.aut_base.specs.Marks.{is_in}
 use Rattle.hoa_reader.proofs.description.LabelsInRange.{MeansBelow, expanded_below, letter_below, meanings_below, numbers_are_below, sets_in_range}
-use Rattle.hoa_reader.proofs.description.StatesInRange.{all_used_below, all_without_repeats, edges_in_order, they_differ, tree_edges_from}
-use Rattle.hoa_reader.specs.Described.{Meaning, tree_edge_of, tree_edges_of, below, described, edges_of, expanded}
+use Rattle.hoa_reader.proofs.description.StatesInRange.{all_used_below, all_without_repeats, edges_in_order, edges_of, they_differ, tree_edges_from}
+use Rattle.hoa_reader.specs.Described.{Meaning, tree_edge_of, tree_edges_of, below, described, expanded}
 use Rattle.hoa_reader.specs.inner.Numbers.{after_all, only_state}
 use Rattle.hoa_reader.specs.Described.{meanings_of, state_count}
 use Rattle.hoa_parser.specs.Raw.{RawTree, Written, WrittenEdge, WrittenState}

@@ -11,7 +11,7 @@ use Rattle.std.specs.Option.{option_map_or}
 use Rattle.aut_base.specs.Label as label
 use Rattle.aut_base.specs.Label.{LabelTree, LabelTrees, label_size, labels_size}
 use Rattle.hoa_reader.specs.Counts.{greatest_height, height}
-use Rattle.hoa_reader.specs.Described.{Meaning, each_expanded, expanded, meaning_of, meanings_after}
+use Rattle.hoa_reader.specs.Described.{Meaning, each_expanded, expanded, meanings_after}
 use Rattle.hoa_reader.specs.inner.Growing.{AreAliasesKnown, IsKnownAs, IsKnownBy, alias_name, cap, capped_height, capped_heights, capped_size, capped_sizes}
 use Rattle.hoa_reader.specs.inner.Growing.{known_height, known_size, meaning_names, meanings_by}
 use Rattle.hoa_reader.specs.inner.PickedOut.{alias_def, line_names}
@@ -35,6 +35,10 @@ names_after ms (line ∷ lines) =
     names_after (ms ++ m ∷ []) lines
     ∙ ap (λ ns. ns ++ line_names lines) (map-append (λ (m : Meaning). m.name) ms (m ∷ []))
     ∙ append_assoc (meaning_names ms) (line.name ∷ []) (line_names lines)
+
+-- what the alias stands for
+abbrev pub meaning_of : List Meaning → List ℕ → LabelTree
+meaning_of ms name = expanded ms (raw.Alias name)
 
 -- the label that was found
 abbrev told : Option Meaning → LabelTree

@@ -6,7 +6,7 @@ use Rattle.aut_core.specs.SymbolicAutomata.{SymbolicAutomaton}
 use Rattle.aut_core.specs.Links.{StandFor}
 use Rattle.hoa_parser.specs.Raw.{Written}
 use Rattle.hoa_reader.specs.Counts.{PassesNone}
-use Rattle.hoa_reader.specs.Described.{described, edges_of, state_count}
+use Rattle.hoa_reader.specs.Described.{described, state_count}
 use Rattle.hoa_reader.specs.Validity.{IsValid, acceptance_of, written_names}
 use Rattle.hoa_reader.specs.declared.elaborate.body.Body.{Body}
 use Rattle.hoa_reader.specs.inner.Implicit.{AreImplicit}
@@ -21,7 +21,7 @@ pub record IsBodyOf (w : Written) (b : Body) : Type 0 where
   pub states : b.states ≡ state_count w
   pub sets : b.sets ≡ (acceptance_of w).sets
   pub count : b.guards.names ≡ length (written_names w)
-  pub stand : StandFor b.guards b.links (map (settled (length (written_names w))) (edges_of w))
+  pub stand : StandFor b.guards b.links (map (settled (length (written_names w))) (described w).edges)
   pub implicit : IsTrue b.implicit → AreImplicit (length (written_names w)) (state_count w) w.states
 
 -- the automaton of names, of a condition and of the rest

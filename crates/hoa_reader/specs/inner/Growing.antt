@@ -2,7 +2,7 @@
 use Rattle.std.specs.Prelude.{◌≡◌, ◌+◌, ◌-◌, ◌*◌, ◌^◌, min, max, ℕ, true, false, List, [], map, Option, Some, None, slice_get}
 use Rattle.aut_base.specs.Label.{LabelTree, label_size}
 use Rattle.hoa_reader.specs.Counts.{height}
-use Rattle.hoa_reader.specs.Described.{Meaning, expanded, meaning_of, meanings_after}
+use Rattle.hoa_reader.specs.Described.{Meaning, expanded, meanings_after}
 use Rattle.hoa_reader.specs.inner.PickedOut.{alias_def}
 use Rattle.hoa_reader.specs.inner.Places.{is_listed, place_in}
 use Rattle.hoa_parser.specs.Raw as raw
@@ -82,7 +82,7 @@ pub record IsKnownAs (ms : List Meaning) (defs : List AliasDef) (meaning : Label
 
 pub record IsKnownOne (ms : List Meaning) (defs : List AliasDef) (name : List ℕ) (k : Known) : Type 0 where
   pub listed : is_listed (meaning_names ms) name ≡ true
-  pub known : IsKnownAs ms defs (meaning_of ms name) k
+  pub known : IsKnownAs ms defs (expanded ms (raw.Alias name)) k
 
 abbrev pub IsKnownBy : List Meaning → List AliasDef → List ℕ → Option Known → Type 0
 IsKnownBy ms defs name None = is_listed (meaning_names ms) name ≡ false

@@ -5,8 +5,8 @@ use Rattle.std.specs.Option.{option_map_or}
 use Rattle.aut_base.specs.Automaton.{LabelledEdge}
 use Rattle.aut_base.specs.CanonicalLabel.{canonical_label}
 use Rattle.aut_base.specs.Label.{AllBelow, LabelTree, LabelTrees, trees}
-use Rattle.hoa_reader.specs.Described.{below, expanded, letter_label, marks_in_order}
-use Rattle.hoa_reader.specs.inner.Numbers.{only_state}
+use Rattle.hoa_reader.specs.Described.{below, expanded, letter_label}
+use Rattle.hoa_reader.specs.inner.Numbers.{marks_in_order, only_state}
 use Rattle.hoa_reader.specs.inner.Growing.{AreAliasesKnown, meanings_by}
 use Rattle.hoa_parser.specs.Raw.{RawTree, WrittenEdge, WrittenState, raw_list}
 use Rattle.hoa_parser.specs.declared.raw.RawLabels.{RawLabels}

@@ -5,7 +5,7 @@ ghost use Rattle.std.specs.List.{list_all};
 ghost use Rattle.std.specs.Option.{option_map};
 ghost use Rattle.aut_base.specs.Automaton.{labelled_edge};
 ghost use Rattle.aut_base.specs.Label.{label_tree};
-ghost use Rattle.hoa_reader.specs.Described.{marks_in_order};
+ghost use Rattle.hoa_reader.specs.inner.Numbers.{marks_in_order};
 ghost use Rattle.hoa_reader.specs.inner.TreeEdges.{HasKnown, IsPlace, tree_edge_for, tree_edges_for, edges_for, label_for, label_written};
 ghost use Rattle.hoa_reader.specs.inner.PickedOut.{label_refs, numbers};
 ghost use Rattle.hoa_parser.specs.Raw.{written_edge, written_state};

@@ -11,9 +11,9 @@ use Rattle.aut_base.specs.Automaton.{LabelledEdge, Automaton, IsEdgeOf, IsWellFo
 use Rattle.aut_base.specs.Formula.{FormulaTree}
 use Rattle.aut_base.specs.Label.{LabelTree}
 use Rattle.hoa_reader.proofs.description.LabelsInRange.{numbers_are_below}
-use Rattle.hoa_reader.proofs.description.StatesInRange.{tree_edges_from}
-use Rattle.hoa_reader.specs.Described.{tree_edge_of, tree_edges_of, below, described, edges_of, marks_in_order, meanings_of}
-use Rattle.hoa_reader.specs.inner.Numbers.{after_all, only_state, without_repeats}
+use Rattle.hoa_reader.proofs.description.StatesInRange.{edges_of, tree_edges_from}
+use Rattle.hoa_reader.specs.Described.{tree_edge_of, tree_edges_of, below, described, meanings_of}
+use Rattle.hoa_reader.specs.inner.Numbers.{after_all, marks_in_order, only_state, without_repeats}
 use Rattle.hoa_parser.specs.Raw.{Written, WrittenState}
 use Rattle.hoa_reader.specs.Validity.{AcceptanceLine, acceptance_of, used_states}
 use Rattle.hoa_writer.proofs.round_trip.CanonicalLines.{acceptance_found, names_found, starts_found, states_found}

@@ -21,7 +21,8 @@ use Rattle.hoa_parser.specs.Raw as raw
 use Rattle.hoa_parser.specs.Raw.{Written}
 use Rattle.aut_base.specs.LabelText.{joined}
 use Rattle.aut_base.specs.Text.{line}
-use Rattle.hoa_writer.specs.CanonicalText.{quoted, marks_text, edge_line, state_lines, name_line, header_lines, canonical_text, formula_text}
+use Rattle.hoa_writer.specs.inner.Lines.{name_line}
+use Rattle.hoa_writer.specs.CanonicalText.{quoted, marks_text, edge_line, state_lines, header_lines, canonical_text, formula_text}
 use Rattle.hoa_writer.specs.CanonicalWritten.{canonical_edge, canonical_state, name_items, canonical_items, canonical_written}
 use Rattle.hoa_writer.proofs.spelling.ConditionsSpelled.{text_condition, text_condition_means, condition_spelled}
 use Rattle.hoa_writer.proofs.spelling.LabelsSpelled.{text_label, text_label_means, label_spelled}

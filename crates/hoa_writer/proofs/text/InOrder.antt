@@ -3,8 +3,8 @@ use Rattle.aut_base.proofs.lists.AllByRecursion.{AllByRecursion-weaker}
 use Rattle.aut_base.proofs.order.Ordered.{At, Pairs, Under, all_kept, filter_by_one, flat_map_same, none_kept, none_pass, pairs_weaker, under_more, under_zero}
 use Rattle.aut_base.specs.Marks.{is_in}
 use Rattle.hoa_reader.proofs.description.LabelsInRange.{numbers_are_below}
-use Rattle.hoa_reader.specs.Described.{below, marks_in_order}
-use Rattle.hoa_reader.specs.inner.Numbers.{without_repeats}
+use Rattle.hoa_reader.specs.Described.{below}
+use Rattle.hoa_reader.specs.inner.Numbers.{marks_in_order, without_repeats}
 use Rattle.hoa_reader.specs.Validity.{all_differ}
 use Rattle.std.proofs.Common.{◌≡◌, ◌≢◌, ◌==◌, ◌<◌, ◌≤◌, ℕ, zero, suc, Bool, true, false, not, cond, ◌&&◌, ◌||◌, List, [], ◌∷◌, ◌++◌, filter, nat_lt, refl, sym, ap, ◌∙◌, arith}
 use Rattle.std.proofs.lemmas.Bool.{eqb-true, lt-ltb, ne_eqb}

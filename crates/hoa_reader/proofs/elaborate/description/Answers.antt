@@ -7,7 +7,7 @@ use Rattle.hoa_parser.specs.declared.raw.Item.{Item}
 use Rattle.hoa_parser.specs.declared.raw.RawState.{RawState}
 use Rattle.hoa_reader.proofs.description.Framed.{framed_edges, framed_marks}
 use Rattle.hoa_reader.proofs.validity.NamesDiffer.{valid_names}
-use Rattle.hoa_reader.specs.Described.{edges_of}
+use Rattle.hoa_reader.proofs.description.StatesInRange.{edges_of}
 use Rattle.hoa_reader.specs.Validity.{acceptance_item, marks_below}
 use Rattle.hoa_reader.specs.inner.Frames.{IsSharedBy}
 use Rattle.hoa_reader.specs.inner.Headers.{first_names}

@@ -6,8 +6,8 @@ use Rattle.std.specs.Prelude.{codes}
 use Rattle.aut_base.specs.Formula.{formula_tree}
 use Rattle.aut_base.specs.declared.limit.TheConstants.{MOST_NAMES}
 use Rattle.aut_base.specs.Text.{line}
-use Rattle.hoa_writer.specs.CanonicalText.{formula_text, name_line}
-use Rattle.hoa_writer.specs.inner.Lines.{start_lines, names_line}
+use Rattle.hoa_writer.specs.CanonicalText.{formula_text}
+use Rattle.hoa_writer.specs.inner.Lines.{name_line, start_lines, names_line}
 use Rattle.hoa_writer.proofs.text.JoinedTexts.{seven_written}
 use Rattle.hoa_writer.proofs.write.push_header.Goals as goal
 

@@ -30,6 +30,7 @@ returns-else-aliases_props_below c =
     let aliases : false ≡ list_all (λ (line : AliasLine). props_below n line.label) (alias_lines w) =
     sym c.if-aliases_props_below.false ∙ c.aliases_props_below.ensures
     ∙ ap (list_all (λ (line : AliasLine). props_below n line.label)) (ap (map alias_def) c.deref.ensures.value ∙ c.requires.defs) in
-    ap (λ b. b && list_all (props_below n) (body_labels w.states)) aliases
+    c.if-aliases_props_below.false
+    ∙ ap (λ b. b && list_all (props_below n) (body_labels w.states)) aliases
     ∙ sym (all_labels (props_below n) (alias_lines w) (body_labels w.states))
     ∙ ap (λ m. list_all (props_below m) (map (λ (line : AliasLine). line.label) (alias_lines w) ++ body_labels w.states)) count

@@ -1,6 +1,6 @@
 use Rattle.std.proofs.Common.{◌++◌, ◌∙◌, ℕ, List, ap}
 use Rattle.std.proofs.lemmas.Result.{IfOk-weaker}
-use Rattle.hoa_reader.specs.Described.{marks_in_order}
+use Rattle.hoa_reader.specs.inner.Numbers.{marks_in_order}
 use Rattle.hoa_reader.proofs.elaborate.edges.marks_of.Goals as goal
 
 pub returns : goal.returns

@@ -7,8 +7,8 @@ use Rattle.std.proofs.lemmas.Result.{IfOk-weaker}
 use Rattle.hoa_reader.proofs.labels.CubeShapes.{cube_said}
 use Rattle.hoa_reader.proofs.labels.ExpandedLabels.{and_of, bit_small, expanded_node, or_of, part_size, size_pos}
 use Rattle.hoa_parser.proofs.grammar.RawTrees.{raw_tree-Alias, raw_tree-And-fields, raw_tree-Or-fields}
-use Rattle.hoa_reader.proofs.labels.Meanings.{meaning_missing}
-use Rattle.hoa_reader.specs.Described.{each_expanded, expanded, meaning_of}
+use Rattle.hoa_reader.proofs.labels.Meanings.{meaning_missing, meaning_of}
+use Rattle.hoa_reader.specs.Described.{each_expanded, expanded}
 use Rattle.hoa_reader.specs.inner.Growing.{AreAliasesKnown, IsKnownBy, IsKnownOne, alias_name, meaning_names, meanings_by, expansion_steps}
 use Rattle.hoa_reader.specs.inner.Places.{is_listed, place_in}
 use Rattle.hoa_parser.specs.Raw.{raw_tree, raw_trees}

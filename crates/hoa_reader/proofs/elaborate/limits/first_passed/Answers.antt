@@ -4,7 +4,8 @@ use Rattle.aut_base.specs.declared.limit.TheConstants.{MOST_NAMES, MOST_SETS, MO
 use Rattle.hoa_reader.proofs.counting.EdgeCounts.{edge_count}
 use Rattle.hoa_reader.proofs.counting.PassedFirst.{passed_first}
 use Rattle.hoa_parser.specs.Raw.{written}
-use Rattle.hoa_reader.specs.Described.{edges_of, state_count}
+use Rattle.hoa_reader.specs.Described.{state_count}
+use Rattle.hoa_reader.proofs.description.StatesInRange.{edges_of}
 use Rattle.hoa_reader.specs.Validity.{acceptance_of, written_names}
 use Rattle.hoa_reader.proofs.elaborate.limits.first_passed.Goals as goal
 use Rattle.hoa_reader.proofs.elaborate.limits.first_passed.Goals.{After-has_more_edges, After-set_count, After-state_count}

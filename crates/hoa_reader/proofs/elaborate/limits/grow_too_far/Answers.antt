@@ -15,7 +15,8 @@ use Rattle.hoa_reader.specs.declared.elaborate.parts.Parts.{Parts}
 use Rattle.hoa_reader.specs.declared.elaborate.places.Places.{Places}
 use Rattle.hoa_reader.proofs.elaborate.limits.grow_too_far.Goals as goal
 
-grows : (w : Written) (p : Parts) (known : Places Known) (tall heavy : Bool) → ArePartsOf w p → AreAliasesKnown (meanings_by p.defs.items) p.defs.items known → tall ≡ are_tall known (body_labels w.states)
+grows : (w : Written) (p : Parts) (known : Places Known) (tall heavy : Bool) → ArePartsOf w p → AreAliasesKnown (meanings_by p.defs.items) p.defs.items known
+    → tall ≡ are_tall known (body_labels w.states)
     → heavy ≡ nat_lt 16785407 (states_counted known w.states) → (tall || heavy) ≡ nat_lt MOST_ALIASES (growth w)
 grows w p known tall heavy parts all t h =
     let ms = meanings_by p.defs.items in

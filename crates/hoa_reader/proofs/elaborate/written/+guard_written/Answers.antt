@@ -11,10 +11,9 @@ use Rattle.hoa_parser.specs.declared.raw.RawLabel.{RawLabel}
 use Rattle.hoa_parser.specs.declared.raw.RawLabel.TheVariants as raw_label
 use Rattle.hoa_parser.specs.declared.raw.RawLabels.{RawLabels}
 use Rattle.hoa_reader.proofs.labels.ExpandedLabels.{bit_small}
-use Rattle.hoa_reader.proofs.labels.Meanings.{meaning_missing}
+use Rattle.hoa_reader.proofs.labels.Meanings.{meaning_missing, meaning_of}
 use Rattle.hoa_reader.proofs.labels.WrittenGuards.{all_more, all_none, and_replaced, cube_written, guard_beside, guard_of_label, guard_same}
 use Rattle.hoa_reader.proofs.labels.WrittenGuards.{or_replaced, part_is_below, part_is_smaller, some_more, some_none}
-use Rattle.hoa_reader.specs.Described.{meaning_of}
 use Rattle.hoa_reader.specs.declared.elaborate.aliases.Known.{Known}
 use Rattle.hoa_reader.specs.declared.elaborate.edges.Shared.{Shared}
 use Rattle.hoa_reader.specs.declared.elaborate.parts.AliasDef.{AliasDef}
