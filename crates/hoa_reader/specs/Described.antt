@@ -27,6 +27,10 @@ greatest (x ∷ xs) = max x (greatest xs)
 abbrev pub state_count : Written → ℕ
 state_count w = get_or (filter_map states_item w.items) 0 (greatest (map (λ q. q + 1) (used_states w)))
 
+-- the state that a start or an edge names
+abbrev pub only_state : List ℕ → ℕ
+only_state states = get_or states 0 0
+
 -- an alias and what it stands for, with no alias left in it
 pub record Meaning : Type 0 where
   pub name : List ℕ
@@ -63,6 +67,10 @@ literal i k = if (i / (2 ^ k)) % 2 == 1 then LabelTree.Prop k else LabelTree.Not
 abbrev pub letter_label : ℕ → ℕ → LabelTree
 letter_label n i = all_of (map (literal i) (below n))
 
+-- the sets that are among these marks, in order
+abbrev pub marks_in_order : ℕ → List ℕ → List ℕ
+marks_in_order sets marks = filter (λ set. is_in set marks) (below sets)
+
 -- The i-th edge of a state. Its label is the state's if it has one, else the edge's own, else the letter's. Its marks are the state's and its
 -- own, in order.
 abbrev pub tree_edge_of : Written → WrittenState → ℕ → WrittenEdge → LabelledEdge
@@ -71,8 +79,8 @@ tree_edge_of w s i e = record {
   label =
       option_map_or (expanded (meanings_of w)) s.label
       (option_map_or (expanded (meanings_of w)) e.label (letter_label (length (written_names w)) i));
-  to = get_or e.to 0 0;
-  marks = filter (λ set. is_in set (s.marks ++ e.marks)) (below (acceptance_of w).sets);
+  to = only_state e.to;
+  marks = marks_in_order (acceptance_of w).sets (s.marks ++ e.marks);
 }
 
 abbrev pub tree_edges_of : Written → WrittenState → List LabelledEdge
@@ -82,7 +90,7 @@ tree_edges_of w s = map (λ p. tree_edge_of w s p.0 p.1) (enumerate_from 0 s.edg
 abbrev pub described : Written → Automaton
 described w = record {
   names = written_names w;
-  starts = distinct ◌==◌ (map (λ states. get_or states 0 0) (starts_written w));
+  starts = distinct ◌==◌ (map only_state (starts_written w));
   states = state_count w;
   edges = flat_map (λ q. flat_map (tree_edges_of w) (filter (λ s. s.number == q) w.states)) (below (state_count w));
   sets = (acceptance_of w).sets;

@@ -101,9 +101,13 @@ abbrev mutual
 abbrev pub props_below : ℕ → RawTree → Bool
 props_below n = leaves_pass (λ i. nat_lt i n) (λ name. true)
 
+-- the text is one of these
+abbrev pub is_listed : List (List ℕ) → List ℕ → Bool
+is_listed texts text = list_any (λ other. same_text other text) texts
+
 -- every alias of the label is one of these
 abbrev pub aliases_among : List (List ℕ) → RawTree → Bool
-aliases_among names = leaves_pass (λ i. true) (λ name. list_any (λ other. same_text other name) names)
+aliases_among names = leaves_pass (λ i. true) (is_listed names)
 
 -- every number is below n
 abbrev pub numbers_below : ℕ → List ℕ → Bool

@@ -49,10 +49,13 @@ abbrev pub state_lines : Automaton → ℕ → List ℕ
 state_lines a q =
     line (codes "State: " ++ decimal q) ++ flat_map (edge_line (length a.names)) (filter (λ e. e.from == q) a.edges)
 
+abbrev pub name_line : Option (List ℕ) → List ℕ
+name_line name = option_map_or (λ text. line (codes "name: " ++ quoted text)) name []
+
 abbrev pub header_lines : Automaton → Option (List ℕ) → List ℕ
 header_lines a name =
-    line (codes "HOA: v1") ++ (option_map_or (λ text. line (codes "name: " ++ quoted text)) name []
-    ++ (line (codes "States: " ++ decimal a.states) ++ (flat_map (λ s. line (codes "Start: " ++ decimal s)) a.starts
+    line (codes "HOA: v1") ++ (name_line name ++ (line (codes "States: " ++ decimal a.states)
+    ++ (flat_map (λ s. line (codes "Start: " ++ decimal s)) a.starts
     ++ (line (codes "AP: " ++ (decimal (length a.names) ++ flat_map (λ name. codes " " ++ quoted name) a.names))
     ++ (line (codes "Acceptance: " ++ (decimal a.sets ++ (codes " " ++ formula_text a.formula)))
     ++ line (codes "properties: trans-labels explicit-labels trans-acc"))))))

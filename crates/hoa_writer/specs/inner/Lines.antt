@@ -1,15 +1,12 @@
 -- Lines of the text, as the writer adds them.
-use Rattle.std.specs.Prelude.{ℕ, List, [], ◌++◌, flat_map, length, codes, Option}
+use Rattle.std.specs.Prelude.{ℕ, List, ◌++◌, flat_map, length, codes}
 use Rattle.std.specs.Fmt.{decimal}
-use Rattle.std.specs.Option.{option_map_or}
 use Rattle.aut_base.specs.LabelText.{label_text}
 use Rattle.aut_core.specs.declared.link.Link.{Link}
 use Rattle.aut_base.specs.Text.{line}
+pub use Rattle.hoa_writer.specs.CanonicalText.{name_line}
 use Rattle.hoa_writer.specs.CanonicalText.{marks_text, quoted}
 use Rattle.label_guards.specs.Store.{Store, label_in}
-
-abbrev pub name_line : Option (List ℕ) → List ℕ
-name_line name = option_map_or (λ text. line (codes "name: " ++ quoted text)) name []
 
 abbrev pub start_lines : List ℕ → List ℕ
 start_lines starts = flat_map (λ s. line (codes "Start: " ++ decimal s)) starts
