@@ -113,7 +113,8 @@ one_text one plan ops w v t u decides same a b =
 
 -- ---- the limits
 
-refuted_or_over : (operand : Option Automaton) (which : Limit) (w : Written) (text : List ℕ) → MatchOption operand ⊥ (λ b. IsWithinInclusion (canonical (described w)) b × SaysOfInclusion (described w) b text)
+refuted_or_over : (operand : Option Automaton) (which : Limit) (w : Written) (text : List ℕ)
+    → MatchOption operand ⊥ (λ b. IsWithinInclusion (canonical (described w)) b × SaysOfInclusion (described w) b text)
     → MatchOption operand ⊥ (λ b. PassesOfInclusion which (canonical (described w)) b) → ⊥
 refuted_or_over None which w text h k = h
 refuted_or_over (Some b) which w text h k = h.0 which k
