@@ -122,7 +122,7 @@ refuted_or_over (Some b) which w text h k = h.0 which k
 printed_or_over : AreOne → (o : Output) (which : Limit) (p : Plan) (ops : List Automaton) (w : Written) (text : List ℕ) → IsPrinted o p ops w text
     → StopsPrinting o which p ops (canonical (described w)) → ⊥
 printed_or_over one Hoa which p ops w text h k = (one.changes (changes_of p ops) (canonical (described w))).either h.made which h.is_made.makes k
-printed_or_over one (Stats pieces) which p ops w text h k = (one.changes (changes_of p ops) (canonical (described w))).either h.made which h.is_made.makes k
+printed_or_over one (Stats pieces) which p ops w text h k = (one.changes (changes_of p ops) (canonical (described w))).either h.0 which h.1.makes k
 printed_or_over one (Refute file) which p ops w text h k = refuted_or_over (refuted_operand p ops) which w text h k
 
 due_or_over : AreOne → (which : Limit) (p : Plan) (ops : List Automaton) (w : Written) (text : List ℕ) → IsDue p ops w text → IsOverPrinting which p ops w → ⊥
