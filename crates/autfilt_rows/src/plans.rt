@@ -4,7 +4,7 @@ mod shown;
 mod values;
 
 use crate::words::add_words;
-use aut_base::{Memory, Text, Words};
+use aut_base::{Memory, Words};
 use filter_plan::{UsageFault, read_plan};
 use row_files::{Answer, Answers, Count, Fault, Stop, ask};
 use shown::show_plan;
@@ -28,28 +28,31 @@ pub(crate) fn count_all(rt: &HostRuntime, count: &mut Count) -> Result<(), Stop>
 struct Plans;
 
 impl Answers for Plans {
-    fn answer(&self, rt: &HostRuntime, call: &str, text: &Text) -> Result<Text, Fault> {
+    fn add_answer(
+        &self,
+        rt: &HostRuntime,
+        answer: &mut Answer,
+        call: &str,
+        lines: &str,
+    ) -> Result<(), Fault> {
         if call != "read_plan" {
             return Err(Fault::UnknownKind);
         }
-        let lines = std::str::from_utf8(text.as_bytes()).unwrap_or("");
         let (line, front) = lines.split_once('\n').unwrap_or((lines, ""));
         let mut words = Words::new(rt.alloc());
         add_words(rt.alloc(), &mut words, line)?;
-        Ok(answer(rt.alloc(), &words, front)?)
+        Ok(add_rest(rt.alloc(), answer, &words, front)?)
     }
 }
 
-/// What follows this beginning of the outcome.
-fn answer(alloc: Global, words: &Words, front: &str) -> Result<Text, Memory> {
+/// Adds what follows this beginning of the outcome.
+fn add_rest(alloc: Global, answer: &mut Answer, words: &Words, front: &str) -> Result<(), Memory> {
     let mut outcome = Answer::new(alloc);
     add_outcome(alloc, &mut outcome, words)?;
-    rest(alloc, outcome.end()?.as_bytes(), front)
-}
-
-fn rest(alloc: Global, outcome: &[u8], front: &str) -> Result<Text, Memory> {
-    let rest = outcome.strip_prefix(front.as_bytes());
-    Text::from_bytes(alloc, rest.unwrap_or(b"another beginning"))
+    let outcome = outcome.end()?;
+    let rest = outcome.as_bytes().strip_prefix(front.as_bytes());
+    answer.add(rest.unwrap_or(b"another beginning"));
+    Ok(())
 }
 
 /// Adds the outcome of reading the words.

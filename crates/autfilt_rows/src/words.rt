@@ -8,15 +8,10 @@ use std::alloc::Global;
 pub(crate) fn add_words(alloc: Global, words: &mut Words, line: &str) -> Result<(), Fault> {
     for word in line.split(' ') {
         if !word.is_empty() {
-            words.push(unescaped(alloc, word)?)?;
+            let mut text = Text::new(alloc);
+            add_escaped(alloc, &mut text, word, 0)?;
+            words.push(text)?;
         }
     }
     Ok(())
-}
-
-/// A word, with its escapes replaced.
-fn unescaped(alloc: Global, word: &str) -> Result<Text, Fault> {
-    let mut text = Text::new(alloc);
-    add_escaped(alloc, &mut text, word, 0)?;
-    Ok(text)
 }

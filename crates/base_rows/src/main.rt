@@ -12,7 +12,7 @@ mod streams;
 mod values;
 mod words;
 
-use aut_base::{Memory, Text};
+use aut_base::Memory;
 use forms::Call;
 use graphs::arcs::Source;
 use row_files::{Answer, Answers, Count, Fault, Stop, ask};
@@ -43,11 +43,14 @@ fn main(rt: HostRuntime) -> Result<(), Stop> {
 struct Base;
 
 impl Answers for Base {
-    fn answer(&self, rt: &HostRuntime, call: &str, text: &Text) -> Result<Text, Fault> {
-        let line = std::str::from_utf8(text.as_bytes()).unwrap_or("");
-        let mut answer = Answer::new(rt.alloc());
-        add_answer(rt.alloc(), &mut answer, call, line.trim_end())?;
-        Ok(answer.end()?)
+    fn add_answer(
+        &self,
+        rt: &HostRuntime,
+        answer: &mut Answer,
+        call: &str,
+        lines: &str,
+    ) -> Result<(), Fault> {
+        add_answer(rt.alloc(), answer, call, lines.trim_end())
     }
 }
 

@@ -3,10 +3,10 @@
 use crate::made::{Double, Made, Single, hidden, make, make_of_two};
 use crate::shapes::ring;
 use ap_project::Hide;
-use aut_base::{Memory, Text};
+use aut_base::Memory;
 use aut_ops::{ReachedSize, reached_size};
-use row_automata::{pair, read, shown};
-use row_files::{Answers, Fault, kind_and_rest, number};
+use row_automata::{add_automaton, add_pair, read};
+use row_files::{Answer, Answers, Fault, kind_and_rest, number};
 use std::alloc::Global;
 
 /// Answers each call with the automaton that is made, in the notation of rows, or with why none is.
@@ -14,35 +14,47 @@ use std::alloc::Global;
 pub(crate) struct Constructions;
 
 impl Answers for Constructions {
-    fn answer(&self, rt: &HostRuntime, call: &str, text: &Text) -> Result<Text, Fault> {
+    fn add_answer(
+        &self,
+        rt: &HostRuntime,
+        answer: &mut Answer,
+        call: &str,
+        lines: &str,
+    ) -> Result<(), Fault> {
         let alloc = rt.alloc();
+        let first = line(lines, 0);
         if let Some(call) = single_call(call) {
-            return single_answer(alloc, call, line(text, 0));
+            return add_single(alloc, answer, call, first);
         }
         if let Some(call) = double_call(call) {
-            return double_answer(alloc, call, line(text, 0), line(text, 1));
+            return add_double(alloc, answer, call, first, line(lines, 1));
         }
-        other_answer(alloc, call, line(text, 0))
+        add_other(alloc, answer, call, first)
     }
 }
 
 /// The line of this index of a row's input; empty where there are fewer.
-pub(crate) fn line(text: &Text, place: usize) -> &str {
-    let lines = std::str::from_utf8(text.as_bytes()).unwrap_or("");
+pub(crate) fn line(lines: &str, place: usize) -> &str {
     lines.split('\n').nth(place).unwrap_or("")
 }
 
-/// What the construction makes of the automaton of a line.
-fn single_answer(alloc: Global, call: Single, line: &str) -> Result<Text, Fault> {
+/// Adds what the construction makes of the automaton of a line.
+fn add_single(alloc: Global, answer: &mut Answer, call: Single, line: &str) -> Result<(), Fault> {
     let a = read(alloc, line)?;
-    Ok(answer_to(alloc, make(alloc, call, &a))?)
+    Ok(add_made(alloc, answer, make(alloc, call, &a))?)
 }
 
-/// What the construction makes of the automata of two lines.
-fn double_answer(alloc: Global, call: Double, first: &str, second: &str) -> Result<Text, Fault> {
+/// Adds what the construction makes of the automata of two lines.
+fn add_double(
+    alloc: Global,
+    answer: &mut Answer,
+    call: Double,
+    first: &str,
+    second: &str,
+) -> Result<(), Fault> {
     let a = read(alloc, first)?;
     let b = read(alloc, second)?;
-    Ok(answer_to(alloc, make_of_two(alloc, call, &a, &b))?)
+    Ok(add_made(alloc, answer, make_of_two(alloc, call, &a, &b))?)
 }
 
 fn single_call(name: &str) -> Option<Single> {
@@ -69,11 +81,11 @@ fn double_call(name: &str) -> Option<Double> {
 }
 
 /// The calls whose input isn't one automaton, or whose answer isn't an automaton.
-fn other_answer(alloc: Global, call: &str, line: &str) -> Result<Text, Fault> {
+fn add_other(alloc: Global, answer: &mut Answer, call: &str, line: &str) -> Result<(), Fault> {
     let (call, rest) = kind_and_rest(call);
     match hiding_call(call) {
-        Some(how) => hiding_answer(alloc, rest, how, line),
-        None => size(alloc, call, rest, line),
+        Some(how) => add_hidden(alloc, answer, rest, how, line),
+        None => add_size_by(alloc, answer, call, rest, line),
     }
 }
 
@@ -87,54 +99,72 @@ fn hiding_call(name: &str) -> Option<Hide> {
 }
 
 /// The calls that answer with sizes.
-fn size(alloc: Global, call: &str, rest: &str, line: &str) -> Result<Text, Fault> {
+fn add_size_by(
+    alloc: Global,
+    answer: &mut Answer,
+    call: &str,
+    rest: &str,
+    line: &str,
+) -> Result<(), Fault> {
     match call {
-        "reached_size" => reached_answer(alloc, line),
-        "to_buchi_of_ring" => size_of_ring(alloc, line),
-        "size" => size_of(alloc, rest, line),
+        "reached_size" => add_reached(alloc, answer, line),
+        "to_buchi_of_ring" => add_size_of_ring(alloc, answer, line),
+        "size" => add_size_of(alloc, answer, rest, line),
         _ => Err(Fault::UnknownKind),
     }
 }
 
-/// The automaton of a line with a name hidden.
-fn hiding_answer(alloc: Global, name: &str, how: Hide, line: &str) -> Result<Text, Fault> {
+/// Adds the automaton of a line with a name hidden.
+fn add_hidden(
+    alloc: Global,
+    answer: &mut Answer,
+    name: &str,
+    how: Hide,
+    line: &str,
+) -> Result<(), Fault> {
     let a = read(alloc, line)?;
-    Ok(shown(alloc, &hidden(alloc, &a, name.as_bytes(), how)?)?)
+    Ok(add_automaton(alloc, answer, &hidden(alloc, &a, name.as_bytes(), how)?)?)
 }
 
-/// The size of the Büchi form of a ring of so many states.
-fn size_of_ring(alloc: Global, states: &str) -> Result<Text, Fault> {
+/// Adds the size of the Büchi form of a ring of so many states.
+fn add_size_of_ring(alloc: Global, answer: &mut Answer, states: &str) -> Result<(), Fault> {
     let a = ring(alloc, number(states)?, 1, true, "I0,I1,&")?;
-    Ok(size_answer(alloc, make(alloc, Single::Buchi, &a))?)
+    add_size(answer, make(alloc, Single::Buchi, &a));
+    Ok(())
 }
 
-/// The size of what a construction makes of the automaton of a line.
-fn size_of(alloc: Global, name: &str, line: &str) -> Result<Text, Fault> {
+/// Adds the size of what a construction makes of the automaton of a line.
+fn add_size_of(alloc: Global, answer: &mut Answer, name: &str, line: &str) -> Result<(), Fault> {
     let Some(call) = single_call(name) else {
         return Err(Fault::UnknownKind);
     };
     let a = read(alloc, line)?;
-    Ok(size_answer(alloc, make(alloc, call, &a))?)
+    add_size(answer, make(alloc, call, &a));
+    Ok(())
 }
 
-fn answer_to(alloc: Global, made: Made) -> Result<Text, Memory> {
+fn add_made(alloc: Global, answer: &mut Answer, made: Made) -> Result<(), Memory> {
     match made {
-        Ok(a) => shown(alloc, &a),
-        Err(why) => Text::from_bytes(alloc, why.as_bytes()),
+        Ok(a) => add_automaton(alloc, answer, &a),
+        Err(why) => {
+            answer.add(why.as_bytes());
+            Ok(())
+        }
     }
 }
 
-/// The numbers of states and sets, without the automaton.
-fn size_answer(alloc: Global, made: Made) -> Result<Text, Memory> {
+/// Adds the numbers of states and sets, without the automaton.
+fn add_size(answer: &mut Answer, made: Made) {
     match made {
-        Ok(a) => pair(alloc, u64::from(a.states()), u64::from(a.sets())),
-        Err(why) => Text::from_bytes(alloc, why.as_bytes()),
+        Ok(a) => add_pair(answer, u64::from(a.states()), u64::from(a.sets())),
+        Err(why) => answer.add(why.as_bytes()),
     }
 }
 
-/// How many states are reached, and how many edges leave them.
-fn reached_answer(alloc: Global, line: &str) -> Result<Text, Fault> {
+/// Adds how many states are reached, and how many edges leave them.
+fn add_reached(alloc: Global, answer: &mut Answer, line: &str) -> Result<(), Fault> {
     let a = read(alloc, line)?;
     let ReachedSize { states, edges } = reached_size(alloc, &a)?;
-    Ok(pair(alloc, u64::from(states), edges as u64)?)
+    add_pair(answer, u64::from(states), edges as u64);
+    Ok(())
 }

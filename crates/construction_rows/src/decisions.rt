@@ -9,10 +9,10 @@ mod two_runs;
 use crate::calls::line;
 use crate::shapes::{line as line_of, ring};
 use ask_about::{Found, verdict, word_of, word_of_both};
-use aut_base::{Memory, Text};
+use aut_base::Memory;
 use aut_core::Automaton;
-use row_automata::{Word, Words, accepted, accepts, pair, read};
-use row_files::{Answers, Count, Fault, kind_and_rest, number};
+use row_automata::{Word, Words, accepted, accepts, add_pair, read};
+use row_files::{Answer, Answers, Count, Fault, kind_and_rest, number};
 use runs::is_reduced;
 use std::alloc::Global;
 
@@ -28,59 +28,68 @@ pub(crate) fn compared(rt: &HostRuntime, count: &mut Count) -> Result<(), Fault>
 pub(crate) struct Decisions;
 
 impl Answers for Decisions {
-    fn answer(&self, rt: &HostRuntime, call: &str, text: &Text) -> Result<Text, Fault> {
+    fn add_answer(
+        &self,
+        rt: &HostRuntime,
+        answer: &mut Answer,
+        call: &str,
+        lines: &str,
+    ) -> Result<(), Fault> {
         let alloc = rt.alloc();
-        let first = line(text, 0);
+        let first = line(lines, 0);
         match call {
-            "accepted_word" => accepted_answer(alloc, first),
-            "word_of_both" => both_answer(alloc, first, line(text, 1)),
-            "is_unambiguous" => verdict_answer(alloc, first),
-            _ => large_answer(alloc, call, first),
+            "accepted_word" => add_accepted(alloc, answer, first),
+            "word_of_both" => add_of_both(alloc, answer, first, line(lines, 1)),
+            "is_unambiguous" => add_verdict(alloc, answer, first),
+            _ => add_of_large(alloc, answer, call, first),
         }
     }
 }
 
 /// The calls on large automata, which rows name by their shape.
-fn large_answer(alloc: Global, call: &str, line: &str) -> Result<Text, Fault> {
+fn add_of_large(alloc: Global, answer: &mut Answer, call: &str, line: &str) -> Result<(), Fault> {
     match call {
-        "word_of_line" => line_answer(alloc, line),
-        "word_of_rings" => rings_answer(alloc, line),
-        "is_unambiguous_ring" => ring_answer(alloc, number(line)?),
+        "word_of_line" => add_of_line(alloc, answer, line),
+        "word_of_rings" => add_of_rings(alloc, answer, line),
+        "is_unambiguous_ring" => add_of_ring(alloc, answer, number(line)?),
         _ => Err(Fault::UnknownKind),
     }
 }
 
-/// Whether the automaton of a line accepts a word.
-fn accepted_answer(alloc: Global, line: &str) -> Result<Text, Fault> {
+/// Adds whether the automaton of a line accepts a word.
+fn add_accepted(alloc: Global, answer: &mut Answer, line: &str) -> Result<(), Fault> {
     let a = read(alloc, line)?;
-    Ok(word_answer(alloc, word_of(alloc, &a)?, &a, &a)?)
+    Ok(add_word(alloc, answer, word_of(alloc, &a)?, &a, &a)?)
 }
 
-/// Whether the automata of two lines accept a word together.
-fn both_answer(alloc: Global, first: &str, second: &str) -> Result<Text, Fault> {
+/// Adds whether the automata of two lines accept a word together.
+fn add_of_both(alloc: Global, answer: &mut Answer, first: &str, second: &str) -> Result<(), Fault> {
     let a = read(alloc, first)?;
     let b = read(alloc, second)?;
-    Ok(word_answer(alloc, word_of_both(alloc, &a, &b)?, &a, &b)?)
+    Ok(add_word(alloc, answer, word_of_both(alloc, &a, &b)?, &a, &b)?)
 }
 
-/// Whether the automaton of a line is unambiguous.
-fn verdict_answer(alloc: Global, line: &str) -> Result<Text, Fault> {
+/// Adds whether the automaton of a line is unambiguous.
+fn add_verdict(alloc: Global, answer: &mut Answer, line: &str) -> Result<(), Fault> {
     let a = read(alloc, line)?;
-    Ok(said(alloc, verdict(alloc, &a))?)
+    answer.add(verdict(alloc, &a).as_bytes());
+    Ok(())
 }
 
-/// The length of a word of a large line of this shape.
-fn line_answer(alloc: Global, shape: &str) -> Result<Text, Fault> {
+/// Adds the length of a word of a large line of this shape.
+fn add_of_line(alloc: Global, answer: &mut Answer, shape: &str) -> Result<(), Fault> {
     let a = line_of(alloc, shape)?;
-    Ok(length_answer(alloc, word_of(alloc, &a)?)?)
+    add_length(answer, word_of(alloc, &a)?);
+    Ok(())
 }
 
-/// The length of a word of two large rings, from their numbers of states.
-fn rings_answer(alloc: Global, line: &str) -> Result<Text, Fault> {
+/// Adds the length of a word of two large rings, from their numbers of states.
+fn add_of_rings(alloc: Global, answer: &mut Answer, line: &str) -> Result<(), Fault> {
     let (first, second) = kind_and_rest(line);
     let a = single_ring(alloc, first)?;
     let b = single_ring(alloc, second)?;
-    Ok(length_answer(alloc, word_of_both(alloc, &a, &b)?)?)
+    add_length(answer, word_of_both(alloc, &a, &b)?);
+    Ok(())
 }
 
 /// A ring of so many states that starts in one of them.
@@ -88,20 +97,29 @@ fn single_ring(alloc: Global, states: &str) -> Result<Automaton, Fault> {
     ring(alloc, number(states)?, 1, true, "I0")
 }
 
-/// Whether a large ring each of whose states is a start is unambiguous.
-fn ring_answer(alloc: Global, states: u32) -> Result<Text, Fault> {
+/// Adds whether a large ring each of whose states is a start is unambiguous.
+fn add_of_ring(alloc: Global, answer: &mut Answer, states: u32) -> Result<(), Fault> {
     let a = ring(alloc, states, states, states % 2 == 1, "I0")?;
-    Ok(said(alloc, verdict(alloc, &a))?)
+    answer.add(verdict(alloc, &a).as_bytes());
+    Ok(())
 }
 
-/// Whether there is a word. If so, it has to be reduced, and both have to accept it.
-fn word_answer(alloc: Global, found: Found, a: &Automaton, b: &Automaton) -> Result<Text, Memory> {
+/// Adds whether there is a word. If so, it has to be reduced, and both have to accept it.
+fn add_word(
+    alloc: Global,
+    answer: &mut Answer,
+    found: Found,
+    a: &Automaton,
+    b: &Automaton,
+) -> Result<(), Memory> {
     if let Found::Word(told) = found {
         if !is_right(alloc, &told.word, a, b)? {
-            return said(alloc, "wrong word");
+            answer.add(b"wrong word");
+            return Ok(());
         }
     }
-    said(alloc, found.told())
+    answer.add(found.told().as_bytes());
+    Ok(())
 }
 
 /// Whether what is found fits: a word is right, and where there is none no word of a list is accepted by both.
@@ -124,14 +142,10 @@ fn is_right(alloc: Global, word: &Word, a: &Automaton, b: &Automaton) -> Result<
     Ok(is_reduced(word) && accepts(alloc, a, word)? && accepts(alloc, b, word)?)
 }
 
-/// The lengths of the stem and the cycle of the word.
-fn length_answer(alloc: Global, found: Found) -> Result<Text, Memory> {
+/// Adds the lengths of the stem and the cycle of the word.
+fn add_length(answer: &mut Answer, found: Found) {
     match found {
-        Found::Word(told) => pair(alloc, told.stem as u64, told.cycle as u64),
-        _ => said(alloc, found.told()),
+        Found::Word(told) => add_pair(answer, told.stem as u64, told.cycle as u64),
+        _ => answer.add(found.told().as_bytes()),
     }
-}
-
-fn said(alloc: Global, word: &str) -> Result<Text, Memory> {
-    Text::from_bytes(alloc, word.as_bytes())
 }

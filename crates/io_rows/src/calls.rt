@@ -21,11 +21,14 @@ const UNSTEADY_NAME: &str = "unsteady.bytes";
 pub(crate) struct Calls;
 
 impl Answers for Calls {
-    fn answer(&self, rt: &HostRuntime, call: &str, text: &Text) -> Result<Text, Fault> {
-        let line = std::str::from_utf8(text.as_bytes()).unwrap_or("");
-        let mut answer = Answer::new(rt.alloc());
-        add_answer(rt, &mut answer, call, line.trim_end())?;
-        Ok(answer.end()?)
+    fn add_answer(
+        &self,
+        rt: &HostRuntime,
+        answer: &mut Answer,
+        call: &str,
+        lines: &str,
+    ) -> Result<(), Fault> {
+        add_answer(rt, answer, call, lines.trim_end())
     }
 }
 

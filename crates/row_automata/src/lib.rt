@@ -19,5 +19,5 @@ pub use notation::read;
 pub use outcomes::Accepted;
 pub use paths::{Paths, accepted};
 pub use product::accepts;
-pub use show::{count_call, pair, shown};
+pub use show::{add_automaton, add_pair, count_call};
 pub use words::{Letters, Word, Words};

@@ -6,14 +6,8 @@ use label_guards::{Guard, Guards};
 use row_files::{Answer, Count, Fault, show_condition};
 use std::alloc::Global;
 
-/// The automaton in the notation of rows, except that its labels have spaces.
-pub fn shown(alloc: Global, a: &Automaton) -> Result<Text, Memory> {
-    let mut answer = Answer::new(alloc);
-    add_automaton(alloc, &mut answer, a)?;
-    answer.end()
-}
-
-fn add_automaton(alloc: Global, answer: &mut Answer, a: &Automaton) -> Result<(), Memory> {
+/// Adds the automaton in the notation of rows, except that its labels have spaces.
+pub fn add_automaton(alloc: Global, answer: &mut Answer, a: &Automaton) -> Result<(), Memory> {
     add_head(answer, a);
     for link in a.links() {
         let label = label(alloc, a.guards(), link.guard)?;
@@ -98,11 +92,9 @@ fn add_call(
     Ok(())
 }
 
-/// Two numbers with a space between them.
-pub fn pair(alloc: Global, first: u64, second: u64) -> Result<Text, Memory> {
-    let mut answer = Answer::new(alloc);
+/// Adds two numbers with a space between them.
+pub fn add_pair(answer: &mut Answer, first: u64, second: u64) {
     answer.add_number(first);
     answer.add(b" ");
     answer.add_number(second);
-    answer.end()
 }

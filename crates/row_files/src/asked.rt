@@ -7,8 +7,14 @@ use std::alloc::Global;
 
 /// The calls that a program of rows can make.
 pub trait Answers {
-    /// The answer of the call of this name to the text. Fails where there is no such call.
-    fn answer(&self, rt: &HostRuntime, call: &str, text: &Text) -> Result<Text, Fault>;
+    /// Adds what the call of this name answers to these lines. Fails where there is no such call.
+    fn add_answer(
+        &self,
+        rt: &HostRuntime,
+        answer: &mut Answer,
+        call: &str,
+        lines: &str,
+    ) -> Result<(), Fault>;
 }
 
 /// Runs the rows of these files, whose lines are `? CALL`, the input's lines with the mark `<`, `>\ PIECE`, which adds to the
@@ -55,8 +61,11 @@ impl<A: Answers> Row for Asked<A> {
     }
 
     fn different(&self, rt: &HostRuntime) -> Result<Option<String>, Fault> {
-        let answer = self.answers.answer(rt, self.call.as_str(), &self.text)?;
-        self.message(rt.alloc(), answer.as_bytes())
+        let lines = std::str::from_utf8(self.text.as_bytes()).unwrap_or("");
+        let mut answer = Answer::new(rt.alloc());
+        self.answers
+            .add_answer(rt, &mut answer, self.call.as_str(), lines)?;
+        self.message(rt.alloc(), &answer)
     }
 
     fn clear(&mut self, alloc: Global) {
@@ -100,8 +109,8 @@ impl<A> Asked<A> {
     }
 
     /// The row with this answer, where another is expected.
-    fn message(&self, alloc: Global, answer: &[u8]) -> Result<Option<String>, Fault> {
-        if self.wanted.is(answer) {
+    fn message(&self, alloc: Global, answer: &Answer) -> Result<Option<String>, Fault> {
+        if answer.is(self.wanted.as_bytes()) {
             return Ok(None);
         }
         let mut shown = Answer::new(alloc);
@@ -110,13 +119,13 @@ impl<A> Asked<A> {
     }
 
     /// Adds the row with this answer.
-    fn show(&self, shown: &mut Answer, answer: &[u8]) {
+    fn show(&self, shown: &mut Answer, answer: &Answer) {
         shown.add(b"? ");
         shown.add(self.call.as_bytes());
         shown.add(b"\n");
         shown.add_all(&self.lines);
         shown.add(b"> ");
-        shown.add(answer);
+        shown.add_all(answer);
     }
 
     /// Takes the name of the call, for this row and those after it.

@@ -2,7 +2,7 @@
 
 use crate::automata::{add, add_chain};
 use crate::long_walk::long_walk;
-use aut_base::{Numbers, Text};
+use aut_base::Numbers;
 use row_files::{Answer, Answers, Fault, kind_and_rest, number, numbers, range};
 use safra_trees::{Event, Moves, SafraTree, TreeFault, start, step};
 use std::alloc::Global;
@@ -12,19 +12,22 @@ use std::alloc::Global;
 pub(crate) struct Trees;
 
 impl Answers for Trees {
-    fn answer(&self, rt: &HostRuntime, call: &str, text: &Text) -> Result<Text, Fault> {
+    fn add_answer(
+        &self,
+        rt: &HostRuntime,
+        answer: &mut Answer,
+        call: &str,
+        lines: &str,
+    ) -> Result<(), Fault> {
         let alloc = rt.alloc();
         let mut walk = Walk {
             trees: Vec::new(alloc),
             moves: Moves::new(alloc),
             answer: Answer::new(alloc),
         };
-        walk.call(
-            alloc,
-            call,
-            std::str::from_utf8(text.as_bytes()).unwrap_or(""),
-        )?;
-        Ok(walk.answer.end()?)
+        walk.call(alloc, call, lines)?;
+        answer.add_all(&walk.answer);
+        Ok(())
     }
 }
 
