@@ -2,6 +2,7 @@
 pub mod Agreement
 pub mod Growth
 pub mod Joins
+pub mod Numbered
 pub mod Outcomes
 pub mod Reduced
 pub mod Tables

@@ -1,5 +1,5 @@
 -- What holds of the nodes of a store: its diagrams are reduced and ordered, and no two of them are the same.
-use Rattle.std.specs.Prelude.{◌≡◌, ◌≢◌, ◌⊎◌, ℕ, ◌+◌, ◌<◌, ◌≤◌, Bool, if◌then◌else◌, List, [], ◌∷◌, ◌++◌, map, Some, slice_get, Contains}
+use Rattle.std.specs.Prelude.{◌≡◌, ◌≢◌, ◌⊎◌, ℕ, ◌+◌, ◌<◌, ◌≤◌, Bool, ◌&&◌, if◌then◌else◌, List, [], ◌∷◌, ◌++◌, map, Option, Some, slice_get, Contains, nat_eq}
 use Rattle.std.specs.List.{slice_index_or}
 use Rattle.aut_base.specs.declared.limit.TheConstants.{MOST_NAMES}
 use Rattle.label_guards.specs.declared.nodes.Node.{Node}
@@ -29,6 +29,14 @@ pub record IsReducedDiagram (names : ℕ) (ns : List Node) : Type 0 where
 -- a node is added at the end, or was there
 abbrev pub AddsNode : List Node → List Node → Node → Type 0
 AddsNode old new n = (new ≡ old) ⊎ ((new ≡ old ++ n ∷ []) × (Contains old n → ⊥))
+
+abbrev pub same_node : Node → Node → Bool
+same_node a b = nat_eq a.prop b.prop && (nat_eq a.low b.low && nat_eq a.high b.high)
+
+-- the number of each node is its place in the list
+pub record AreNumbered (ns : List Node) (number : Node → Option ℕ) : Type 0 where
+  pub there : (n : Node) (i : ℕ) → number n ≡ Some i → slice_get ns i ≡ Some n
+  pub known : (i : ℕ) (n : Node) → slice_get ns i ≡ Some n → number n ≡ Some i
 
 -- earlier places keep their nodes
 pub record Grows (old new : Store) : Type 0 where

@@ -19,7 +19,7 @@ use std::marker::Model;
 use std::mem;
 
 /// An operation on two guards.
-#[derive(Clone, Copy, Debug, PartialEq, Eq)]
+#[derive(Clone, Copy)]
 pub(crate) enum Operation {
     And,
     Or,

@@ -16,6 +16,7 @@ mod labels;
 mod law;
 mod letters;
 mod literals;
+mod node_list;
 mod nodes;
 mod numbers;
 mod pick;

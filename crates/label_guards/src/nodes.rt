@@ -1,17 +1,17 @@
 //! The nodes of reduced ordered binary decision diagrams (Bryant 1986), each kept once.
 
-ghost use Rattle.std.specs.Prelude.{◌≡◌, ◌<◌, ◌≤◌, ℕ, [], slice_get, take, IfOk, Some};
+ghost use Rattle.std.specs.Prelude.{◌≡◌, ◌<◌, ◌≤◌, [], take, IfOk};
 ghost use Rattle.aut_base.specs.declared.limit.TheConstants.{MOST_NAMES};
-ghost use Rattle.label_guards.specs.Nodes.{AddsNode, AreSides, Grows, IsChoice, IsReducedDiagram, IsNodeAt, level};
+ghost use Rattle.label_guards.specs.Nodes.{AreSides, Grows, IsChoice, IsReducedDiagram, IsNodeAt, level};
 ghost use Rattle.label_guards.specs.Store.{HasPlace, places};
 
+use crate::node_list::NodeList;
 use aut_base::Memory;
-use indexmap::IndexSet;
 use std::alloc::Global;
 use std::marker::Model;
 
 /// Asks whether a proposition holds, and goes on at the place `high` if it does and at `low` if not.
-#[derive(Clone, Copy, Debug, PartialEq, Eq, Hash)]
+#[derive(Clone, Copy, PartialEq, Eq, Hash)]
 pub(crate) struct Node {
     pub(crate) prop: u32,
     pub(crate) low: usize,
@@ -22,7 +22,7 @@ pub(crate) struct Node {
 #[derive(Drop)]
 pub(crate) struct Nodes {
     names: u32,
-    set: IndexSet<Node>,
+    list: NodeList,
 }
 
 impl Model for Nodes {
@@ -31,9 +31,9 @@ impl Model for Nodes {
 
     ghost Value = { Store };
 
-    ghost view = { λ s. record { names = s.names; nodes = s.set.keys } };
+    ghost view = { λ s. record { names = s.names; nodes = s.list } };
 
-    ghost invariant = { λ s. IsReducedDiagram s.names s.set.keys };
+    ghost invariant = { λ s. IsReducedDiagram s.names s.list };
 }
 
 impl Nodes {
@@ -45,7 +45,7 @@ impl Nodes {
     {
         Nodes {
             names,
-            set: IndexSet::new(alloc),
+            list: NodeList::new(alloc),
         }
     }
 
@@ -55,7 +55,7 @@ impl Nodes {
     {
         Ok(Nodes {
             names: self.names,
-            set: self.set.clone()?,
+            list: self.list.copy()?,
         })
     }
 
@@ -63,7 +63,7 @@ impl Nodes {
     pub(crate) fn reduced(&self)
         ensures { IsReducedDiagram self.now.names self.now.nodes }
     {
-        let _ = &self.set;
+        let _ = &self.list;
     }
 
     /// The number of propositions.
@@ -77,7 +77,7 @@ impl Nodes {
     pub(crate) fn places(&self) -> usize
         ensures { result ≡ places self.now }
     {
-        self.set.len() + 2
+        self.list.as_slice().len() + 2
     }
 
     /// The node at this place.
@@ -87,7 +87,7 @@ impl Nodes {
         requires has { HasPlace self.now place }
         ensures { IsNodeAt self.now place result }
     {
-        self.set.as_slice()[place - 2]
+        self.list.as_slice()[place - 2]
     }
 
     /// The proposition that is asked for first at this place, or the number of propositions at `f` and `t`.
@@ -135,7 +135,7 @@ impl Nodes {
         if low == high {
             return Ok(low);
         }
-        let index = put(&mut self.set, Node { prop, low, high })?;
+        let index = self.list.insert(Node { prop, low, high })?;
         match index.checked_add(2) {
             Some(place) => Ok(place),
             None => Err(Memory),
@@ -146,15 +146,6 @@ impl Nodes {
     pub(crate) fn cut(&mut self, count: usize)
         ensures { self.new ≡ record self.old { nodes = take count self.old.nodes } }
     {
-        self.set.truncate(count);
+        self.list.truncate(count);
     }
-}
-
-/// The index of the node, which is added if it isn't there.
-fn put(set: &mut IndexSet<Node>, node: Node) -> Result<usize, Memory>
-    ensures adds { AddsNode set.old.keys set.new.keys node }
-    ensures stored { IfOk result (λ index. slice_get set.new.keys index ≡ Some node) }
-{
-    let (index, _) = set.insert_full(node)?;
-    Ok(index)
 }

@@ -5,13 +5,13 @@ ghost use Rattle.std.specs.Map.{lookup};
 ghost use Rattle.label_guards.specs.Tables.{IsResultInserted};
 
 use aut_base::Memory;
-use indexmap::IndexMap;
+use std::collections::HashMap;
 
 /// The place of a result, by the place that it is of.
 pub(crate) type Done = Results<usize>;
 
 /// A result, by the place that it is of.
-pub(crate) type Results<V> = IndexMap<usize, V>;
+pub(crate) type Results<V> = HashMap<usize, V>;
 
 /// The result of this place, if it is there.
 pub(crate) fn done_at<V: Copy>(done: &Results<V>, place: usize) -> Option<V>

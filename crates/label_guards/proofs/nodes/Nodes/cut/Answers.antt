@@ -6,4 +6,4 @@ use Rattle.label_guards.proofs.nodes.Nodes.cut.Goals as goal
 
 pub invariant_of-self : goal.invariant_of-self
 invariant_of-self c =
-    subst (λ (ns : List Node). IsReducedDiagram c.self.inside.names ns) (sym c.truncate.ensures.keys) (taken_reduced c.self.inside.names c.self.inside.set.keys c.args.count c.self.invariant)
+    subst (λ (ns : List Node). IsReducedDiagram c.self.inside.names ns) (sym c.truncate.ensures) (taken_reduced c.self.inside.names c.self.inside.list c.args.count c.self.invariant)
