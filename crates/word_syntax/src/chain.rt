@@ -1,6 +1,6 @@
 //! The parts of a conjunction or disjunction while it is read.
 
-ghost use Rattle.std.specs.Prelude.{◌≡◌, [], ◌∷◌, ◌++◌, IfOk};
+ghost use Rattle.std.specs.Prelude.{◌≡◌, [], ◌∷◌, ◌++◌, OnOk};
 ghost use Rattle.aut_base.specs.CanonicalLabel.{all_of, one_of};
 ghost use Rattle.aut_base.specs.Label.{label_tree};
 ghost use Rattle.word_syntax.specs.inner.Chains.{chain_list};
@@ -8,9 +8,10 @@ ghost use Rattle.word_syntax.specs.inner.Machine.{is_none};
 
 use aut_base::{Label, Labels, Memory};
 use std::alloc::Global;
+use std::mem;
 
 /// The parts so far.
-#[derive(Debug, Drop)]
+#[derive(Drop)]
 pub(crate) enum Chain {
     Nothing,
     One(Label),
@@ -19,21 +20,24 @@ pub(crate) enum Chain {
 
 #[tactic(auto, using(aut_base::proofs::trees::LabelTrees::label_trees))]
 impl Chain {
-    /// These parts with another at the end.
-    pub(crate) fn add(self, alloc: Global, label: Label) -> Result<Chain, Memory>
-        ensures { IfOk result (λ new. chain_list new ≡ chain_list self ++ label_tree label ∷ []) }
+    /// Adds a part at the end.
+    pub(crate) fn add(&mut self, alloc: Global, label: Label) -> Result<(), Memory>
+        ensures { OnOk result (chain_list self.new ≡ chain_list self.old ++ label_tree label ∷ []) }
     {
-        match self {
-            Chain::Nothing => Ok(Chain::One(label)),
+        match mem::replace(self, Chain::Nothing) {
+            Chain::Nothing => {
+                *self = Chain::One(label);
+            }
             Chain::One(first) => {
                 let pair = Labels::pair(alloc, first, label);
-                Ok(Chain::Several(Box::new(alloc, pair)?))
+                *self = Chain::Several(Box::new(alloc, pair)?);
             }
             Chain::Several(mut labels) => {
                 labels.push(label)?;
-                Ok(Chain::Several(labels))
+                *self = Chain::Several(labels);
             }
         }
+        Ok(())
     }
 
     /// Their conjunction.

@@ -1,7 +1,7 @@
 //! The parser of a letter's formula, which takes one token at a time, with a stack of the levels of parentheses.
 
 ghost use Rattle.aut_base.specs.declared.limit.TheConstants.{MOST_DEPTH};
-ghost use Rattle.std.specs.Prelude.{◌≡◌, true, false, ◌+◌, ◌<◌, ◌≤◌, ◌^◌, length, IfOk, Some, None};
+ghost use Rattle.std.specs.Prelude.{◌≡◌, true, false, ◌+◌, ◌<◌, ◌≤◌, ◌^◌, length, IfOk, IfSome, OnOk, Some};
 ghost use Rattle.std.specs.Option.{option_map};
 ghost use Rattle.aut_base.specs.Label.{label_tree};
 ghost use Rattle.word_syntax.specs.inner.Machine as machine;
@@ -11,9 +11,9 @@ use crate::names::place;
 use crate::token::Token;
 use aut_base::{Label, MOST_DEPTH, Memory, Names};
 use std::alloc::Global;
+use std::mem;
 
 /// A level: the formula, or a part of it in parentheses, as far as it is read.
-#[derive(Debug, Drop)]
 pub(crate) struct Level {
     /// How many `(` and `!` are open around it.
     around: u32,
@@ -27,13 +27,35 @@ pub(crate) struct Level {
 }
 
 /// A letter as far as it is read.
-#[derive(Debug, Drop)]
 pub(crate) struct LetterReader {
     /// The levels around the innermost one, that one last.
     outer: Vec<Level>,
     level: Level,
     /// Whether an operand has just ended.
     ready: bool,
+}
+
+// Written down, so that it is proved once.
+impl Drop for Level {
+    fn drop(self) {
+        let Level {
+            around: _,
+            ors: _,
+            ands: _,
+            nots: _,
+        } = self;
+    }
+}
+
+// Written down, so that it is proved once.
+impl Drop for LetterReader {
+    fn drop(self) {
+        let LetterReader {
+            outer: _,
+            level: _,
+            ready: _,
+        } = self;
+    }
 }
 
 impl Level {
@@ -53,38 +75,29 @@ impl Level {
     }
 
     // An operand has ended.
-    fn complete(self, alloc: Global, label: Label) -> Result<Level, Memory>
-        ensures { IfOk result (λ new. level_tree new ≡ machine.complete_level (level_tree self) (label_tree label)) }
+    fn complete(&mut self, alloc: Global, label: Label) -> Result<(), Memory>
+        ensures { OnOk result (level_tree self.new ≡ machine.complete_level (level_tree self.old) (label_tree label)) }
     {
         let label = negated(alloc, label, self.nots)?;
-        let ands = self.ands.add(alloc, label)?;
-        Ok(Level {
-            around: self.around,
-            ors: self.ors,
-            ands,
-            nots: 0,
-        })
+        self.ands.add(alloc, label)?;
+        self.nots = 0;
+        Ok(())
     }
 
     // The conjunction has ended, and another follows.
-    fn or(self, alloc: Global) -> Result<Level, Memory>
-        ensures { IfOk result (λ new. level_tree new ≡ machine.or_level (level_tree self)) }
+    fn or(&mut self, alloc: Global) -> Result<(), Memory>
+        ensures { OnOk result (level_tree self.new ≡ machine.or_level (level_tree self.old)) }
     {
-        let ors = self.ors.add(alloc, self.ands.all())?;
-        Ok(Level {
-            around: self.around,
-            ors,
-            ands: Chain::Nothing,
-            nots: self.nots,
-        })
+        let ands = mem::replace(&mut self.ands, Chain::Nothing);
+        self.ors.add(alloc, ands.all())
     }
 
-    // The label of the level, where it is complete.
-    fn label(self, alloc: Global) -> Result<Label, Memory>
-        ensures { IfOk result (λ label. label_tree label ≡ machine.level_label (level_tree self)) }
+    // The label of the level, which is complete. The parts go into it.
+    fn label(&mut self, alloc: Global) -> Result<Label, Memory>
+        ensures { IfOk result (λ label. label_tree label ≡ machine.level_label (level_tree self.old)) }
     {
-        let whole = self.ors.add(alloc, self.ands.all())?;
-        Ok(whole.one_of())
+        self.or(alloc)?;
+        Ok(mem::replace(&mut self.ors, Chain::Nothing).one_of())
     }
 }
 
@@ -100,7 +113,7 @@ fn negated(alloc: Global, label: Label, times: u32) -> Result<Label, Memory>
 }
 
 impl LetterReader {
-    ghost use Rattle.word_syntax.specs.inner.Chains.{GoesInLetter, letter_state};
+    ghost use Rattle.word_syntax.specs.inner.Chains.{GoesInLetter, letter_state, state_if};
 
     /// The parser at the beginning of a letter.
     pub(crate) fn new(alloc: Global) -> LetterReader
@@ -113,15 +126,16 @@ impl LetterReader {
         }
     }
 
-    /// The parser after a token, or `None` where the token can't follow. A name that is new is added to the names.
+    /// Takes a token, and answers whether it can follow; where it can't, the parser is of no further use. A name that is new
+    /// is added to the names.
     pub(crate) fn step(
-        self,
+        &mut self,
         alloc: Global,
         names: &mut Names,
         token: Token,
-    ) -> Result<Option<LetterReader>, Memory>
+    ) -> Result<bool, Memory>
         requires { length names.old < 2 ^ 32 }
-        ensures { IfOk result (λ next. GoesInLetter (letter_state self) token names.old names.new (option_map letter_state next)) }
+        ensures { IfOk result (λ taken. GoesInLetter (letter_state self.old) token names.old names.new (state_if taken (letter_state self.new))) }
     {
         if self.ready {
             self.after_operand(alloc, token)
@@ -132,154 +146,117 @@ impl LetterReader {
 
     // Takes a token where an operand has to follow.
     fn begin_operand(
-        self,
+        &mut self,
         alloc: Global,
         names: &mut Names,
         token: Token,
-    ) -> Result<Option<LetterReader>, Memory>
+    ) -> Result<bool, Memory>
         requires few { length names.old < 2 ^ 32 }
-        requires awaits { self.ready ≡ false }
-        ensures { IfOk result (λ next. GoesInLetter (letter_state self) token names.old names.new (option_map letter_state next)) }
+        requires awaits { self.old.ready ≡ false }
+        ensures { IfOk result (λ taken. GoesInLetter (letter_state self.old) token names.old names.new (state_if taken (letter_state self.new))) }
     {
         match token {
-            Token::True => Ok(Some(self.complete(alloc, Label::True)?)),
-            Token::False => Ok(Some(self.complete(alloc, Label::False)?)),
+            Token::True => self.complete(alloc, Label::True),
+            Token::False => self.complete(alloc, Label::False),
             Token::Name(name) => {
                 let place = place(names, name)?;
-                Ok(Some(self.complete(alloc, Label::Prop(place))?))
+                self.complete(alloc, Label::Prop(place))
             }
             Token::Not => Ok(self.not()),
             Token::LeftParen => self.open(),
-            _ => Ok(None),
+            _ => Ok(false),
         }
     }
 
     // Takes a token where an operand has just ended.
-    fn after_operand(self, alloc: Global, token: Token) -> Result<Option<LetterReader>, Memory>
-        requires { self.ready ≡ true }
-        ensures { IfOk result (λ next. option_map letter_state next ≡ machine.after_operand (letter_state self) token) }
+    fn after_operand(&mut self, alloc: Global, token: Token) -> Result<bool, Memory>
+        requires { self.old.ready ≡ true }
+        ensures { IfOk result (λ taken. state_if taken (letter_state self.new) ≡ machine.after_operand (letter_state self.old) token) }
     {
         match token {
-            Token::And => Ok(Some(self.and())),
-            Token::Or => Ok(Some(self.or(alloc)?)),
-            Token::RightParen => self.close(alloc),
-            _ => Ok(None),
+            Token::And => self.and(),
+            Token::Or => self.or(alloc)?,
+            Token::RightParen => return self.close(alloc),
+            _ => return Ok(false),
         }
+        Ok(true)
     }
 
     // An operand has ended.
-    fn complete(self, alloc: Global, label: Label) -> Result<LetterReader, Memory>
-        ensures { IfOk result (λ new. letter_state new ≡ machine.complete (letter_state self) (label_tree label)) }
+    fn complete(&mut self, alloc: Global, label: Label) -> Result<bool, Memory>
+        ensures { IfOk result (λ taken. state_if taken (letter_state self.new) ≡ Some (machine.complete (letter_state self.old) (label_tree label))) }
     {
-        let level = self.level.complete(alloc, label)?;
-        Ok(LetterReader {
-            level,
-            ready: true,
-            ..self
-        })
+        self.level.complete(alloc, label)?;
+        self.ready = true;
+        Ok(true)
     }
 
     // `!`
-    fn not(self) -> Option<LetterReader>
-        ensures { option_map letter_state result ≡ machine.maybe_negated (letter_state self) }
+    fn not(&mut self) -> bool
+        requires { self.old.ready ≡ false }
+        ensures { state_if result (letter_state self.new) ≡ machine.maybe_negated (letter_state self.old) }
     {
-        let level = self.level;
-        if level.around + level.nots >= MOST_DEPTH {
-            return None;
+        if self.level.around + self.level.nots >= MOST_DEPTH {
+            return false;
         }
-        let level = Level {
-            around: level.around,
-            ors: level.ors,
-            ands: level.ands,
-            nots: level.nots + 1,
-        };
-        Some(LetterReader {
-            level,
-            ready: false,
-            ..self
-        })
+        self.level.nots += 1;
+        true
     }
 
     // `(`
-    fn open(self) -> Result<Option<LetterReader>, Memory>
-        ensures { IfOk result (λ next. option_map letter_state next ≡ machine.maybe_opened (letter_state self)) }
+    fn open(&mut self) -> Result<bool, Memory>
+        requires { self.old.ready ≡ false }
+        ensures { IfOk result (λ taken. state_if taken (letter_state self.new) ≡ machine.maybe_opened (letter_state self.old)) }
     {
-        let LetterReader {
-            mut outer,
-            level,
-            ready: _,
-        } = self;
-        let around = level.around + level.nots;
+        let around = self.level.around + self.level.nots;
         if around >= MOST_DEPTH {
-            return Ok(None);
+            return Ok(false);
         }
-        outer.push(level)?;
-        Ok(Some(LetterReader {
-            outer,
-            level: Level::new(around + 1),
-            ready: false,
-        }))
+        let outer = mem::replace(&mut self.level, Level::new(around + 1));
+        self.outer.push(outer)?;
+        Ok(true)
     }
 
     // `&`
-    fn and(self) -> LetterReader
-        ensures { letter_state result ≡ machine.anded (letter_state self) }
+    fn and(&mut self)
+        ensures { letter_state self.new ≡ machine.anded (letter_state self.old) }
     {
-        LetterReader {
-            ready: false,
-            ..self
-        }
+        self.ready = false;
     }
 
     // `|`
-    fn or(self, alloc: Global) -> Result<LetterReader, Memory>
-        ensures { IfOk result (λ new. letter_state new ≡ machine.ored (letter_state self)) }
+    fn or(&mut self, alloc: Global) -> Result<(), Memory>
+        ensures { OnOk result (letter_state self.new ≡ machine.ored (letter_state self.old)) }
     {
-        let level = self.level.or(alloc)?;
-        Ok(LetterReader {
-            level,
-            ready: false,
-            ..self
-        })
+        self.level.or(alloc)?;
+        self.ready = false;
+        Ok(())
     }
 
     // `)`
-    fn close(self, alloc: Global) -> Result<Option<LetterReader>, Memory>
-        ensures { IfOk result (λ next. option_map letter_state next ≡ machine.close (letter_state self)) }
+    fn close(&mut self, alloc: Global) -> Result<bool, Memory>
+        ensures { IfOk result (λ taken. state_if taken (letter_state self.new) ≡ machine.close (letter_state self.old)) }
     {
-        let LetterReader {
-            mut outer,
-            level: inner,
-            ready: _,
-        } = self;
-        match outer.pop() {
-            Some(level) => {
-                let label = inner.label(alloc)?;
-                let level = level.complete(alloc, label)?;
-                Ok(Some(LetterReader {
-                    outer,
-                    level,
-                    ready: true,
-                }))
-            }
-            None => Ok(None),
-        }
+        let Some(level) = self.outer.pop() else {
+            return Ok(false);
+        };
+        let label = self.level.label(alloc)?;
+        self.level = level;
+        self.complete(alloc, label)
     }
 
-    /// The letter's formula, where it is complete.
-    pub(crate) fn whole(self, alloc: Global) -> Result<Option<Label>, Memory>
-        ensures { IfOk result (λ label. option_map label_tree label ≡ machine.whole_letter (letter_state self)) }
+    /// The letter's formula, where it is complete. The next letter then begins.
+    pub(crate) fn whole(&mut self, alloc: Global) -> Result<Option<Label>, Memory>
+        ensures label { IfOk result (λ label. option_map label_tree label ≡ machine.whole_letter (letter_state self.old)) }
+        ensures next { IfOk result (λ label. IfSome label (λ _. letter_state self.new ≡ machine.fresh)) }
     {
-        let LetterReader {
-            outer,
-            level,
-            ready,
-        } = self;
-        if ready && outer.is_empty() {
-            Ok(Some(level.label(alloc)?))
-        } else {
-            Ok(None)
+        if !self.ready || !self.outer.is_empty() {
+            return Ok(None);
         }
+        let label = self.level.label(alloc)?;
+        self.level = Level::new(0);
+        self.ready = false;
+        Ok(Some(label))
     }
 
     /// Whether nothing of the letter is read.

@@ -10,7 +10,7 @@ use aut_base::Memory;
 use std::alloc::Global;
 
 /// What follows in a text, after blanks.
-#[derive(Debug, Drop)]
+#[derive(Drop)]
 pub(crate) enum Next {
     /// A token, the offset of its first byte, and that after its last.
     Token(Token, usize, usize),

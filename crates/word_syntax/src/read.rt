@@ -45,10 +45,9 @@ fn read_tokens(alloc: Global, bytes: &[u8]) -> Result<WordReader, WordFault>
     'tokens: loop {
         match next_token(alloc, bytes, at)? {
             Next::Token(token, start, end) => {
-                let Some(next) = reader.step(alloc, token)? else {
+                if !reader.step(alloc, token)? {
                     return Err(WordFault::BadWord(start as u64));
-                };
-                reader = next;
+                }
                 at = end;
             }
             Next::Nothing(place) => {

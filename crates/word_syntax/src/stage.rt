@@ -1,7 +1,7 @@
 //! The stages of parsing a pattern.
 
 /// The part of a pattern that is being read.
-#[derive(Clone, Copy, Debug, PartialEq, Eq)]
+#[derive(Clone, Copy)]
 pub(crate) enum Stage {
     /// In the letters of the stem.
     Stem,

@@ -3,7 +3,7 @@
 use aut_base::Text;
 
 /// A token of the notation of lasso words.
-#[derive(Debug, Drop)]
+#[derive(Drop)]
 pub enum Token {
     /// `1` or `true`
     True,

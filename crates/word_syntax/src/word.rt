@@ -9,10 +9,9 @@ use crate::stage::Stage;
 use crate::token::Token;
 use aut_base::{Memory, Names};
 use std::alloc::Global;
-use std::mem;
 
 /// A pattern as far as it is read.
-#[derive(Debug, Drop)]
+#[derive(Drop)]
 pub(crate) struct WordReader {
     /// The names, in the order in which they first appear.
     pub(crate) names: Names,
@@ -23,7 +22,7 @@ pub(crate) struct WordReader {
 }
 
 impl WordReader {
-    ghost use Rattle.word_syntax.specs.inner.Chains.{TakesToken, word_state};
+    ghost use Rattle.word_syntax.specs.inner.Chains.{TakesToken, state_if, word_state};
 
     /// Nothing is read yet.
     pub(crate) fn new(alloc: Global) -> WordReader
@@ -39,10 +38,10 @@ impl WordReader {
         }
     }
 
-    /// The parser after a token, or `None` where the token can't follow.
-    pub(crate) fn step(self, alloc: Global, token: Token) -> Result<Option<WordReader>, Memory>
-        requires { length self.names < 2 ^ 32 }
-        ensures { IfOk result (λ next. TakesToken self token next) }
+    /// Takes a token, and answers whether it can follow; where it can't, the parser is of no further use.
+    pub(crate) fn step(&mut self, alloc: Global, token: Token) -> Result<bool, Memory>
+        requires { length self.old.names < 2 ^ 32 }
+        ensures { IfOk result (λ taken. TakesToken self.old token (state_if taken self.new)) }
     {
         match token {
             Token::Semicolon => self.end_letter(alloc),
@@ -54,102 +53,72 @@ impl WordReader {
     }
 
     // A token of a letter.
-    fn in_letter(self, alloc: Global, token: Token) -> Result<Option<WordReader>, Memory>
-        requires few { length self.names < 2 ^ 32 }
+    fn in_letter(&mut self, alloc: Global, token: Token) -> Result<bool, Memory>
+        requires few { length self.old.names < 2 ^ 32 }
         requires of_letter { machine.is_of_letter token ≡ true }
-        ensures { IfOk result (λ next. TakesToken self token next) }
+        ensures { IfOk result (λ taken. TakesToken self.old token (state_if taken self.new)) }
     {
-        let WordReader {
-            mut names,
-            stem,
-            cycle,
-            stage,
-            letter,
-        } = self;
-        if !has_letters(stage) {
-            return Ok(None);
+        if !has_letters(self.stage) {
+            return Ok(false);
         }
-        match letter.step(alloc, &mut names, token)? {
-            Some(letter) => Ok(Some(WordReader {
-                names,
-                stem,
-                cycle,
-                stage,
-                letter,
-            })),
-            None => Ok(None),
-        }
+        self.letter.step(alloc, &mut self.names, token)
     }
 
     // `;`
-    fn end_letter(mut self, alloc: Global) -> Result<Option<WordReader>, Memory>
-        ensures { IfOk result (λ next. TakesToken self Token.Semicolon next) }
+    fn end_letter(&mut self, alloc: Global) -> Result<bool, Memory>
+        ensures { IfOk result (λ taken. TakesToken self.old Token.Semicolon (state_if taken self.new)) }
     {
-        let letter = mem::replace(&mut self.letter, LetterReader::new(alloc));
-        let Some(label) = letter.whole(alloc)? else {
-            return Ok(None);
+        let Some(label) = self.letter.whole(alloc)? else {
+            return Ok(false);
         };
         match self.stage {
-            Stage::Stem => {
-                self.stem.push(label)?;
-                Ok(Some(self))
-            }
-            Stage::Cycle => {
-                self.cycle.push(label)?;
-                Ok(Some(self))
-            }
-            _ => Ok(None),
+            Stage::Stem => self.stem.push(label)?,
+            Stage::Cycle => self.cycle.push(label)?,
+            _ => return Ok(false),
         }
+        Ok(true)
     }
 
     // `}`
-    fn end_word(mut self, alloc: Global) -> Result<Option<WordReader>, Memory>
-        ensures { IfOk result (λ next. TakesToken self Token.RightBrace next) }
+    fn end_word(&mut self, alloc: Global) -> Result<bool, Memory>
+        ensures { IfOk result (λ taken. TakesToken self.old Token.RightBrace (state_if taken self.new)) }
     {
         let Some(label) = self.letter.whole(alloc)? else {
-            return Ok(None);
+            return Ok(false);
         };
         match self.stage {
             Stage::Cycle => {
                 self.cycle.push(label)?;
-                Ok(Some(WordReader {
-                    stage: Stage::End,
-                    letter: LetterReader::new(alloc),
-                    ..self
-                }))
+                self.stage = Stage::End;
+                Ok(true)
             }
-            _ => Ok(None),
+            _ => Ok(false),
         }
     }
 
     // `cycle`
-    fn begin_cycle(self) -> Option<WordReader>
-        ensures { TakesToken self Token.Cycle result }
+    fn begin_cycle(&mut self) -> bool
+        ensures { TakesToken self.old Token.Cycle (state_if result self.new) }
     {
         match self.stage {
             Stage::Stem => {
-                if !self.letter.is_fresh() {
-                    return None;
-                }
-                Some(WordReader {
-                    stage: Stage::Brace,
-                    ..self
-                })
+                self.stage = Stage::Brace;
+                self.letter.is_fresh()
             }
-            _ => None,
+            _ => false,
         }
     }
 
     // `{`
-    fn open_cycle(self) -> Option<WordReader>
-        ensures { TakesToken self Token.LeftBrace result }
+    fn open_cycle(&mut self) -> bool
+        ensures { TakesToken self.old Token.LeftBrace (state_if result self.new) }
     {
         match self.stage {
-            Stage::Brace => Some(WordReader {
-                stage: Stage::Cycle,
-                ..self
-            }),
-            _ => None,
+            Stage::Brace => {
+                self.stage = Stage::Cycle;
+                true
+            }
+            _ => false,
         }
     }
 }

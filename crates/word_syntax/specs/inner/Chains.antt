@@ -1,5 +1,5 @@
 -- The states of the parsers in memory as states of the abstract parser (`Machine`), and what a step of them does.
-use Rattle.std.specs.Prelude.{◌≡◌, ◌≢◌, ℕ, ◌⊎◌, List, [], ◌∷◌, ◌++◌, map, reverse, All, Contains, slice_get, Option, Some, None}
+use Rattle.std.specs.Prelude.{◌≡◌, ◌≢◌, ℕ, Bool, if◌then◌else◌, ◌⊎◌, List, [], ◌∷◌, ◌++◌, map, reverse, All, Contains, slice_get, Option, Some, None}
 use Rattle.aut_base.specs.Label.{LabelTree, label_list, label_tree}
 use Rattle.word_syntax.specs.inner.Machine.{LetterState, LevelTree, WordState, letter_step, word_step}
 use Rattle.word_syntax.specs.declared.chain.Chain.{Chain}
@@ -41,6 +41,10 @@ NamesGo _ old new = new ≡ old
 -- the function has the index of each name of the list
 abbrev pub Agrees : (List ℕ → ℕ) → List (List ℕ) → Type 0
 Agrees place names = (i : ℕ) (name : List ℕ) → slice_get names i ≡ Some name → place name ≡ i
+
+-- the state after a token, where the token is taken
+abbrev pub state_if : {A : Type 0} → Bool → A → Option A
+state_if taken s = if taken then Some s else None
 
 -- The parser of a letter takes the token, or rejects it.
 abbrev pub GoesInLetter : LetterState → Token → List (List ℕ) → List (List ℕ) → Option LetterState → Type 0
