@@ -1,11 +1,11 @@
 //! The parser of a letter's formula, which takes one token at a time, with a stack of the levels of parentheses.
 
 ghost use Rattle.aut_base.specs.declared.limit.TheConstants.{MOST_DEPTH};
-ghost use Rattle.std.specs.Prelude.{◌≡◌, true, false, ◌+◌, ◌<◌, ◌≤◌, ◌^◌, length, IfOk, IfSome, OnOk, Some};
-ghost use Rattle.std.specs.Option.{option_map};
+ghost use Rattle.std.specs.Prelude.{◌≡◌, true, false, ◌+◌, ◌<◌, ◌≤◌, ◌^◌, length, map, IfOk, OnOk};
 ghost use Rattle.aut_base.specs.Label.{label_tree};
 ghost use Rattle.word_syntax.specs.inner.Machine as machine;
 
+use crate::LabelList;
 use crate::chain::Chain;
 use crate::names::place;
 use crate::token::Token;
@@ -156,16 +156,17 @@ impl LetterReader {
         ensures { IfOk result (λ taken. GoesInLetter (letter_state self.old) token names.old names.new (state_if taken (letter_state self.new))) }
     {
         match token {
-            Token::True => self.complete(alloc, Label::True),
-            Token::False => self.complete(alloc, Label::False),
+            Token::True => self.complete(alloc, Label::True)?,
+            Token::False => self.complete(alloc, Label::False)?,
             Token::Name(name) => {
                 let place = place(names, name)?;
-                self.complete(alloc, Label::Prop(place))
+                self.complete(alloc, Label::Prop(place))?;
             }
-            Token::Not => Ok(self.not()),
-            Token::LeftParen => self.open(),
-            _ => Ok(false),
+            Token::Not => return Ok(self.not()),
+            Token::LeftParen => return self.open(),
+            _ => return Ok(false),
         }
+        Ok(true)
     }
 
     // Takes a token where an operand has just ended.
@@ -183,12 +184,12 @@ impl LetterReader {
     }
 
     // An operand has ended.
-    fn complete(&mut self, alloc: Global, label: Label) -> Result<bool, Memory>
-        ensures { IfOk result (λ taken. state_if taken (letter_state self.new) ≡ Some (machine.complete (letter_state self.old) (label_tree label))) }
+    fn complete(&mut self, alloc: Global, label: Label) -> Result<(), Memory>
+        ensures { OnOk result (letter_state self.new ≡ machine.complete (letter_state self.old) (label_tree label)) }
     {
         self.level.complete(alloc, label)?;
         self.ready = true;
-        Ok(true)
+        Ok(())
     }
 
     // `!`
@@ -242,21 +243,21 @@ impl LetterReader {
         };
         let label = self.level.label(alloc)?;
         self.level = level;
-        self.complete(alloc, label)
+        self.complete(alloc, label)?;
+        Ok(true)
     }
 
-    /// The letter's formula, where it is complete. The next letter then begins.
-    pub(crate) fn whole(&mut self, alloc: Global) -> Result<Option<Label>, Memory>
-        ensures label { IfOk result (λ label. option_map label_tree label ≡ machine.whole_letter (letter_state self.old)) }
-        ensures next { IfOk result (λ label. IfSome label (λ _. letter_state self.new ≡ machine.fresh)) }
+    /// Adds the letter's formula to these and begins the next letter. Answers whether the letter is complete.
+    pub(crate) fn end(&mut self, alloc: Global, labels: &mut LabelList) -> Result<bool, Memory>
+        ensures { IfOk result (λ ended. state_if ended (map label_tree labels.new, letter_state self.new) ≡ machine.ended_into (map label_tree labels.old) (letter_state self.old)) }
     {
         if !self.ready || !self.outer.is_empty() {
-            return Ok(None);
+            return Ok(false);
         }
-        let label = self.level.label(alloc)?;
+        labels.push(self.level.label(alloc)?)?;
         self.level = Level::new(0);
         self.ready = false;
-        Ok(Some(label))
+        Ok(true)
     }
 
     /// Whether nothing of the letter is read.

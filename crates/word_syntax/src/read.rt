@@ -1,7 +1,9 @@
 //! Reading a pattern, or a single name.
 
-ghost use Rattle.std.specs.Prelude.{◌≡◌, ◌+◌, ◌<◌, ◌≤◌, ◌^◌, length, IfOk, MatchOption};
+ghost use Rattle.std.specs.Prelude.{◌≡◌, ◌+◌, ◌<◌, ◌≤◌, ◌^◌, [], length, IfOk, MatchOption};
 ghost use Rattle.word_syntax.specs.Writing.{AnswersWord, IsNameAtFront, IsStoppedAt, NoNameAtFront};
+ghost use Rattle.word_syntax.specs.inner.Chains.{word_state};
+ghost use Rattle.word_syntax.specs.inner.Machine.{word_start};
 ghost use Rattle.word_syntax.specs.inner.Reading.{IsThrough, StopsOrGoes};
 
 use crate::lexer::front_token;
@@ -22,25 +24,28 @@ pub fn read_word(alloc: Global, text: &Text) -> Result<Pattern, WordFault>
     if bytes.len() > u32::MAX as usize {
         return Err(WordFault::BadWord(0));
     }
+    let mut reader = WordReader::new(alloc);
+    read_tokens(alloc, bytes, &mut reader)?;
     let WordReader {
         names,
         stem,
         cycle,
         stage,
         letter: _,
-    } = read_tokens(alloc, bytes)?;
+    } = reader;
     match stage {
         Stage::End => Ok(Pattern { names, stem, cycle }),
         _ => Err(WordFault::BadWord(bytes.len() as u64)),
     }
 }
 
-// The parser after all tokens of the text.
-fn read_tokens(alloc: Global, bytes: &[u8]) -> Result<WordReader, WordFault>
-    requires { length bytes.now < 2 ^ 32 }
-    ensures { StopsOrGoes bytes.now result }
+// Takes all tokens of the text.
+fn read_tokens(alloc: Global, bytes: &[u8], reader: &mut WordReader) -> Result<(), WordFault>
+    requires short { length bytes.now < 2 ^ 32 }
+    requires state { word_state reader.old ≡ word_start }
+    requires names { reader.old.names ≡ [] }
+    ensures { StopsOrGoes bytes.now reader.new result }
 {
-    let mut reader = WordReader::new(alloc);
     let mut at = 0;
     'tokens: loop {
         match next_token(alloc, bytes, at)? {
@@ -54,7 +59,7 @@ fn read_tokens(alloc: Global, bytes: &[u8]) -> Result<WordReader, WordFault>
                 if place < bytes.len() {
                     return Err(WordFault::BadWord(place as u64));
                 }
-                return Ok(reader);
+                return Ok(());
             }
         }
     }

@@ -68,29 +68,21 @@ impl WordReader {
     fn end_letter(&mut self, alloc: Global) -> Result<bool, Memory>
         ensures { IfOk result (λ taken. TakesToken self.old Token.Semicolon (state_if taken self.new)) }
     {
-        let Some(label) = self.letter.whole(alloc)? else {
-            return Ok(false);
-        };
         match self.stage {
-            Stage::Stem => self.stem.push(label)?,
-            Stage::Cycle => self.cycle.push(label)?,
-            _ => return Ok(false),
+            Stage::Stem => self.letter.end(alloc, &mut self.stem),
+            Stage::Cycle => self.letter.end(alloc, &mut self.cycle),
+            _ => Ok(false),
         }
-        Ok(true)
     }
 
     // `}`
     fn end_word(&mut self, alloc: Global) -> Result<bool, Memory>
         ensures { IfOk result (λ taken. TakesToken self.old Token.RightBrace (state_if taken self.new)) }
     {
-        let Some(label) = self.letter.whole(alloc)? else {
-            return Ok(false);
-        };
         match self.stage {
             Stage::Cycle => {
-                self.cycle.push(label)?;
                 self.stage = Stage::End;
-                Ok(true)
+                self.letter.end(alloc, &mut self.cycle)
             }
             _ => Ok(false),
         }

@@ -18,13 +18,13 @@ use Rattle.word_syntax.specs.declared.word.WordReader.{WordReader}
 use Rattle.word_syntax.specs.declared.token.Token.{Token}
 use Rattle.word_syntax.specs.declared.token.Token.TheVariants as token
 
-fault_said : (text : List ℕ) (f : WordFault) → length text < 2 ^ 32 → StopsOrGoes text (Err f) → AnswersWord (Err f) text
-fault_said text (BadWord k) short s = stopped_bad text k short s
-fault_said text Memory short s = tt
+fault_said : (text : List ℕ) (reader : WordReader) (f : WordFault) → length text < 2 ^ 32 → StopsOrGoes text reader (Err f) → AnswersWord (Err f) text
+fault_said text reader (BadWord k) short s = stopped_bad text k short s
+fault_said text reader Memory short s = tt
 
 -- a fault that is passed on
-pub passed_on : (text bytes : List ℕ) (r : Result Pattern WordFault) (f : WordFault) → bytes ≡ text → length bytes < 2 ^ 32 → IsErrAnd r (λ y. y ≡ f) → StopsOrGoes bytes (Err f) → AnswersWord r text
-passed_on text bytes r f is short h s = hands_on r f (λ x. AnswersWord x text) h (subst (AnswersWord (Err f)) is (fault_said bytes f short s))
+pub passed_on : (text bytes : List ℕ) (reader : WordReader) (r : Result Pattern WordFault) (f : WordFault) → bytes ≡ text → length bytes < 2 ^ 32 → IsErrAnd r (λ y. y ≡ f) → StopsOrGoes bytes reader (Err f) → AnswersWord r text
+passed_on text bytes reader r f is short h s = hands_on r f (λ x. AnswersWord x text) h (subst (AnswersWord (Err f)) is (fault_said bytes reader f short s))
 
 pub word_written : (text bytes : List ℕ) (r : WordReader) → bytes ≡ text → length bytes < 2 ^ 32 → IsThrough bytes r → r.stage ≡ End
     → WritesWord text (record { names = r.names; stem = map label_tree r.stem; cycle = map label_tree r.cycle })

@@ -120,6 +120,10 @@ is_none xs = length xs == 0
 abbrev pub whole_letter : LetterState → Option LabelTree
 whole_letter s = if s.ready && is_none s.outer then Some (level_label s.level) else None
 
+-- the labels with that of the letter at their end, where it is complete, and the parser of the next letter
+abbrev pub ended_into : List LabelTree → LetterState → Option (List LabelTree × LetterState)
+ended_into labels s = option_map (λ t. (labels ++ t ∷ [], fresh)) (whole_letter s)
+
 -- nothing is read of the letter yet
 abbrev pub is_fresh : LetterState → Bool
 is_fresh s = not s.ready && (is_none s.outer && (is_none s.level.ors && (is_none s.level.ands && (s.level.nots == 0))))

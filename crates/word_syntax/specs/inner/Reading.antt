@@ -39,7 +39,7 @@ pub record IsThrough (text : List ℕ) (r : WordReader) : Type 0 where
   pub few_letters : length r.stem + length r.cycle ≤ length text
 
 -- The answer of the loop over a text's tokens is right.
-abbrev pub StopsOrGoes : List ℕ → Result WordReader WordFault → Type 0
-StopsOrGoes text (Ok r) = IsThrough text r
-StopsOrGoes text (Err (BadWord k)) = IsStoppedAt text k
-StopsOrGoes text (Err Memory) = Unit {0}
+abbrev pub StopsOrGoes : List ℕ → WordReader → Result (Unit {0}) WordFault → Type 0
+StopsOrGoes text r (Ok _) = IsThrough text r
+StopsOrGoes text r (Err (BadWord k)) = IsStoppedAt text k
+StopsOrGoes text r (Err Memory) = Unit {0}
