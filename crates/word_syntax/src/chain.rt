@@ -24,19 +24,17 @@ impl Chain {
     pub(crate) fn add(&mut self, alloc: Global, label: Label) -> Result<(), Memory>
         ensures { OnOk result (chain_list self.new ≡ chain_list self.old ++ label_tree label ∷ []) }
     {
-        match mem::replace(self, Chain::Nothing) {
-            Chain::Nothing => {
-                *self = Chain::One(label);
-            }
+        *self = match mem::replace(self, Chain::Nothing) {
+            Chain::Nothing => Chain::One(label),
             Chain::One(first) => {
                 let pair = Labels::pair(alloc, first, label);
-                *self = Chain::Several(Box::new(alloc, pair)?);
+                Chain::Several(Box::new(alloc, pair)?)
             }
             Chain::Several(mut labels) => {
                 labels.push(label)?;
-                *self = Chain::Several(labels);
+                Chain::Several(labels)
             }
-        }
+        };
         Ok(())
     }
 
