@@ -14,14 +14,14 @@ use label_guards::{Draft, Guard, Guards};
 
 /// Whether the links of each state that was surveyed are disjoint (no letter satisfies two of their guards) and exhaustive (each
 /// letter satisfies one).
-#[derive(Clone, Copy, Debug)]
+#[derive(Clone, Copy)]
 pub(crate) struct GuardSurvey {
     pub(crate) disjoint: bool,
     pub(crate) exhaustive: bool,
 }
 
 /// The disjunction of some links' guards, where it is still needed, and whether the links are disjoint.
-#[derive(Clone, Copy, Debug)]
+#[derive(Clone, Copy)]
 struct Met {
     guard: Guard,
     disjoint: bool,

@@ -39,7 +39,7 @@ impl From<NameFault> for PairFault {
 }
 
 /// Why pairs of states could not be explored.
-#[derive(Clone, Copy, Debug, PartialEq, Eq)]
+#[derive(Clone, Copy)]
 pub(crate) enum ExploreFault {
     /// More pairs are reached than `aut_base::MOST_PAIRS`.
     Pairs,

@@ -13,7 +13,7 @@ use graph_walk::{Graph, reach};
 use std::alloc::Global;
 
 /// An edge: its two states, and the index of its link in the automaton.
-#[derive(Clone, Copy, Debug)]
+#[derive(Clone, Copy)]
 pub(crate) struct EdgeRef {
     pub(crate) from: u32,
     pub(crate) to: u32,

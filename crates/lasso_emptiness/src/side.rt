@@ -9,7 +9,7 @@ use aut_core::Link;
 
 /// The set literal `k` or `!k` of an atom. An edge satisfies it where it is in the set, or, negated, where it isn't. `Inf` requires
 /// that some edge of a cycle satisfies it, `Fin` that none does.
-#[derive(Clone, Copy, Debug)]
+#[derive(Clone, Copy)]
 pub(crate) struct SetLiteral {
     pub(crate) set: u32,
     pub(crate) neg: bool,

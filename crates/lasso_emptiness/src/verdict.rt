@@ -3,7 +3,7 @@
 use crate::side::SetLiteral;
 
 /// What all edges of a component together decide about a condition.
-#[derive(Clone, Copy, Debug)]
+#[derive(Clone, Copy)]
 pub(crate) enum Verdict {
     /// Together they meet it.
     Met,

@@ -18,7 +18,7 @@ use hoa_reader::{Front, read_raw};
 use std::alloc::Global;
 
 /// What one turn of the loop over operands did.
-#[derive(Clone, Copy, Debug, PartialEq, Eq)]
+#[derive(Clone, Copy)]
 pub(crate) enum OperandTurn {
     /// The file of the next one was opened.
     Opened,

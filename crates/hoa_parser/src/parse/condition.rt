@@ -198,7 +198,7 @@ fn group<I: Inputs>(
 }
 
 /// What a word says in a condition.
-#[derive(Clone, Copy, Debug, PartialEq, Eq)]
+#[derive(Clone, Copy)]
 pub(crate) enum Sign {
     True,
     False,
