@@ -1,7 +1,7 @@
 -- An automaton over other names, with its guards in another store, is well formed, and is deterministic or complete as before.
 use Rattle.std.proofs.Common.{◌≡◌, ◌∙◌, ◌↔◌, ◌<◌, ◌≤◌, ℕ, Bool, IsTrue, List, All, AllPairs, Contains, ap, arith, get_or, length, map, refl, subst, sym}
 use Rattle.std.proofs.lemmas.List.{get_or-map, length-map}
-use Rattle.std.proofs.lemmas.List.Elements.{All-contains}
+use Rattle.std.proofs.lemmas.List.Elements.{All-contains, All-weaker}
 use Rattle.std.proofs.lemmas.Simd.{map-map}
 use Rattle.aut_base.proofs.canonical.CanonicalAutomata.{labels_below}
 use Rattle.aut_base.proofs.lists.Members.{from_map, there_map}
@@ -11,8 +11,8 @@ use Rattle.aut_base.specs.Label.{AllBelow}
 use Rattle.aut_base.specs.LabelLaws.{LabelsBelow}
 use Rattle.aut_base.specs.Word.{NameSet}
 use Rattle.aut_base.specs.declared.limit.TheConstants.{MOST_NAMES}
-use Rattle.label_guards.specs.Store.{Store}
-use Rattle.aut_core.specs.SymbolicAutomata.{AreSymbolicParts, SymbolicAutomaton, automaton_of, edge_of}
+use Rattle.label_guards.specs.Store.{Has, Store}
+use Rattle.aut_core.specs.SymbolicAutomata.{AreSymbolicParts, IsLinkOf, IsWellFormedSymbolic, SymbolicAutomaton, automaton_of, edge_of}
 use Rattle.aut_core.specs.Deterministic.{AreApart, IsComplete, IsDeterministic, is_met}
 use Rattle.aut_core.specs.Index.{IsRowStart}
 use Rattle.aut_core.specs.Kept.{IsIndexed}
@@ -20,7 +20,7 @@ use Rattle.aut_core.specs.Links.{StandFor}
 use Rattle.aut_core.specs.OtherNames.{over_names}
 use Rattle.aut_core.specs.declared.link.Link.{Link}
 use Rattle.aut_core.proofs.Made.{parts_are_well_formed}
-use Rattle.aut_core.proofs.OtherNames.{AreAmong, over_edge, over_parts, over_says, over_well_formed}
+use Rattle.aut_core.proofs.OtherNames.{AreAmong, over_edge, over_own, over_parts, over_says, over_well_formed}
 
 -- Edges over the new names are met by the same letters.
 
@@ -103,6 +103,17 @@ begins_like old new state place same begins = record {
 pub relabelled_is : (c : SymbolicAutomaton) (names over : List (List ℕ)) (t : Store) (links : List Link) → over ≡ names → StandFor t links (over_names names (automaton_of c)).edges
     → automaton_of (record c { names = over; store = t; links = links }) ≡ over_names names (automaton_of c)
 relabelled_is c names over t links is stand = λ i. record (over_names names (automaton_of c)) { names = is i; edges = stand.edges i }
+
+-- Copies of its links stand for its edges over its own names.
+pub own_stand : (c : SymbolicAutomaton) (names : List (List ℕ)) (t : Store) (links : List Link) → IsWellFormedSymbolic c → names ≡ c.names → t ≡ c.store → links ≡ c.links
+    → StandFor t links (over_names names (automaton_of c)).edges
+own_stand c names t links core same stored linked =
+    let own : StandFor c.store c.links (over_names c.names (automaton_of c)).edges = record {
+      has = All-weaker (IsLinkOf c) (λ l. Has c.store l.guard) (λ l is. is.guard) c.links core.parts.links;
+      edges = sym (ap (λ (a : Automaton). a.edges) (over_own c core));
+    } in
+    let copied : record c { names = names; store = t; links = links } ≡ c = λ i. record c { names = same i; store = stored i; links = linked i } in
+    subst (λ (k : SymbolicAutomaton). StandFor k.store k.links (over_names k.names (automaton_of c)).edges) (sym copied) own
 
 -- The index and the flags of the automaton stay right.
 pub kept_over : (c : SymbolicAutomaton) (names : List (List ℕ)) (t : Store) (links : List Link) (rows : List ℕ) (deterministic complete : Bool) → AreAmong c.names names → length names ≤ MOST_NAMES

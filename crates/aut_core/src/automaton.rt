@@ -259,22 +259,11 @@ impl Automaton {
     pub fn copy(&self, alloc: Global) -> Result<Automaton, Memory>
         ensures { IfOk result (λ copy. copy ≡ self.now) }
     {
-        let fields = &self.fields;
-        let copied = Fields {
-            names: copy_names(&fields.names)?,
-            starts: copy_numbers(&fields.starts)?,
-            rows: copy_places(&fields.rows)?,
-            links: copy_links(&fields.links)?,
-            formula: fields.formula.copy(alloc)?,
-            guards: fields.guards.copy(alloc)?,
-            states: fields.states,
-            sets: fields.sets,
-            is_deterministic: fields.is_deterministic,
-            is_complete: fields.is_complete,
-        };
-        Ok(Automaton {
-            fields: Box::new(alloc, copied)?,
-        })
+        self.well_formedness();
+        let names = copy_names(self.names())?;
+        let guards = self.guards().copy(alloc)?;
+        let links = copy_links(&self.fields.links)?;
+        self.relabelled(alloc, names, guards, links)
     }
 
     /// An automaton of these states, starts and links, with copies of this one's names, labels, acceptance sets and condition.
