@@ -30,11 +30,11 @@ pub record IsReducedDiagram (names : ℕ) (ns : List Node) : Type 0 where
 abbrev pub AddsNode : List Node → List Node → Node → Type 0
 AddsNode old new n = (new ≡ old) ⊎ ((new ≡ old ++ n ∷ []) × (Contains old n → ⊥))
 
-abbrev pub same_node : Node → Node → Bool
-same_node a b = nat_eq a.prop b.prop && (nat_eq a.low b.low && nat_eq a.high b.high)
+abbrev pub equal_nodes : Node → Node → Bool
+equal_nodes a b = nat_eq a.prop b.prop && (nat_eq a.low b.low && nat_eq a.high b.high)
 
 -- the number of each node is its place in the list
-pub record AreNumbered (ns : List Node) (number : Node → Option ℕ) : Type 0 where
+pub record HasNumbers (ns : List Node) (number : Node → Option ℕ) : Type 0 where
   pub there : (n : Node) (i : ℕ) → number n ≡ Some i → slice_get ns i ≡ Some n
   pub known : (i : ℕ) (n : Node) → slice_get ns i ≡ Some n → number n ≡ Some i
 

@@ -20,13 +20,13 @@ impl Model for NodeList {
     ghost use Rattle.std.specs.Prelude.{List};
     ghost use Rattle.std.specs.HashMap.{get};
     ghost use Rattle.label_guards.specs.declared.nodes.Node.{Node as Pair};
-    ghost use Rattle.label_guards.specs.Nodes.{AreNumbered, same_node};
+    ghost use Rattle.label_guards.specs.Nodes.{HasNumbers, equal_nodes};
 
     ghost Value = { List Pair };
 
     ghost view = { λ l. l.nodes.items };
 
-    ghost invariant = { λ l. AreNumbered l.nodes.items (get same_node l.numbers) };
+    ghost invariant = { λ l. HasNumbers l.nodes.items (get equal_nodes l.numbers) };
 }
 
 impl NodeList {

@@ -23,7 +23,8 @@ fault_said text reader (BadWord k) short s = stopped_bad text k short s
 fault_said text reader Memory short s = tt
 
 -- a fault that is passed on
-pub passed_on : (text bytes : List ℕ) (reader : WordReader) (r : Result Pattern WordFault) (f : WordFault) → bytes ≡ text → length bytes < 2 ^ 32 → IsErrAnd r (λ y. y ≡ f) → StopsOrGoes bytes reader (Err f) → AnswersWord r text
+pub passed_on : (text bytes : List ℕ) (reader : WordReader) (r : Result Pattern WordFault) (f : WordFault) → bytes ≡ text → length bytes < 2 ^ 32
+    → IsErrAnd r (λ y. y ≡ f) → StopsOrGoes bytes reader (Err f) → AnswersWord r text
 passed_on text bytes reader r f is short h s = hands_on r f (λ x. AnswersWord x text) h (subst (AnswersWord (Err f)) is (fault_said bytes reader f short s))
 
 pub word_written : (text bytes : List ℕ) (r : WordReader) → bytes ≡ text → length bytes < 2 ^ 32 → IsThrough bytes r → r.stage ≡ End

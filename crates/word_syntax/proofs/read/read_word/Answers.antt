@@ -6,7 +6,8 @@ use Rattle.word_syntax.proofs.texts.WordAnswers.{passed_on, word_ended, word_wri
 use Rattle.word_syntax.proofs.read.read_word.Goals as goal
 
 pub returns-in_err-read_tokens : goal.returns-in_err-read_tokens
-returns-in_err-read_tokens c = passed_on c.args.text.now c.as_bytes-bytes.result.now c.read_tokens.new.reader c.from_residual.result c.in_err-read_tokens.field-0.0 c.as_bytes-bytes.ensures (omega arith)
+returns-in_err-read_tokens c =
+    passed_on c.args.text.now c.as_bytes-bytes.result.now c.read_tokens.new.reader c.from_residual.result c.in_err-read_tokens.field-0.0 c.as_bytes-bytes.ensures (omega arith)
     c.from_residual.ensures.1 c.in_err-read_tokens.ensures
 
 pub invariant_of-result : goal.invariant_of-result

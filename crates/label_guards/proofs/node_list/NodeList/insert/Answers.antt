@@ -2,7 +2,7 @@ use Rattle.std.proofs.Common.{◌≡◌, ◌++◌, ◌∙◌, ◌∷◌, [], Lis
 use Rattle.std.specs.HashMap.{get}
 use Rattle.aut_base.proofs.lists.Lists.{slice_get-push_last}
 use Rattle.label_guards.specs.declared.nodes.Node.{Node}
-use Rattle.label_guards.specs.Nodes.{AreNumbered, same_node}
+use Rattle.label_guards.specs.Nodes.{HasNumbers, equal_nodes}
 use Rattle.label_guards.proofs.diagrams.Numbered.{not_there, numbered_push}
 use Rattle.label_guards.proofs.node_list.NodeList.insert.Goals as goal
 
@@ -11,13 +11,13 @@ returns-in-Some-clause-stored c = ap (λ l. slice_get l c.in-Some.number.now) (s
 
 pub invariant_of-self-in-Ok : goal.invariant_of-self-in-Ok
 invariant_of-self-in-Ok c =
-    let none : get same_node c.self.inside.numbers c.args.node ≡ None = sym c.in_default.ensures.value in
-    subst (λ ns. AreNumbered ns (get same_node c.insert.new.self)) (sym c.in_ok-push.ensures.items)
-    (numbered_push _ (get same_node c.self.inside.numbers) _ c.args.node _ (ap length (sym c.as_slice-number.ensures.value)) c.self.invariant none c.in-Ok.ensures.updates.0)
+    let none : get equal_nodes c.self.inside.numbers c.args.node ≡ None = sym c.in_default.ensures.value in
+    subst (λ ns. HasNumbers ns (get equal_nodes c.insert.new.self)) (sym c.in_ok-push.ensures.items)
+    (numbered_push _ (get equal_nodes c.self.inside.numbers) _ c.args.node _ (ap length (sym c.as_slice-number.ensures.value)) c.self.invariant none c.in-Ok.ensures.updates.0)
 
 pub returns-in-Ok-clause-adds : goal.returns-in-Ok-clause-adds
 returns-in-Ok-clause-adds c =
-    let none : get same_node c.self.inside.numbers c.args.node ≡ None = sym c.in_default.ensures.value in
+    let none : get equal_nodes c.self.inside.numbers c.args.node ≡ None = sym c.in_default.ensures.value in
     inr (
       c.in_ok-push.ensures.items ∙ ap (λ (ns : List Node). ns ++ c.args.node ∷ []) c.self.view_is,
       subst (λ (ns : List Node). Contains ns c.args.node → ⊥) c.self.view_is (not_there _ _ _ c.self.invariant none),
