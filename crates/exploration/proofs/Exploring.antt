@@ -12,7 +12,7 @@ use Rattle.exploration.specs.declared.fault.Fault.{Fault}
 use Rattle.exploration.specs.declared.fault.Fault.TheVariants as fault
 use Rattle.exploration.specs.declared.limits.Limits.{Limits}
 
-module _ {X C N : Type 0} (told : X → ℕ → N → Type 0) (same : X → X → Bool) (l : Limits) (m : TransitionFunction X) (f : X → Type 0) (is : X → ℕ → C → Type 0) (start : X) where
+module _ {X C N : Type 0} (told : X → ℕ → N → Type 0) (same : X → X → Bool) (l : Limits) (m : TransitionFunction X) (f : X → Type 0) (is : X → ℕ → C → Type 0) (first : ExplorationState X) where
   abbrev r : Rules X
   r = rules_of same m l
 
@@ -24,16 +24,17 @@ module _ {X C N : Type 0} (told : X → ℕ → N → Type 0) (same : X → X �
     pub few : total ≤ l.classes
     pub current : Option (X × ℕ)
     pub idle : turn r (stage_of xs es total done current) ≡ turn_taken r (stage_of xs es total done current) (slice_get xs done)
-    pub comes : Comes r (begin start) (Running (stage_of xs es total done current))
+    pub comes : Comes r first (Running (stage_of xs es total done current))
 
   module _ (m' : TransitionFunction X) (f' : X → Type 0) (is' : X → ℕ → C → Type 0) (done total : ℕ) (xs : List X) (es : List (Edge C N)) (so : IsExploring m' f' is' done total xs es) where
-    pub exploring_all : length xs ≤ done → EndsWith r start xs (map transition_of es)
-    exploring_all all = record {
+    pub exploring_all : length xs ≤ done → (start : X) → first ≡ begin start → EndsWith r start xs (map transition_of es)
+    exploring_all all start begun = record {
       reached = stage_of xs es total done so.current;
       listed = refl;
       made = refl;
-      ends = comes_turn r (begin start) (stage_of xs es total done so.current) (Finished (stage_of xs es total done so.current)) so.comes
-          (so.idle ∙ ap (turn_taken r (stage_of xs es total done so.current)) (slice_get_past xs done all));
+      ends = subst (λ (s : ExplorationState X). Comes r s (Finished (stage_of xs es total done so.current))) begun
+          (comes_turn r first (stage_of xs es total done so.current) (Finished (stage_of xs es total done so.current)) so.comes
+          (so.idle ∙ ap (turn_taken r (stage_of xs es total done so.current)) (slice_get_past xs done all)));
     }
 
     module _ (x : X) (here : slice_get xs done ≡ Some x) where
@@ -43,24 +44,24 @@ module _ {X C N : Type 0} (told : X → ℕ → N → Type 0) (same : X → X �
       turn_is : turn r (stage_of xs es total done so.current) ≡ cond (leb (total + m.count x) l.classes) (Running next) (LimitMet fault.Classes)
       turn_is = so.idle ∙ ap (turn_taken r (stage_of xs es total done so.current)) here
 
-      pub exploring_beyond : l.classes - total < m'.count x → IsFaultMet r (begin start) fault.Classes
+      pub exploring_beyond : l.classes - total < m'.count x → IsFaultMet r first fault.Classes
       exploring_beyond many =
           let now : m'.count x ≡ m.count x = ap (λ (w : TransitionFunction X). w.count x) so.keeps.moves in
-          inr (comes_turn r (begin start) (stage_of xs es total done so.current) (LimitMet fault.Classes) so.comes
+          inr (comes_turn r first (stage_of xs es total done so.current) (LimitMet fault.Classes) so.comes
           (turn_is ∙ ap (λ (b : Bool). cond b (Running next) (LimitMet fault.Classes)) (lt-leb (total + m.count x) l.classes (omega (arith, many, now, so.few)))))
 
-      taken_is : m'.count x ≤ l.classes - total → Comes r (begin start) (Running next)
+      taken_is : m'.count x ≤ l.classes - total → Comes r first (Running next)
       taken_is few =
           let now : m'.count x ≡ m.count x = ap (λ (w : TransitionFunction X). w.count x) so.keeps.moves in
-          comes_turn r (begin start) (stage_of xs es total done so.current) (Running next) so.comes
+          comes_turn r first (stage_of xs es total done so.current) (Running next) so.comes
           (turn_is ∙ ap (λ (b : Bool). cond b (Running next) (LimitMet fault.Classes)) (le-leb (total + m.count x) l.classes (omega (arith, few, now, so.few))))
 
       module _ (m1 : TransitionFunction X) (f1 : X → Type 0) (is1 : X → ℕ → C → Type 0) (keeps1 : KeepsSystem m' m1 f' f1 is' is1) (few : m'.count x ≤ l.classes - total) where
         pub exploring_met : (g : Fault) → ((y : X) (sum : ℕ) → slice_get xs done ≡ Some y → IsFaultMet (rules_of same m1 l) (stage_of xs es sum (done + 1) (Some (y, 0))) g)
-            → IsFaultMet r (begin start) g
+            → IsFaultMet r first g
         exploring_met g met = elim (subst (λ (w : TransitionFunction X). IsFaultMet (rules_of same w l) next g) (keeps1.moves ∙ so.keeps.moves) (met x (total + m.count x) here)) [
           | inl e ↦ inl e
-          | inr c ↦ inr (comes_then r (begin start) next (LimitMet g) (taken_is few) c)
+          | inr c ↦ inr (comes_then r first next (LimitMet g) (taken_is few) c)
         ]
 
         pub exploring_more : (m2 : TransitionFunction X) (f2 : X → Type 0) (is2 : X → ℕ → C → Type 0) (n : ℕ) (xs' : List X) (es' : List (Edge C N)) → KeepsSystem m1 m2 f1 f2 is1 is2 → n ≡ m'.count x
@@ -70,7 +71,7 @@ module _ {X C N : Type 0} (told : X → ℕ → N → Type 0) (same : X → X �
             let now : m'.count x ≡ m.count x = ap (λ (w : TransitionFunction X). w.count x) so.keeps.moves in
             let all : n ≡ m.count x = size ∙ now in
             let way = subst (λ (w : TransitionFunction X). Spreads (rules_of same w l) done 0 n xs es xs' es') (keeps1.moves ∙ so.keeps.moves) spreads in
-            let led = comes_then r (begin start) next (Running (stage_of xs' es' (total + m.count x) (done + 1) (Some (x, n)))) (taken_is few) (way x (total + m.count x) here) in
+            let led = comes_then r first next (Running (stage_of xs' es' (total + m.count x) (done + 1) (Some (x, n)))) (taken_is few) (way x (total + m.count x) here) in
             record {
               keeps = keeps_then m m' m2 f f' f2 is is' is2 so.keeps (keeps_then m' m1 m2 f' f1 f2 is' is1 is2 keeps1 keeps2);
               sound = sound;
@@ -78,7 +79,7 @@ module _ {X C N : Type 0} (told : X → ℕ → N → Type 0) (same : X → X �
               few = omega (arith, few, size, so.few);
               current = Some (x, n);
               idle = turn_take r (stage_of xs' es' (total + n) (done + 1) (Some (x, n))) x n (omega (arith, all)) refl;
-              comes = subst (λ (s : ℕ). Comes r (begin start) (Running (stage_of xs' es' s (done + 1) (Some (x, n))))) (ap (λ (k : ℕ). total + k) (sym all)) led;
+              comes = subst (λ (s : ℕ). Comes r first (Running (stage_of xs' es' s (done + 1) (Some (x, n))))) (ap (λ (k : ℕ). total + k) (sym all)) led;
             }
 
 -- the handles that a system answered for the state are those of the classes of the state at the index

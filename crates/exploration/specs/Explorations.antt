@@ -1,4 +1,4 @@
--- The variables of `explore` as a state of the exploration (`ExplorationState`), and what holds of them.
+-- The variables of the loops as a state of the exploration (`ExplorationState`), and what holds of them.
 use Rattle.std.specs.Prelude.{◌≡◌, ◌⊎◌, ◌+◌, ◌≤◌, ℕ, Bool, List, Option, Some, All, length, map, slice_get}
 use Rattle.exploration.specs.declared.exploration.Edge.{Edge}
 use Rattle.exploration.specs.declared.fault.Fault.{Fault}

@@ -1,6 +1,6 @@
 //! Breadth-first exploration of a transition system.
 
-ghost use Rattle.std.specs.Prelude.{◌≡◌, ◌⊎◌, ◌+◌, ◌++◌, ◌<◌, ◌≤◌, ◌^◌, ℕ, List, Some, true, false, IfErr, IfOk, OnOk, length, map, slice_get};
+ghost use Rattle.std.specs.Prelude.{◌≡◌, ◌⊎◌, ◌+◌, ◌++◌, ◌<◌, ◌≤◌, ◌^◌, ℕ, List, None, Some, true, false, IfErr, IfOk, OnOk, length, map, slice_get};
 ghost use Rattle.std.specs.List.{position_or_len};
 ghost use Rattle.exploration.specs.Explorations.{IsFaultMet, IsSound, Spreads, transition_of, rules_of, stage_of};
 ghost use Rattle.exploration.specs.TransitionFunctions.{AreClassHandles, KeepsSystem};
@@ -59,6 +59,25 @@ pub fn explore<S: TransitionSystem>(
         edges: Vec::new(alloc),
     };
     list(&mut found.states, start, limits.states)?;
+    fill(alloc, system, &mut found, limits)?;
+    Ok(found)
+}
+
+/// Expands the listed states one after another, from the first, and also those that are listed on the way.
+fn fill<S: TransitionSystem>(
+    alloc: Global,
+    system: &mut S,
+    found: &mut Explored<S::State, S::Class, S::Output>,
+    limits: Limits,
+) -> Result<(), Fault>
+    requires sound { IsSound (S.fits system.old) (S.is_class system.old) (S.is_output (S.frame system.old)) limits.states (map S.seen found.old.states.keys) found.old.edges.items }
+    ensures frame { S.frame system.new ≡ S.frame system.old }
+    ensures keeps { KeepsSystem (S.moves system.old) (S.moves system.new) (S.fits system.old) (S.fits system.new) (S.is_class system.old) (S.is_class system.new) }
+    ensures sound { OnOk result (IsSound (S.fits system.new) (S.is_class system.new) (S.is_output (S.frame system.old)) limits.states (map S.seen found.new.states.keys) found.new.edges.items) }
+    ensures ends { OnOk result ((start : S.Seen) → stage_of (map S.seen found.old.states.keys) found.old.edges.items 0 0 None ≡ begin start
+        → EndsWith (rules_of S.same (S.moves system.old) limits) start (map S.seen found.new.states.keys) (map transition_of found.new.edges.items)) }
+    ensures meets { IfErr result (IsFaultMet (rules_of S.same (S.moves system.old) limits) (stage_of (map S.seen found.old.states.keys) found.old.edges.items 0 0 None)) }
+{
     let mut sum = 0;
     let mut done = 0;
     'states: while done < found.states.len() {
@@ -70,14 +89,14 @@ pub fn explore<S: TransitionSystem>(
         spread(
             alloc,
             system,
-            &mut found,
+            found,
             done as u32,
             classes.as_slice(),
             limits,
         )?;
         done += 1;
     }
-    Ok(found)
+    Ok(())
 }
 
 /// Takes the steps for these classes of the state at this index.
