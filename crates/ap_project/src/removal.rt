@@ -1,11 +1,12 @@
 //! An automaton with a name hidden.
 
-ghost use Rattle.std.specs.Prelude.{◌≡◌, ◌<◌, ◌≤◌, All, Contains, IfOk, OnOk, length, map, slice_get, Some};
+ghost use Rattle.std.specs.Prelude.{◌≡◌, ◌<◌, ◌≤◌, [], All, Contains, IfOk, OnOk, length, map, slice_get, Some};
 ghost use Rattle.ap_project.specs.Hiding.{AcceptsHidden, hidden, names_without};
-ghost use Rattle.ap_project.specs.inner.HiddenGuards.{ArePlacesOfNames, hidden_link, name_at};
+ghost use Rattle.ap_project.specs.inner.HiddenGuards.{AreHidden, ArePlacesOfNames, hidden_link, name_at};
 ghost use Rattle.aut_base.specs.declared.limit.TheConstants.{MOST_NAMES};
+ghost use Rattle.aut_core.specs.Links.{StandFor};
 ghost use Rattle.aut_core.specs.SymbolicAutomata.{automaton_of, edge_of};
-ghost use Rattle.label_guards.specs.Store.{Has};
+ghost use Rattle.label_guards.specs.Store.{Has, Keeps};
 
 use crate::guards::{Hiding, hidden_guard};
 use crate::hide::Hide;
@@ -123,12 +124,36 @@ fn hidden_links(
     ensures has { IfOk result (All (λ l. Has guards.new l.guard)) }
     ensures edges { IfOk result (λ links. map (edge_of guards.new) links ≡ map (hidden_link hiding.now.how hiding.now.prop a.now) a.now.links) }
 {
-    a.well_formedness();
     let mut given = a.guards().copy(alloc)?;
     let mut done = Done::new(alloc);
     let mut links = Links::from_vec(Vec::with_capacity(alloc, a.links().len())?);
+    add_hidden(alloc, a, hiding, &mut given, guards, &mut done, &mut links)?;
+    Ok(links)
+}
+
+/// Adds the edges with the proposition hidden in their labels to `links`, which is empty. `given` is the store of the automaton or
+/// one that it has grown into, and `done` is the table of its guards that were hidden already.
+fn add_hidden(
+    alloc: Global,
+    a: &Automaton,
+    hiding: &Hiding,
+    given: &mut Guards,
+    guards: &mut Guards,
+    done: &mut Done,
+    links: &mut Links,
+) -> Result<(), Memory>
+    requires prop { hiding.now.prop < length a.now.names }
+    requires names { guards.old.names ≡ length (names_without (name_at a.now.names hiding.now.prop) a.now.names) }
+    requires places { ArePlacesOfNames a.now.names (names_without (name_at a.now.names hiding.now.prop) a.now.names) hiding.now.to }
+    requires given { Keeps a.now.store given.old }
+    requires done { AreHidden given.old guards.old hiding.now.how hiding.now.prop hiding.now.to done.old.entries }
+    requires empty { links.old ≡ [] }
+    ensures names { OnOk result (guards.new.names ≡ guards.old.names) }
+    ensures links { OnOk result (StandFor guards.new links.new (map (hidden_link hiding.now.how hiding.now.prop a.now) a.now.links)) }
+{
+    a.well_formedness();
     'links: for link in a.links() {
-        let guard = hidden_guard(alloc, hiding, &mut given, guards, &mut done, link.guard)?;
+        let guard = hidden_guard(alloc, hiding, given, guards, done, link.guard)?;
         links.push(Link {
             from: link.from,
             guard,
@@ -136,5 +161,5 @@ fn hidden_links(
             marks: copy_marks(&link.marks)?,
         })?;
     }
-    Ok(links)
+    Ok(())
 }

@@ -6,7 +6,7 @@ use Rattle.aut_core.proofs.Growth.{keeps_on}
 use Rattle.ap_project.proofs.GuardLabels.{hidden_before, hidden_label_in}
 use Rattle.ap_project.proofs.OtherNames.{only_name}
 use Rattle.ap_project.specs.inner.HiddenGuards.{hidden_link}
-use Rattle.ap_project.proofs.removal.hidden_links.Goals as goal
+use Rattle.ap_project.proofs.removal.add_hidden.Goals as goal
 
 pub hidden_guard-requires-clause-alone : goal.hidden_guard-requires-clause-alone
 hidden_guard-requires-clause-alone c none =

@@ -2,7 +2,7 @@ use Rattle.std.proofs.Common.{◌≡◌, map, take}
 use Rattle.aut_core.specs.Links.{StandFor}
 use Rattle.label_guards.specs.Store.{Keeps}
 use Rattle.ap_project.specs.inner.HiddenGuards.{AreHidden, hidden_link}
-use Rattle.ap_project.proofs.removal.hidden_links.Given as goal
+use Rattle.ap_project.proofs.removal.add_hidden.Given as goal
 
 abbrev pub invariant-links : goal.invariant-links
 invariant-links l = record {
