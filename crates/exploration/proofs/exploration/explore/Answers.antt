@@ -19,7 +19,8 @@ pub returns-in_err-fill-clause-meets : goal.returns-in_err-fill-clause-meets
 returns-in_err-fill-clause-meets g c =
     let rules = rules_of g.S.TransitionSystem.same (g.S.TransitionSystem.moves c.args.system.now) c.args.limits in
     err_is (IsFaultMet rules (begin (g.S.TransitionSystem.seen c.args.start))) c.from_residual-in_err-fill.result c.in_err-fill.field-0.0 c.from_residual-in_err-fill.ensures.1
-    (subst (λ (s : ExplorationState g.S.TransitionSystem.Seen). IsFaultMet rules s c.in_err-fill.field-0.0) (begun g (goal.at.returns-in_err-fill-clause-meets g c).In_ok-list) c.in_err-fill.ensures.meets)
+    (subst (λ (s : ExplorationState g.S.TransitionSystem.Seen). IsFaultMet rules s c.in_err-fill.field-0.0)
+    (begun g (goal.at.returns-in_err-fill-clause-meets g c).In_ok-list) c.in_err-fill.ensures.meets)
 
 pub returns-in_err-fill-clause-caused : goal.returns-in_err-fill-clause-caused
 returns-in_err-fill-clause-caused g c =
