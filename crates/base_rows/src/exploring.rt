@@ -12,7 +12,6 @@ use exploration::{Explored, Fault, Limits, explore};
 use rising::Rising;
 use row_files::Answer;
 use std::alloc::Global;
-use std::hash::Hash;
 
 /// From `BOUND; STATES CLASSES`: how the exploration of the doubled numbers from 1 ends.
 pub(crate) fn add_doubled(alloc: Global, answer: &mut Answer, line: &str) -> Result<(), Memory> {
@@ -45,7 +44,7 @@ fn limits(words: &str) -> Limits
 }
 
 /// Adds how an exploration ended: with so many states and edges, or at a limit.
-fn add_end<T: Eq + Hash + Drop, C: Copy, N: Copy>(
+fn add_end<T: Drop, C: Copy, N: Copy>(
     answer: &mut Answer,
     found: &Result<Explored<T, C, N>, Fault>,
 ) {

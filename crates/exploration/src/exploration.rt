@@ -11,6 +11,7 @@ ghost use Rattle.exploration.specs.declared.fault.Fault.{Fault};
 use crate::fault::Fault;
 use crate::limits::Limits;
 use crate::system::TransitionSystem;
+use aut_base::Memory;
 use indexmap::IndexSet;
 use std::alloc::Global;
 use std::hash::Hash;
@@ -28,9 +29,17 @@ pub struct Edge<C, N> {
 
 /// The states that are reached, in the order in which they were found, and the edges.
 #[derive(Drop)]
-pub struct Explored<T: Eq + Hash, C, N> {
-    pub states: IndexSet<T>,
+pub struct Explored<T, C, N> {
+    pub states: Vec<T>,
     pub edges: Vec<Edge<C, N>>,
+}
+
+/// The states that were found so far, in order, and the edges.
+// Why so: 'Where `indexmap` stands, and where std does' in docs/DECISIONS.md.
+#[derive(Drop)]
+struct Exploration<T: Eq + Hash, C, N> {
+    states: IndexSet<T>,
+    edges: Vec<Edge<C, N>>,
 }
 
 /// Explores in breadth-first order what the system reaches from the start. The states are expanded one after another. The classes of
@@ -47,27 +56,30 @@ pub fn explore<S: TransitionSystem>(
     requires room { 0 < limits.states }
     ensures frame { S.frame system.new ≡ S.frame system.old }
     ensures keeps { KeepsSystem (S.moves system.old) (S.moves system.new) (S.fits system.old) (S.fits system.new) (S.is_class system.old) (S.is_class system.new) }
-    ensures ends { IfOk result (λ found. EndsWith (rules_of S.same (S.moves system.old) limits) (S.seen start) (map S.seen found.states.keys) (map transition_of found.edges.items)) }
-    ensures explored { IfOk result (λ found. IsExplored S.same (S.moves system.old) (S.seen start) (map S.seen found.states.keys) (map transition_of found.edges.items)) }
-    ensures classes { IfOk result (λ found. class_counts (S.moves system.old) (map S.seen found.states.keys) (length (map S.seen found.states.keys)) ≤ limits.classes) }
-    ensures sound { IfOk result (λ found. IsSound (S.fits system.new) (S.is_class system.new) (S.is_output (S.frame system.old)) limits.states (map S.seen found.states.keys) found.edges.items) }
+    ensures ends { IfOk result (λ found. EndsWith (rules_of S.same (S.moves system.old) limits) (S.seen start) (map S.seen found.states.items) (map transition_of found.edges.items)) }
+    ensures explored { IfOk result (λ found. IsExplored S.same (S.moves system.old) (S.seen start) (map S.seen found.states.items) (map transition_of found.edges.items)) }
+    ensures classes { IfOk result (λ found. class_counts (S.moves system.old) (map S.seen found.states.items) (length (map S.seen found.states.items)) ≤ limits.classes) }
+    ensures sound { IfOk result (λ found. IsSound (S.fits system.new) (S.is_class system.new) (S.is_output (S.frame system.old)) limits.states (map S.seen found.states.items) found.edges.items) }
     ensures meets { IfErr result (IsFaultMet (rules_of S.same (S.moves system.old) limits) (begin (S.seen start))) }
     ensures caused { IfErr result (IsCaused (rules_of S.same (S.moves system.old) limits) (S.seen start)) }
 {
-    let mut found = Explored {
+    let mut found = Exploration {
         states: IndexSet::new(alloc),
         edges: Vec::new(alloc),
     };
     list(&mut found.states, start, limits.states)?;
     fill(alloc, system, &mut found, limits)?;
-    Ok(found)
+    Ok(Explored {
+        states: in_order(alloc, found.states)?,
+        edges: found.edges,
+    })
 }
 
 /// Expands the listed states one after another, from the first, and also those that are listed on the way.
 fn fill<S: TransitionSystem>(
     alloc: Global,
     system: &mut S,
-    found: &mut Explored<S::State, S::Class, S::Output>,
+    found: &mut Exploration<S::State, S::Class, S::Output>,
     limits: Limits,
 ) -> Result<(), Fault>
     requires sound { IsSound (S.fits system.old) (S.is_class system.old) (S.is_output (S.frame system.old)) limits.states (map S.seen found.old.states.keys) found.old.edges.items }
@@ -103,7 +115,7 @@ fn fill<S: TransitionSystem>(
 fn spread<S: TransitionSystem>(
     alloc: Global,
     system: &mut S,
-    found: &mut Explored<S::State, S::Class, S::Output>,
+    found: &mut Exploration<S::State, S::Class, S::Output>,
     at: u32,
     classes: &[S::Class],
     limits: Limits,
@@ -154,4 +166,11 @@ fn list<T: Eq + Hash + Drop>(states: &mut IndexSet<T>, state: T, most: u32) -> R
         return Err(Fault::States);
     }
     Ok(place as u32)
+}
+
+/// The states of the list, in order.
+fn in_order<T: Eq + Hash + Drop>(alloc: Global, states: IndexSet<T>) -> Result<Vec<T>, Memory>
+    ensures { IfOk result (λ all. all.items ≡ states.keys) }
+{
+    Ok(states.into_iter().collect(alloc)?)
 }

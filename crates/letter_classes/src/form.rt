@@ -10,7 +10,6 @@ use aut_core::{Automaton, Link, Links, copy_names};
 use exploration::{Edge, Explored};
 use label_guards::{Guard, Guards};
 use std::alloc::Global;
-use std::hash::Hash;
 
 /// How the marks of an edge come from the output of its step.
 pub trait Marking {
@@ -29,7 +28,7 @@ pub trait Marking {
 
 /// The automaton over the names of `b` whose states are the indices of the explored states, with start 0, and whose
 /// edges are the explored ones, labelled by their classes.
-pub fn class_form<T: Eq + Hash, M: Marking>(
+pub fn class_form<T, M: Marking>(
     alloc: Global,
     b: &Automaton,
     guards: Guards,
@@ -38,10 +37,10 @@ pub fn class_form<T: Eq + Hash, M: Marking>(
     sets: u32,
     formula: Formula,
 ) -> Result<Automaton, Memory>
-    requires few { length found.now.states.keys < 2 ^ 32 }
+    requires few { length found.now.states.items < 2 ^ 32 }
     requires notes { All (λ e. M.fits marking.now e.output) found.now.edges.items }
-    requires parts { AreSymbolicParts (form_of b.now guards (length found.now.states.keys) (map (link_of (M.marked marking.now)) found.now.edges.items) sets (formula_tree formula)) }
-    ensures { IfOk result (λ made. made ≡ form_of b.now guards (length found.now.states.keys) (map (link_of (M.marked marking.now)) found.now.edges.items) sets (formula_tree formula)) }
+    requires parts { AreSymbolicParts (form_of b.now guards (length found.now.states.items) (map (link_of (M.marked marking.now)) found.now.edges.items) sets (formula_tree formula)) }
+    ensures { IfOk result (λ made. made ≡ form_of b.now guards (length found.now.states.items) (map (link_of (M.marked marking.now)) found.now.edges.items) sets (formula_tree formula)) }
 {
     let names = copy_names(b.names())?;
     let links = links_of(alloc, found.edges.as_slice(), marking)?;

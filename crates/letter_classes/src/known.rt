@@ -6,12 +6,12 @@ ghost use Rattle.label_guards.specs.Store.{Has, Keeps};
 ghost use Rattle.letter_classes.specs.Known.{AreClassesKnown, IsKnown, AreClassesInserted};
 
 use aut_base::Memory;
-use indexmap::IndexMap;
 use label_guards::{Guard, GuardList, Guards};
 use std::alloc::Global;
+use std::collections::HashMap;
 
 /// For each list of guards the guards of its classes.
-pub(crate) type Known = IndexMap<GuardList, GuardList>;
+pub(crate) type Known = HashMap<GuardList, GuardList>;
 
 /// The most guards of a list whose classes are kept. Longer lists seldom occur again, and together they might take far more memory
 /// than the automaton that is made.

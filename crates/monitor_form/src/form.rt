@@ -115,9 +115,9 @@ fn built(
 ) -> Result<Automaton, Memory>
     requires some { 0 < length b.now.starts }
     requires keeps { Keeps b.now.store guards }
-    requires explored { IsExplored (pointwise nat_eq) (subset_moves (automaton_of b.now)) (start_set (automaton_of b.now)) found.now.states.keys (map transition_of found.now.edges.items) }
-    requires sound { IsSound (FitsStore b.now guards) (IsClassGuard b.now guards) (λ _ _ _. ⊤) MOST_SUBSETS found.now.states.keys found.now.edges.items }
-    ensures { IfOk result (λ made. automaton_of made ≡ monitor_on found.now.states.keys (map transition_of found.now.edges.items) (automaton_of b.now)) }
+    requires explored { IsExplored (pointwise nat_eq) (subset_moves (automaton_of b.now)) (start_set (automaton_of b.now)) found.now.states.items (map transition_of found.now.edges.items) }
+    requires sound { IsSound (FitsStore b.now guards) (IsClassGuard b.now guards) (λ _ _ _. ⊤) MOST_SUBSETS found.now.states.items found.now.edges.items }
+    ensures { IfOk result (λ made. automaton_of made ≡ monitor_on found.now.states.items (map transition_of found.now.edges.items) (automaton_of b.now)) }
 {
     b.well_formedness();
     class_form(alloc, b, guards, found, &WithoutMarks, 0, Formula::True)

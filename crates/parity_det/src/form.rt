@@ -122,11 +122,11 @@ fn built(
     found: &Explored<PackedTree, Guard, Event>,
 ) -> Result<Automaton, Memory>
     requires keeps { Keeps b.now.store guards }
-    requires explored { IsExplored same_nodes (tree_moves (automaton_of b.now)) (first_tree b.now.states b.now.starts) (map packed_tree found.now.states.keys) (map transition_of found.now.edges.items) }
+    requires explored { IsExplored same_nodes (tree_moves (automaton_of b.now)) (first_tree b.now.states b.now.starts) (map packed_tree found.now.states.items) (map transition_of found.now.edges.items) }
     requires sound { IsSound (λ t. FitsStore b.now guards (root_states t)) (λ t k g. IsClassGuard b.now guards (root_states t) k g)
-        (λ t k event. IsClassEvent b.now t k event) MOST_TREES (map packed_tree found.now.states.keys) found.now.edges.items }
+        (λ t k event. IsClassEvent b.now t k event) MOST_TREES (map packed_tree found.now.states.items) found.now.edges.items }
     ensures few { IfOk result (λ made. made.sets ≤ 2 * MOST_NODES + 1) }
-    ensures is { IfOk result (λ made. automaton_of made ≡ parity_on (map packed_tree found.now.states.keys) (map transition_of found.now.edges.items) (automaton_of b.now)) }
+    ensures is { IfOk result (λ made. automaton_of made ≡ parity_on (map packed_tree found.now.states.items) (map transition_of found.now.edges.items) (automaton_of b.now)) }
 {
     b.well_formedness();
     let most = width(found.states.as_slice());

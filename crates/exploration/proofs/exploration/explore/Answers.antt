@@ -1,10 +1,10 @@
-use Rattle.std.proofs.Common.{◌≡◌, ◌∙◌, None, ap, map, refl, subst}
+use Rattle.std.proofs.Common.{◌≡◌, ◌∙◌, List, None, ap, map, refl, subst, sym}
 use Rattle.exploration.proofs.Causes.{caused}
 use Rattle.exploration.proofs.Faults.{err_is, if_err_map}
 use Rattle.exploration.proofs.Finished.{ends_within, explored_ends}
 use Rattle.exploration.specs.Explorations.{IsFaultMet, rules_of, stage_of, transition_of}
 use Rattle.exploration.specs.Reached.{IsCaused}
-use Rattle.exploration.specs.Turns.{ExplorationState, begin, with_new}
+use Rattle.exploration.specs.Turns.{EndsWith, ExplorationState, begin, with_new}
 use Rattle.exploration.proofs.exploration.explore.Given.{Over}
 use Rattle.exploration.proofs.exploration.explore.Goals.{In_ok-list}
 use Rattle.exploration.proofs.exploration.explore.Goals as goal
@@ -29,7 +29,11 @@ returns-in_err-fill-clause-caused g c =
     (λ a b. (g.met.S.TransitionSystem.same_tells a b).0) (λ a. (g.met.S.TransitionSystem.same_tells a a).1 refl) (g.S.TransitionSystem.seen c.args.start)) (returns-in_err-fill-clause-meets g c)
 
 pub returns-clause-ends : goal.returns-clause-ends
-returns-clause-ends g c = c.in_ok-fill.ensures.ends (g.S.TransitionSystem.seen c.args.start) (begun g (goal.at.returns-clause-ends g c).In_ok-list)
+returns-clause-ends g c =
+    let rules = rules_of g.S.TransitionSystem.same (g.S.TransitionSystem.moves c.args.system.now) c.args.limits in
+    let start = g.S.TransitionSystem.seen c.args.start in
+    subst (λ (states : List _). EndsWith rules start (map g.S.TransitionSystem.seen states) (map transition_of c.fill.new.found.edges.items)) (sym c.in_ok-in_order.ensures)
+    (c.in_ok-fill.ensures.ends start (begun g (goal.at.returns-clause-ends g c).In_ok-list))
 
 pub returns-clause-explored : goal.returns-clause-explored
 returns-clause-explored g c =

@@ -19,12 +19,12 @@ core g c = record {
   store = c.args.guards;
 }
 
-core_is : (g : Over) (c : After-len g) → core g c ≡ form_of c.args.b.now c.args.guards (length c.args.found.now.states.keys)
+core_is : (g : Over) (c : After-len g) → core g c ≡ form_of c.args.b.now c.args.guards (length c.args.found.now.states.items)
     (map (link_of (g.M.Marking.marked c.args.marking.now)) c.args.found.now.edges.items) c.args.sets (formula_tree c.args.formula)
 core_is g c = λ j. record {
   names = (c.in_ok-names.ensures ∙ c.names.ensures) j;
   starts = (c.in_ok-push.ensures.ok ∙ ap (λ (xs : List ℕ). xs ++ 0 ∷ []) c.new-starts.ensures) j;
-  states = c.len.ensures.len j;
+  states = (c.len.ensures ∙ c.args.found.now.states.ok.0) j;
   links = (c.in_ok-links.ensures ∙ ap (map (link_of (g.M.Marking.marked c.args.marking.now))) c.as_slice.ensures.value) j;
   sets = c.args.sets;
   formula = formula_tree c.args.formula;

@@ -27,7 +27,7 @@ built-requires-clause-keeps c =
 pub built-requires-clause-explored : goal.built-requires-clause-explored
 built-requires-clause-explored c =
     let b = automaton_of c.args.b.now in
-    let sets = c.in-Ok.found.states.keys in
+    let sets = c.in-Ok.found.states.items in
     let transitions = map transition_of c.in-Ok.found.edges.items in
     subst (λ (start : List ℕ). IsExplored (pointwise nat_eq) (subset_moves b) start sets transitions) c.in_ok-start.ensures
     (subst (λ (found : List (List ℕ)). IsExplored (pointwise nat_eq) (subset_moves b) c.in_ok-start.start found transitions) (map-id sets) c.in-Ok.ensures.explored)
@@ -36,7 +36,7 @@ pub built-requires-clause-sound : goal.built-requires-clause-sound
 built-requires-clause-sound c =
     let guards = c.explore.new.system.guards in
     let edges = c.in-Ok.found.edges.items in
-    let sets = c.in-Ok.found.states.keys in
+    let sets = c.in-Ok.found.states.items in
     subst (λ (s : Store). IsSound (FitsStore c.args.b.now s) (IsClassGuard c.args.b.now s) (λ _ _ _. ⊤) MOST_SUBSETS sets edges) (sym c.into_guards.ensures)
     (subst (λ (core : SymbolicAutomaton). IsSound (FitsStore core guards) (IsClassGuard core guards) (λ _ _ _. ⊤) MOST_SUBSETS sets edges) c.in-Ok.ensures.frame
     (subst (λ (found : List (List ℕ)). IsSound (FitsStore c.explore.new.system.automaton.now guards) (IsClassGuard c.explore.new.system.automaton.now guards) (λ _ _ _. ⊤) MOST_SUBSETS found edges)
@@ -45,7 +45,7 @@ built-requires-clause-sound c =
 pub returns-in_ok-built-in-Ok-clause-shape : goal.returns-in_ok-built-in-Ok-clause-shape
 returns-in_ok-built-in-Ok-clause-shape c =
     let b = automaton_of c.args.b.now in
-    let sets = c.in-Ok.found.states.keys in
+    let sets = c.in-Ok.found.states.items in
     let transitions = map transition_of c.in-Ok.found.edges.items in
     let some : 0 < length c.args.b.now.starts = subst (λ xs. 0 < length xs) c.starts.ensures (some_in c.starts.result.now c.if-is_empty.ensures) in
     record {

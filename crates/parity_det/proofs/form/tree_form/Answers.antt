@@ -54,7 +54,7 @@ started c =
 pub built-requires-clause-explored : goal.built-requires-clause-explored
 built-requires-clause-explored c =
     let found = c.in_ok-found.found in
-    subst (λ (t : List Node). IsExplored same_nodes (tree_moves (automaton_of c.args.b.now)) t (map packed_tree found.states.keys) (map transition_of found.edges.items))
+    subst (λ (t : List Node). IsExplored same_nodes (tree_moves (automaton_of c.args.b.now)) t (map packed_tree found.states.items) (map transition_of found.edges.items))
     (started (goal.at.built-requires-clause-explored c).In_ok-first) c.in_ok-found.ensures.explored
 
 pub returns-clause-shape : goal.returns-clause-shape
@@ -62,9 +62,9 @@ returns-clause-shape c =
     let b = automaton_of c.args.b.now in
     let found = c.in_ok-found.found in
     record {
-      trees = map packed_tree found.states.keys;
+      trees = map packed_tree found.states.items;
       transitions = map transition_of found.edges.items;
-      explored = subst (λ (t : List Node). EndsWith (tree_rules b) t (map packed_tree found.states.keys) (map transition_of found.edges.items)) (started (goal.at.returns-clause-shape c).In_ok-first)
+      explored = subst (λ (t : List Node). EndsWith (tree_rules b) t (map packed_tree found.states.items) (map transition_of found.edges.items)) (started (goal.at.returns-clause-shape c).In_ok-first)
           c.in_ok-found.ensures.ends;
       is = c.in_ok-built.ensures.is;
     }
@@ -75,10 +75,10 @@ built-requires-clause-sound c =
     let found = c.in_ok-found.found in
     let b = c.args.b.now in
     subst (λ (s : Store). IsSound (λ t. FitsStore b s (root_states t)) (λ t k g. IsClassGuard b s (root_states t) k g) (λ t k event. IsClassEvent b t k event) MOST_TREES
-    (map packed_tree found.states.keys) found.edges.items) (sym c.into_guards.ensures)
+    (map packed_tree found.states.items) found.edges.items) (sym c.into_guards.ensures)
     (subst (λ (core : SymbolicAutomaton). IsSound (λ t. FitsStore core guards (root_states t)) (λ t k g. IsClassGuard core guards (root_states t) k g) (λ t k event. IsClassEvent b t k event)
     MOST_TREES
-    (map packed_tree found.states.keys) found.edges.items) c.in_ok-found.ensures.frame c.in_ok-found.ensures.sound)
+    (map packed_tree found.states.items) found.edges.items) c.in_ok-found.ensures.frame c.in_ok-found.ensures.sound)
 
 -- the exploration from the tree of the starts meets the limit that its fault names
 met : (c : In_err-found) (wanted : Fault) → c.in_err-found.field-0.0 ≡ wanted → (wanted ≡ limit.Memory → ⊥) → MeetsFirst (automaton_of c.args.b.now) wanted
